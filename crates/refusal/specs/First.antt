@@ -1,0 +1,15 @@
+-- Document 01: "The lowest number that applies and belongs to that call is given." A call lists its tests in ascending order of
+-- their numbers, each number beside whether its test passes. Definitions only.
+use mathlib.Core.Bool.{Bool, true, false}
+use mathlib.Core.List.{List, [], _∷_}
+use Prim.Native.Nat.{ℕ}
+
+-- n where its test fails; else what the later tests say
+abbrev pub unless : Bool → ℕ → ℕ → ℕ
+unless true n later = later
+unless false n later = n
+
+-- the first number whose test fails, and 0 where every test passes
+abbrev pub firstBroken : List (ℕ × Bool) → ℕ
+firstBroken [] = 0
+firstBroken (t ∷ later) = unless (t .1) (t .0) (firstBroken later)
