@@ -1,0 +1,1 @@
+-- Where no test refuses, every fact of Lawful holds. Assumes nothing.
