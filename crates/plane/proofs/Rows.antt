@@ -2,14 +2,14 @@
 use mathlib.Core.Path.{_≡_, refl, sym, _∙_}
 use mathlib.Core.Bool.{Bool, true, false}
 use mathlib.Core.List.{List}
-use Prim.Native.Nat.{ℕ, _+_, _*_, _-_, _/_, _≤_, _<_}
+use Prim.Native.Nat.{ℕ, _+_, _*_, _-_, _/_, _^_, _≤_, _<_}
 use native.Mathlib.Nat.{mul-le-mul-right, mul-comm, le-div-iff-mul-le, lt-of-not-le, not-le-of-lt}
 use native.Mathlib.Omega.{arith}
 use borrow.Author.Tests.{leb-true, leb-false, le-leb, lt-leb}
 use lib.Dec.{leb}
 use lib.ListN.{length, take, drop, getD, length-drop}
 use lib.Seq.{length-take-le, getD-take, getD-drop}
-use Rattle.plane.specs.Plane.{Plane, planeOf, sampleAt, needed, maxOf}
+use Rattle.plane.specs.Plane.{Plane, planeOf, samplesOf, sampleAt, needed, maxOf}
 use Rattle.plane.specs.Tests.{longEnough, noneAbove, rowSuits, samplesSuit}
 use Rattle.plane.proofs.All.{all-ext, all-true}
 
@@ -22,6 +22,12 @@ row-inside width stride {height} {n} {y} long l =
 -- and so does each sample
 pub inside : {width height n x y : ℕ} (stride : ℕ) → needed width height stride ≤ n → x < width → y < height → y * stride + x < n
 inside {width} stride long lx ly = omega (arith, row-inside width stride long ly)
+
+-- the samples of either width are as few as a slice can hold
+pub count-fits : (wide : Bool) (bytes words : List ℕ) → length bytes < 2 ^ 64 → length words < 2 ^ 64
+    → length (samplesOf wide bytes words) < 2 ^ 64
+count-fits true bytes words b w = w
+count-fits false bytes words b w = b
 
 -- ---- test 5 by a division
 -- two tests that follow from each other are one
@@ -48,11 +54,12 @@ by-division width height stride count s w =
 
 -- ---- test 6
 -- a row's part of the samples, judged alone
-pub part-suits : (max width k : ℕ) (samples : List ℕ) (stride y : ℕ) → k ≡ width → y * stride + width ≤ length samples
-    → noneAbove max (take k (drop (y * stride) samples)) ≡ rowSuits max width (planeOf samples stride) y
+pub part-suits : (max width : ℕ) (samples : List ℕ) (stride y : ℕ) → y * stride + width ≤ length samples
+    → noneAbove max (take (y * stride + width - y * stride) (drop (y * stride) samples)) ≡ rowSuits max width (planeOf samples stride) y
 unfolding noneAbove rowSuits
-part-suits max width k samples stride y e h =
+part-suits max width samples stride y h =
     let row = drop (y * stride) samples in
+    let e : y * stride + width - y * stride ≡ width = omega arith in
     let l : length (take width row) ≡ width = length-take-le width row (simp length-drop (omega arith)) in
     rw (e, l)
     (all-ext _ _ width (λ (x : ℕ) (m : x < width). rw (getD-take width row x 0 m, getD-drop (y * stride) samples x 0)))
