@@ -1,4 +1,4 @@
--- Laws of `allTo`, and of `&&` under it. Assumes nothing.
+-- Laws of `allTo`. Assumes nothing.
 use mathlib.Core.Path.{_≡_, refl}
 use mathlib.Core.Bool.{Bool, true, false, _&&_, and-false}
 use Prim.Native.Nat.{ℕ, zero, suc, _+_, _<_}
@@ -6,15 +6,8 @@ use native.Mathlib.Nat.{not-suc-le-zero}
 use native.Mathlib.Numerals.{add-one}
 use native.Mathlib.Decide.{decLt}
 use native.Mathlib.Omega.{arith}
+use Rattle.refusal.proofs.Chain.{and-left, and-right}
 use Rattle.plane.specs.Plane.{allTo}
-
-pub and-left : (a b : Bool) → (a && b) ≡ true → a ≡ true
-and-left true b e = refl
-and-left false b e = e
-
-pub and-right : (a b : Bool) → (a && b) ≡ true → b ≡ true
-and-right true b e = e
-and-right false b e = cc
 
 module _ (f : ℕ → Bool) where
   pub all-none : allTo f 0 ≡ true

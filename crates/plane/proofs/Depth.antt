@@ -7,10 +7,10 @@ use native.Mathlib.Omega.{arith}
 use borrow.Author.Tests.{leb-true, le-leb, lt-leb}
 use lib.Dec.{leb, lit<, lit≤}
 use lib.Pow.{pow-pos}
+use Rattle.refusal.proofs.Chain.{and-left, and-right}
 use Rattle.plane.specs.Limits.{leastDepth, mostDepth}
 use Rattle.plane.specs.Plane.{maxOf}
 use Rattle.plane.specs.Tests.{depthSuits}
-use Rattle.plane.proofs.All.{and-left, and-right}
 
 -- what test 1 says where it passes
 pub depth-says : (wide : Bool) (depth : ℕ) → depthSuits wide depth ≡ true → (leastDepth wide ≤ depth) × (depth ≤ mostDepth wide)

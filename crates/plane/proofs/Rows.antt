@@ -1,15 +1,15 @@
 -- Where the rows of a plane stand, and what test 6 says of a row that is a part of a slice. Assumes nothing.
 use mathlib.Core.Path.{_≡_, refl, sym, _∙_}
-use mathlib.Core.Bool.{Bool, true, false}
+use mathlib.Core.Bool.{Bool, true, false, not, _&&_}
 use mathlib.Core.List.{List}
 use Prim.Native.Nat.{ℕ, _+_, _*_, _-_, _/_, _^_, _≤_, _<_}
-use native.Mathlib.Nat.{mul-le-mul-right, mul-comm, le-div-iff-mul-le, lt-of-not-le, not-le-of-lt}
+use native.Mathlib.Nat.{mul-le-mul-right, mul-comm, le-div-iff-mul-le, lt-of-not-le, not-le-of-lt, le-trans}
 use native.Mathlib.Omega.{arith}
 use borrow.Author.Tests.{leb-true, leb-false, le-leb, lt-leb}
 use lib.Dec.{leb}
 use lib.ListN.{length, take, drop, getD, length-drop}
 use lib.Seq.{length-take-le, getD-take, getD-drop}
-use Rattle.plane.specs.Plane.{Plane, planeOf, samplesOf, sampleAt, needed, maxOf}
+use Rattle.plane.specs.Plane.{Plane, planeOf, samplesOf, needed, maxOf}
 use Rattle.plane.specs.Tests.{longEnough, noneAbove, rowSuits, samplesSuit}
 use Rattle.plane.proofs.All.{all-ext, all-true}
 
@@ -38,19 +38,19 @@ same-test a b c d to from = go (leb a b) refl
     go true e = e ∙ sym (le-leb c d (to (leb-true a b e)))
     go false e = e ∙ sym (lt-leb c d (lt-of-not-le (λ l. not-le-of-lt (leb-false a b e) (from l))))
 
-pub too-short : (width height stride count : ℕ) → count < width → false ≡ longEnough width height stride count
-unfolding longEnough
-too-short width height stride count l = sym (lt-leb _ count (omega arith))
+module _ (width height : ℕ) (p : Plane) {n : ℕ} (e : n ≡ length (p .samples)) where
+  pub too-short : n < width → false ≡ longEnough width height p
+  unfolding longEnough
+  too-short l = sym (lt-leb _ (length (p .samples)) (omega arith))
 
-pub by-division : (width height stride count : ℕ) → 1 ≤ stride → width ≤ count
-    → leb height ((count - width) / stride + 1) ≡ longEnough width height stride count
-unfolding longEnough
-by-division width height stride count s w =
-    let m = mul-comm stride (height - 1) in
-    let rows = le-div-iff-mul-le {k = stride} {x = height - 1} {y = count - width} s in
-    same-test height ((count - width) / stride + 1) (needed width height stride) count
-    (λ (l : height ≤ (count - width) / stride + 1). omega (arith, rows .0 (omega arith)))
-    (λ (l : needed width height stride ≤ count). omega (arith, rows .1 (omega arith)))
+  pub by-division : 1 ≤ p .stride → width ≤ n → leb height ((n - width) / p .stride + 1) ≡ longEnough width height p
+  unfolding longEnough
+  by-division s w =
+      let m = mul-comm (p .stride) (height - 1) in
+      let rows = le-div-iff-mul-le {k = p .stride} {x = height - 1} {y = n - width} s in
+      same-test height ((n - width) / p .stride + 1) (needed width height (p .stride)) (length (p .samples))
+      (λ (l : height ≤ (n - width) / p .stride + 1). omega (arith, rows .0 (omega arith)))
+      (λ (l : needed width height (p .stride) ≤ length (p .samples)). omega (arith, rows .1 (omega arith)))
 
 -- ---- test 6
 -- a row's part of the samples, judged alone
@@ -64,7 +64,12 @@ part-suits max width samples stride y h =
     rw (e, l)
     (all-ext _ _ width (λ (x : ℕ) (m : x < width). rw (getD-take width row x 0 m, getD-drop (y * stride) samples x 0)))
 
--- no sample at all above sample_max
-pub none-above : (depth width height : ℕ) (p : Plane) → ((x y : ℕ) → sampleAt p x y ≤ maxOf depth) → samplesSuit depth width height p ≡ true
+-- no byte is above a sample_max of 255, so that bytes need not be read
+pub bytes-suit : (depth width height stride : ℕ) (wide : Bool) (bytes words : List ℕ) {max : ℕ} → ((i : ℕ) → getD bytes i 0 ≤ 255)
+    → max ≡ maxOf depth → (not wide && leb 255 max) ≡ true
+    → samplesSuit depth width height (planeOf (samplesOf wide bytes words) stride) ≡ true
 unfolding samplesSuit rowSuits
-none-above depth width height p h = all-true _ height (λ (y : ℕ). all-true _ width (λ (x : ℕ). le-leb _ _ (h x y)))
+bytes-suit depth width height stride true bytes words small e t = cc
+bytes-suit depth width height stride false bytes words {max} small e t =
+    let top : 255 ≤ maxOf depth = omega (arith, leb-true 255 max t) in
+    all-true _ height (λ (y : ℕ). all-true _ width (λ (x : ℕ). le-leb _ _ (le-trans (small (y * stride + x)) top)))

@@ -28,9 +28,9 @@ sidesReach least width height = leb least width && leb least height
 unfoldable pub strideSuits : ℕ → ℕ → Bool
 strideSuits width stride = leb width stride && leb stride strideLimit
 
--- 5: a plane of so many samples is not too short
-unfoldable pub longEnough : ℕ → ℕ → ℕ → ℕ → Bool
-longEnough width height stride count = leb (needed width height stride) count
+-- 5: the plane is not too short
+unfoldable pub longEnough : ℕ → ℕ → Plane → Bool
+longEnough width height p = leb (needed width height (p .stride)) (length (p .samples))
 
 -- no visible sample of row y is above max
 unfoldable pub rowSuits : ℕ → ℕ → Plane → ℕ → Bool
@@ -49,7 +49,7 @@ sizeTests wide width height depth least =
 unfoldable pub layoutTests : List Plane → ℕ → ℕ → ℕ → List (ℕ × Bool)
 layoutTests planes width height depth =
     (strideNo, every (λ (p : Plane). strideSuits width (p .stride)) planes)
-    ∷ (shortNo, every (λ (p : Plane). longEnough width height (p .stride) (length (p .samples))) planes)
+    ∷ (shortNo, every (longEnough width height) planes)
     ∷ (sampleNo, every (samplesSuit depth width height) planes)
     ∷ []
 

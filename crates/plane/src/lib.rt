@@ -59,17 +59,6 @@ pub fn stride_suits(width: usize, stride: usize) -> bool
     (width <= stride) & (stride <= STRIDE_LIMIT)
 }
 
-// Test 5, of one plane of `count` samples. It divides, so that no product of free numbers has to fit.
-pub fn long_enough(width: usize, height: usize, stride: usize, count: usize) -> bool
-    requires { ⌜ (1 ≤ width) × (width ≤ stride) ⌝ }
-    ensures { λ r. ⌜ r ≡ longEnough width height stride count ⌝ }
-{
-    if count < width {
-        return false;
-    }
-    height <= (count - width) / stride + 1
-}
-
 // The sample at place `i`.
 pub fn sample(bytes: &[u8], words: &[u16], wide: bool, i: usize) -> u32
     requires { ⌜ i < length (samplesOf wide (now bytes) (now words)) ⌝ }
@@ -87,6 +76,25 @@ pub fn count(bytes: &[u8], words: &[u16], wide: bool) -> usize
     ensures { λ r. ⌜ r ≡ length (samplesOf wide (now (bytes .entry)) (now (words .entry))) ⌝ }
 {
     if wide { words.len() } else { bytes.len() }
+}
+
+// Test 5, of one plane. It divides, so that no product of free numbers has to fit.
+pub fn long_enough(
+    bytes: &[u8],
+    words: &[u16],
+    wide: bool,
+    width: usize,
+    height: usize,
+    stride: usize,
+) -> bool
+    requires { ⌜ (1 ≤ width) × (width ≤ stride) ⌝ }
+    ensures { λ r. ⌜ r ≡ longEnough width height (planeOf (samplesOf wide (now (bytes .entry)) (now (words .entry))) stride) ⌝ }
+{
+    let n = count(bytes, words, wide);
+    if n < width {
+        return false;
+    }
+    height <= (n - width) / stride + 1
 }
 
 // Whether no sample of a row is above `max`. A row is walked to its end, whatever it holds: such a loop is vectorised.
@@ -212,15 +220,14 @@ fn layout_refusal(
     if !(stride_suits(width, stride_a) & stride_suits(width, stride_b)) {
         return refusal::STRIDE;
     }
-    let count_a = count(a8, a16, wide);
-    let count_b = count(b8, b16, wide);
-    if !(long_enough(width, height, stride_a, count_a)
-        & long_enough(width, height, stride_b, count_b)) {
+    let long_a = long_enough(a8, a16, wide, width, height, stride_a);
+    let long_b = long_enough(b8, b16, wide, width, height, stride_b);
+    if !(long_a & long_b) {
         return refusal::SHORT;
     }
-    let ok_a = samples_suit(a8, a16, wide, width, height, stride_a, depth);
-    let ok_b = samples_suit(b8, b16, wide, width, height, stride_b, depth);
-    if !(ok_a & ok_b) {
+    let suit_a = samples_suit(a8, a16, wide, width, height, stride_a, depth);
+    let suit_b = samples_suit(b8, b16, wide, width, height, stride_b, depth);
+    if !(suit_a & suit_b) {
         return refusal::SAMPLE;
     }
     0

@@ -7,22 +7,29 @@ use Rattle.plane.proofs.long_enough.Statement.{statement}
 use Rattle.plane.proofs.long_enough.Tie as tie
 use Rattle.plane.proofs.long_enough.Reads as reads
 use Rattle.plane.proofs.long_enough.Lts as lts
+use Rattle.plane.proofs.count.Reads as count-reads
 
--- src/lib.rt:68:9
+-- src/lib.rt:93:9
+count-requires : tie.Need-count-requires
+count-requires c κs = search needs
+
+-- src/lib.rt:95:9
 returns : tie.Need-returns
-returns c = too-short _ _ _ _ (c .if1 .taken)
+returns c = too-short _ _ _ (c .before .count .ensures) (c .if1 .taken)
 
--- src/lib.rt:70:15
+-- src/lib.rt:97:15
 div-result : tie.Need-div-result
 div-result c = search needs
 
--- src/lib.rt:70:15
+-- src/lib.rt:97:15
 add-result : tie.Need-add-result
-add-result c = omega (arith, div-le-self (c .before .args .count - c .before .args .width) (c .before .args .stride))
+add-result c =
+    let s = c .before .before .before .before in
+    omega (arith, div-le-self (c .before .count .result - s .args .width) (s .args .stride))
 
--- src/lib.rt:63:1
+-- src/lib.rt:82:1
 returns-2 : tie.Need-returns-2
-returns-2 c = by-division _ _ _ _ (omega arith) (omega arith)
+returns-2 c = by-division _ _ _ (c .before .count .ensures) (omega arith) (c .if1 .left)
 
 pub long-enough-spec : {M : Type 1} → statement M
-long-enough-spec = tie.close (tie.spec returns div-result add-result returns-2)
+long-enough-spec = tie.close (tie.spec count-requires returns div-result add-result returns-2)
