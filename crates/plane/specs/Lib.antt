@@ -1,4 +1,5 @@
 pub mod Limits
 pub mod Plane
+pub mod Sums
 pub mod Tests
 pub mod Lawful
