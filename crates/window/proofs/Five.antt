@@ -8,7 +8,7 @@ use lib.Dec.{lit<, lit≤}
 use lib.ListN.{length}
 use Rattle.window.specs.Kernel.{tap, fixedTotal}
 use Rattle.window.specs.Parts.{partOf, Kernel, quantOf, fiveOf, nth, tappedOf, Room, partsOf}
-use Rattle.window.specs.Columns.{mostSample}
+use Rattle.window.specs.Columns.{mostSample, Fits}
 use Rattle.window.specs.declared.Sums.{Sums}
 use Rattle.window.proofs.Windows.{part-more, part-first, part-last, part-room, part-le}
 
@@ -17,13 +17,16 @@ pub five-ext : (g h : ℕ → ℕ) → ((m : ℕ) → g m ≡ h m) → fiveOf g 
 five-ext g h e = simp (e 0, e 1, e 2, e 3, e 4)
 
 -- number m of five is what stands there
-pub nth-of : (P : ℕ → ℕ → Type 0) (g : ℕ → ℕ) → ((m : ℕ) → P m (g m)) → (m : ℕ) → m < 5 → P m (nth (fiveOf g) m)
-nth-of P g h zero l = h 0
-nth-of P g h (suc zero) l = h 1
-nth-of P g h (suc (suc zero)) l = h 2
-nth-of P g h (suc (suc (suc zero))) l = h 3
-nth-of P g h (suc (suc (suc (suc zero)))) l = h 4
+nth-of : (P : ℕ → ℕ → Type 0) (g : ℕ → ℕ) → ((m : ℕ) → m < 5 → P m (g m)) → (m : ℕ) → m < 5 → P m (nth (fiveOf g) m)
+nth-of P g h zero l = h 0 l
+nth-of P g h (suc zero) l = h 1 l
+nth-of P g h (suc (suc zero)) l = h 2 l
+nth-of P g h (suc (suc (suc zero))) l = h 3 l
+nth-of P g h (suc (suc (suc (suc zero)))) l = h 4 l
 nth-of P g h (suc (suc (suc (suc (suc m))))) l = let z : ⊥ = omega arith in absurd z
+
+pub nth-five : (g : ℕ → ℕ) (m : ℕ) → m < 5 → nth (fiveOf g) m ≡ g m
+nth-five g = nth-of (λ (i v : ℕ). v ≡ g i) g (λ i l. refl)
 
 -- what holds at each of the five holds of any number of them
 nth-all : (P : ℕ → Type 0) (g : ℕ → ℕ) → ((m : ℕ) → P (g m)) → (m : ℕ) → P (nth (fiveOf g) m)
@@ -41,6 +44,9 @@ quant-le (suc zero) a b h k = omega arith
 quant-le (suc (suc zero)) a b h k = mul-le-mul h h
 quant-le (suc (suc (suc zero))) a b h k = mul-le-mul h k
 quant-le (suc (suc (suc (suc m)))) a b h k = mul-le-mul k k
+
+pub quant-small : (m a b : ℕ) → a ≤ mostSample → b ≤ mostSample → quantOf m a b ≤ 2 ^ 50
+quant-small m a b h k = le-trans (quant-le m a b h k) (lit≤ tt)
 
 -- column sums are at most 2 ^ 50, and sums of those at most 2 ^ 60
 pub column-room : (2 ^ 40) * fixedTotal ≤ 2 ^ 50
@@ -69,21 +75,23 @@ module _ (ker : List ℕ) (side : ℕ) (f : ℕ → ℕ → ℕ) (x : ℕ) where
   parts-last r k l m = five-ext _ _ (λ i. part-last ker side (f i) x r k l m)
 
   pub parts-room : (t : Sums) (k : ℕ) → t ≡ partsOf ker side f x k → Kernel ker
-      → ((m k : ℕ) → k < length ker → length ker / 2 ≤ x + k → x + k < length ker / 2 + side → f m (x + k - length ker / 2) ≤ 2 ^ 50)
+      → ((m : ℕ) → m < 5 → (k : ℕ) → k < length ker → length ker / 2 ≤ x + k → x + k < length ker / 2 + side
+      → f m (x + k - length ker / 2) ≤ 2 ^ 50)
       → k < length ker → length ker / 2 ≤ x + k → x + k < length ker / 2 + side
       → Room t (tap ker k) (λ (m : ℕ). f m (x + k - length ker / 2))
   unfolding partsOf
   parts-room t k e r h l m n =
       rw e (nth-of (λ (i v : ℕ). v + tap ker k * f i (x + k - length ker / 2) < 2 ^ 64) _
-      (λ i. low (part-room ker side (f i) x (2 ^ 50) _ k r (h i) refl l m n)))
+      (λ i q. low (part-room ker side (f i) x (2 ^ 50) _ k r (h i q) refl l m n)))
     where
       low : {v : ℕ} → v ≤ (2 ^ 50) * fixedTotal → v < 2 ^ 64
       low q = omega (arith, row-room)
 
-  -- and all of the taps of values of at most 2 ^ 40 come to at most 2 ^ 50
+  -- and all of the taps of values of at most 2 ^ 40 come to what scratch can hold
   pub parts-low : (t : Sums) → t ≡ partsOf ker side f x (length ker) → Kernel ker
       → ((m k : ℕ) → k < length ker → length ker / 2 ≤ x + k → x + k < length ker / 2 + side → f m (x + k - length ker / 2) ≤ 2 ^ 40)
-      → (m : ℕ) → nth t m ≤ 2 ^ 50
+      → Fits t
   unfolding partsOf
   parts-low t e r h =
-      rw e (nth-all (λ (v : ℕ). v ≤ 2 ^ 50) _ (λ m. le-trans (part-le ker side (f m) x (2 ^ 40) r (h m) _ (le-refl _)) column-room))
+      rw e (nth-all (λ (v : ℕ). v < 2 ^ 63) _
+      (λ m. lt-of-le-of-lt (le-trans (part-le ker side (f m) x (2 ^ 40) r (h m) _ (le-refl _)) column-room) (lit< tt)))

@@ -14,7 +14,7 @@ use Rattle.window.specs.Columns.{atZ, cellOf, columnAt, mostSample, Hold
 use Rattle.window.specs.declared.Sums.{Sums}
 use Rattle.window.proofs.Windows.{part-le, window-ext}
 use Rattle.window.proofs.Separable.{separable, weights}
-use Rattle.window.proofs.Five.{quant-le, column-room, nth-of}
+use Rattle.window.proofs.Five.{quant-le, column-room, nth-five}
 
 -- ---- the columns stand there
 module _ (s : List ℤ) (n : ℕ) (ker : List ℕ) (height : ℕ) (a b : ℕ → ℕ → ℕ) (y : ℕ) (held : Holds s n ker height a b y) where

@@ -1,15 +1,17 @@
 -- Laws of `inside` and of a window along one side. Assumes nothing.
 use mathlib.Core.Path.{_≡_, refl, sym, ap, _∙_}
 use mathlib.Core.List.{List}
-use Prim.Native.Nat.{ℕ, _+_, _-_, _*_, _≤_, _<_, _/_}
+use Prim.Native.Nat.{ℕ, _+_, _-_, _*_, _≤_, _<_, _/_, _^_}
 use native.Mathlib.Nat.{mul-zero, mul-one, mul-le-mul-left, mul-comm, mul-assoc, mul-left-comm, le-trans, le-refl}
 use native.Mathlib.Decide.{decLt}
 use native.Mathlib.Omega.{arith}
 use borrow.Author.Tests.{lt-ltb, le-ltb}
+use lib.Dec.{lit≤}
 use lib.ListN.{length}
+use Rattle.plane.specs.Limits.{sideLimit}
 use Rattle.plane.specs.Sums.{sumTo}
 use Rattle.plane.proofs.Sums.{sum-more, sum-tail, sum-zero, sum-mono, sum-mul, sum-le, sum-ext}
-use Rattle.window.specs.Kernel.{tap, fixedTotal}
+use Rattle.window.specs.Kernel.{tap, fixedTotal, mostTaps}
 use Rattle.window.specs.Moments.{inside}
 use Rattle.window.specs.Parts.{partOf, windowOf, weightOf, Kernel}
 
@@ -124,3 +126,16 @@ module _ (ker : List ℕ) (side x : ℕ) where
 
   pub weight-le : Kernel ker → weightOf ker side x ≤ fixedTotal
   weight-le r = omega (arith, part-le ker side (λ (i : ℕ). 1) x 1 r (λ k a b d. le-refl 1) (length ker) (le-refl _))
+
+-- ---- the limits, as far as an index needs them
+pub side-room : sideLimit ≤ 2 ^ 32
+unfolding sideLimit
+side-room = lit≤ tt
+
+pub taps-room : mostTaps ≤ 2 ^ 32
+unfolding mostTaps
+taps-room = lit≤ tt
+
+pub total-room : fixedTotal ≤ 2 ^ 32
+unfolding fixedTotal
+total-room = lit≤ tt

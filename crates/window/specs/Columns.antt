@@ -46,7 +46,7 @@ Holds s n ker height a b y = (j : ℕ) → j < n → atZ s j ≡ pos (columnAt k
 
 -- five sums that places of 64 signed bits can hold
 abbrev pub Fits : Sums → Type 0
-Fits t = (m : ℕ) → nth t m ≤ 2 ^ 50
+Fits t = (m : ℕ) → nth t m < 2 ^ 63
 
 -- a place that can be read as a number of at most 2 ^ 50: what column sums never exceed
 pub record Small (z : ℤ) : Type 0 where

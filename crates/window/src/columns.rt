@@ -1,33 +1,50 @@
 // Down the columns: for one centre row, the five sums of every column into lent scratch, five places to a column. This is the only
 // part that reads samples, so there is one hot function for each sample width, and all else serves every width.
 ghost use mathlib.Core.Path.{_≡_};
-ghost use Prim.Native.Nat.{ℕ, _+_, _-_, _*_, _<_, _≤_, _^_};
+ghost use Prim.Native.Nat.{ℕ, _+_, _-_, _*_, _/_, _<_, _≤_};
 ghost use lib.IntN.{pos};
 ghost use lib.ListN.{length, set};
 ghost use Rattle.plane.specs.Limits.{sideLimit};
 ghost use Rattle.plane.specs.Plane.{planeOf, samplesOf};
+ghost use Rattle.window.specs.Kernel.{mostTaps};
 ghost use Rattle.window.specs.Parts.{Kernel, quantOf, nth, tappedOf, Room, partsOf};
 ghost use Rattle.window.specs.Columns.{viewOf, Readable, Holds, Fits};
 use crate::Sums;
 
-// a - b, and 0 where b is larger.
-pub fn less(a: usize, b: usize) -> usize
-    ensures { λ r. ⌜ r ≡ a - b ⌝ }
+// Of a kernel of n taps with its middle at x, the first tap that lies inside a side.
+pub fn first(n: usize, x: usize) -> usize
+    ensures { λ r. ⌜ r ≡ n / 2 - x ⌝ }
 {
-    if b < a { a - b } else { 0 }
+    let off = n / 2;
+    if x < off { off - x } else { 0 }
 }
 
-// A sample of each width, wider.
-fn wide8(s: u8) -> u64
-    ensures { λ r. ⌜ r ≡ s ⌝ }
+// The same: the tap past the last inside.
+pub fn past(n: usize, x: usize, side: usize) -> usize
+    requires { ⌜ (n ≡ 2 * (n / 2) + 1) × (n ≤ mostTaps) × (x < side) × (side ≤ sideLimit) ⌝ }
+    ensures { λ r. ⌜ r ≡ n - (x + n / 2 + 1 - side) ⌝ }
 {
-    s as u64
+    let reach = x + n / 2 + 1;
+    if side < reach {
+        n - (reach - side)
+    } else {
+        n
+    }
 }
 
-fn wide16(s: u16) -> u64
-    ensures { λ r. ⌜ r ≡ s ⌝ }
+// The sample at row r and column c of each width, wider.
+fn sample8(p: &[u8], stride: usize, r: usize, c: usize) -> u64
+    requires { ⌜ r * stride + c < length (now p) ⌝ }
+    ensures { λ s. ⌜ s ≡ viewOf (planeOf (now (p .entry)) stride) r c ⌝ }
 {
-    s as u64
+    p[r * stride + c] as u64
+}
+
+fn sample16(p: &[u16], stride: usize, r: usize, c: usize) -> u64
+    requires { ⌜ r * stride + c < length (now p) ⌝ }
+    ensures { λ s. ⌜ s ≡ viewOf (planeOf (now (p .entry)) stride) r c ⌝ }
+{
+    p[r * stride + c] as u64
 }
 
 // One tap more over a pair of samples.
@@ -68,8 +85,6 @@ fn column8(
 {
     let n = kernel.len();
     let off = n / 2;
-    let from = less(off, y);
-    let upto = n - less(y + off + 1, height);
     let mut t = Sums {
         mux: 0,
         muy: 0,
@@ -77,11 +92,14 @@ fn column8(
         xy: 0,
         y2: 0,
     };
-    for k in from..upto {
+    for k in first(n, y)..past(n, y, height) {
         let r = y + k - off;
-        let i = r * stride_a + x;
-        let j = r * stride_b + x;
-        t = tapped(t, kernel[k], wide8(a[i]), wide8(b[j]));
+        t = tapped(
+            t,
+            kernel[k],
+            sample8(a, stride_a, r, x),
+            sample8(b, stride_b, r, x),
+        );
     }
     t
 }
@@ -107,8 +125,6 @@ fn column16(
 {
     let n = kernel.len();
     let off = n / 2;
-    let from = less(off, y);
-    let upto = n - less(y + off + 1, height);
     let mut t = Sums {
         mux: 0,
         muy: 0,
@@ -116,11 +132,14 @@ fn column16(
         xy: 0,
         y2: 0,
     };
-    for k in from..upto {
+    for k in first(n, y)..past(n, y, height) {
         let r = y + k - off;
-        let i = r * stride_a + x;
-        let j = r * stride_b + x;
-        t = tapped(t, kernel[k], wide16(a[i]), wide16(b[j]));
+        t = tapped(
+            t,
+            kernel[k],
+            sample16(a, stride_a, r, x),
+            sample16(b, stride_b, r, x),
+        );
     }
     t
 }

@@ -2,14 +2,14 @@
 ghost use mathlib.Core.Path.{_≡_};
 ghost use Prim.Native.Nat.{ℕ, _+_, _*_, _<_, _≤_};
 ghost use lib.Dec.{T};
-ghost use lib.IntN.{pos};
+ghost use lib.IntN.{pos, natAbs};
 ghost use lib.ListN.{length};
 ghost use lib.Signed.{nonNeg};
 ghost use Rattle.plane.specs.Limits.{sideLimit};
 ghost use Rattle.plane.specs.Sums.{sumTo};
 ghost use Rattle.window.specs.Kernel.{tap, fixedTotal};
 ghost use Rattle.window.specs.Parts.{Kernel, tappedOf, Room, nth, fiveOf, partsOf, weightOf};
-ghost use Rattle.window.specs.Columns.{cellOf, AllSmall, momentsIn};
+ghost use Rattle.window.specs.Columns.{atZ, cellOf, Small, AllSmall, momentsIn};
 use crate::Moments;
 use crate::Sums;
 use crate::columns;
@@ -22,6 +22,15 @@ fn up(z: i64) -> u64
     z as u64
 }
 
+// What stands at place i.
+fn get(cols: &[i64], i: usize) -> u64
+    requires { ⌜ i < length (now cols) ⌝ }
+    requires { ⌜ Small (atZ (now cols) i) ⌝ }
+    ensures { λ r. ⌜ r ≡ natAbs (atZ (now (cols .entry)) i) ⌝ }
+{
+    up(cols[i])
+}
+
 // The five sums of column x.
 fn cells(cols: &[i64], x: usize, width: usize) -> Sums
     requires { ⌜ (x < width) × (5 * width ≤ length (now cols)) ⌝ }
@@ -30,11 +39,11 @@ fn cells(cols: &[i64], x: usize, width: usize) -> Sums
 {
     let at = 5 * x;
     Sums {
-        mux: up(cols[at]),
-        muy: up(cols[at + 1]),
-        x2: up(cols[at + 2]),
-        xy: up(cols[at + 3]),
-        y2: up(cols[at + 4]),
+        mux: get(cols, at),
+        muy: get(cols, at + 1),
+        x2: get(cols, at + 2),
+        xy: get(cols, at + 3),
+        y2: get(cols, at + 4),
     }
 }
 
@@ -62,8 +71,6 @@ fn along(kernel: &[u16], cols: &[i64], width: usize, x: usize) -> Sums
 {
     let n = kernel.len();
     let off = n / 2;
-    let from = columns::less(off, x);
-    let upto = n - columns::less(x + off + 1, width);
     let mut t = Sums {
         mux: 0,
         muy: 0,
@@ -71,7 +78,7 @@ fn along(kernel: &[u16], cols: &[i64], width: usize, x: usize) -> Sums
         xy: 0,
         y2: 0,
     };
-    for k in from..upto {
+    for k in columns::first(n, x)..columns::past(n, x, width) {
         t = tapped(t, kernel[k], cells(cols, x + k - off, width));
     }
     t
@@ -84,11 +91,8 @@ fn taps_inside(kernel: &[u16], side: usize, x: usize) -> u64
     ensures { λ r. ⌜ r ≡ weightOf (now (kernel .entry)) side x ⌝ }
 {
     let n = kernel.len();
-    let off = n / 2;
-    let from = columns::less(off, x);
-    let upto = n - columns::less(x + off + 1, side);
     let mut sum: u64 = 0;
-    for k in from..upto {
+    for k in columns::first(n, x)..columns::past(n, x, side) {
         sum = sum + crate::wide(kernel[k]);
     }
     sum

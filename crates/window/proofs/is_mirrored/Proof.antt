@@ -1,57 +1,60 @@
+-- `window::is_mirrored` meets its contract. Assumes nothing.
+use mathlib.Core.Path.{_≡_, sym, ap, _∙_}
+use Prim.Native.Nat.{ℕ, _≤_, _-_, _+_, _*_}
+use native.Mathlib.Omega.{arith}
+use borrow.Author.Needs.{needs}
+use denote.Ref.{now}
+use lib.Dec.{leb, eqb}
+use lib.ListN.{length}
+use Rattle.plane.specs.Plane.{allTo}
+use Rattle.plane.proofs.All.{all-none, all-more}
+use Rattle.window.specs.Kernel.{tap, mirrored}
 use Rattle.window.proofs.is_mirrored.Statement.{statement}
 use Rattle.window.proofs.is_mirrored.Tie as tie
 use Rattle.window.proofs.is_mirrored.Reads as reads
 use Rattle.window.proofs.is_mirrored.Lts as lts
 
 abbrev Inv-loop : tie.InvT-loop
-Inv-loop taps n ok₀ k₀ ok k = ?
+Inv-loop taps n ok₀ k₀ ok k = (k ≤ length taps) × (ok ≡ allTo (λ (i : ℕ). eqb (tap taps i) (tap taps (length taps - 1 - i))) k)
 
 abbrev μ-loop : tie.MeasureT-loop
-μ-loop taps n ok₀ k₀ ok k = ?
+μ-loop taps n ok₀ k₀ ok k = length taps - k
 
--- src/lib.rt:78:5
 loop-holds : tie.Need-loop-holds Inv-loop μ-loop
-loop-holds c = ?
+loop-holds c = (search needs, sym (all-none _))
 
--- src/lib.rt:79:21
 sub-other : tie.Need-sub-other Inv-loop μ-loop
-sub-other c = ?
+sub-other c = search needs
 
--- src/lib.rt:79:21
 sub-other-2 : tie.Need-sub-other-2 Inv-loop μ-loop
-sub-other-2 c = ?
+sub-other-2 c = search needs
 
--- src/lib.rt:80:20
 mul-ok : tie.Need-mul-ok Inv-loop μ-loop
-mul-ok c = ?
+mul-ok c = search needs
 
--- src/lib.rt:80:20
 shared-slice-read-ok : tie.Need-shared-slice-read-ok Inv-loop μ-loop
-shared-slice-read-ok c = ?
+shared-slice-read-ok c = search needs
 
--- src/lib.rt:80:31
 mul-ok-2 : tie.Need-mul-ok-2 Inv-loop μ-loop
-mul-ok-2 c = ?
+mul-ok-2 c = search needs
 
--- src/lib.rt:80:31
 shared-slice-read-ok-2 : tie.Need-shared-slice-read-ok-2 Inv-loop μ-loop
-shared-slice-read-ok-2 c = ?
+shared-slice-read-ok-2 c = search needs
 
--- src/lib.rt:78:9
 add-k : tie.Need-add-k Inv-loop μ-loop
-add-k c = ?
+add-k c = search needs
 
--- src/lib.rt:78:5
 loop-less : tie.Need-loop-less Inv-loop μ-loop
-loop-less c = ?
+loop-less c = search needs
 
--- src/lib.rt:78:5
 loop-again : tie.Need-loop-again Inv-loop μ-loop
-loop-again c = ?
+loop-again c = (search needs, rw (all-more, ← (c .before .before .before .loop .inv .1)))
 
--- src/lib.rt:73:1
 returns : tie.Need-returns Inv-loop μ-loop
-returns c = ?
+unfolding mirrored
+returns c =
+    let e : c .before .loop .k ≡ length (now (c .before .before .args .taps)) = omega arith in
+    rw e at (c .before .loop .inv .1)
 
 pub is-mirrored-spec : {M : Type 1} → statement M
 is-mirrored-spec =

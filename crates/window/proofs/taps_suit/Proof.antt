@@ -1,3 +1,14 @@
+-- `window::taps_suit` meets its contract. Assumes nothing.
+use mathlib.Core.Path.{_≡_, sym, ap, _∙_}
+use Prim.Native.Nat.{ℕ, _≤_, _-_, _+_, _*_}
+use native.Mathlib.Omega.{arith}
+use borrow.Author.Needs.{needs}
+use denote.Ref.{now}
+use lib.Dec.{leb, eqb}
+use lib.ListN.{length}
+use Rattle.plane.specs.Plane.{allTo}
+use Rattle.plane.proofs.All.{all-none, all-more}
+use Rattle.window.specs.Kernel.{tap, tapsSuit}
 use Rattle.window.proofs.taps_suit.Statement.{statement}
 use Rattle.window.proofs.taps_suit.Tie as tie
 use Rattle.window.proofs.taps_suit.Reads as reads
@@ -5,42 +16,37 @@ use Rattle.window.proofs.taps_suit.Lts as lts
 use Rattle.window.proofs.wide.Reads as wide-reads
 
 abbrev Inv-loop : tie.InvT-loop
-Inv-loop taps total ok₀ k₀ k-end ok k = ?
+Inv-loop taps total ok₀ k₀ k-end ok k = (k ≤ length taps) × (ok ≡ allTo (λ (i : ℕ). leb (tap taps i) total) k)
 
 abbrev μ-loop : tie.MeasureT-loop
-μ-loop taps total ok₀ k₀ k-end ok k = ?
+μ-loop taps total ok₀ k₀ k-end ok k = length taps - k
 
--- src/lib.rt:54:5
 loop-holds : tie.Need-loop-holds Inv-loop μ-loop
-loop-holds c = ?
+loop-holds c = (search needs, sym (all-none _))
 
--- src/lib.rt:55:25
 mul-wide : tie.Need-mul-wide Inv-loop μ-loop
-mul-wide c = ?
+mul-wide c = search needs
 
--- src/lib.rt:55:25
 shared-slice-read-wide : tie.Need-shared-slice-read-wide Inv-loop μ-loop
-shared-slice-read-wide c = ?
+shared-slice-read-wide c = search needs
 
--- src/lib.rt:55:20
 wide-requires : tie.Need-wide-requires Inv-loop μ-loop
-wide-requires c κs = ?
+wide-requires c κs = search needs
 
--- src/lib.rt:54:9
 add-k : tie.Need-add-k Inv-loop μ-loop
-add-k c = ?
+add-k c = search needs
 
--- src/lib.rt:54:5
 loop-less : tie.Need-loop-less Inv-loop μ-loop
-loop-less c = ?
+loop-less c = search needs
 
--- src/lib.rt:54:5
 loop-again : tie.Need-loop-again Inv-loop μ-loop
-loop-again c = ?
+loop-again c = (search needs, rw (all-more, ← (c .before .before .before .loop .inv .1), ← (c .wide .ensures)))
 
--- src/lib.rt:50:1
 returns : tie.Need-returns Inv-loop μ-loop
-returns c = ?
+unfolding tapsSuit
+returns c =
+    let e : c .before .loop .k ≡ length (now (c .before .before .before .args .taps)) = omega arith in
+    rw e at (c .before .loop .inv .1)
 
 pub taps-suit-spec : {M : Type 1} → statement M
 taps-suit-spec =

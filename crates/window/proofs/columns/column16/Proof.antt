@@ -1,116 +1,90 @@
+-- `window::columns::column16` meets its contract. Assumes nothing.
+use mathlib.Core.Path.{_≡_, sym, ap, _∙_}
+use Prim.Native.Nat.{ℕ, _≤_, _<_, _-_, _+_, _*_, _/_, _^_}
+use native.Mathlib.Omega.{arith}
+use borrow.Author.Needs.{needs}
+use denote.Ref.{now}
+use lib.ListN.{length}
+use Rattle.plane.specs.Plane.{planeOf}
+use Rattle.plane.proofs.Rows as rows
+use Rattle.window.specs.Parts.{partsOf, quantOf}
+use Rattle.window.specs.Columns.{viewOf}
+use Rattle.window.proofs.Windows.{side-room, taps-room}
+use Rattle.window.proofs.Five.{quant-small, parts-more, parts-first, parts-last, parts-room}
 use Rattle.window.proofs.columns.column16.Statement.{statement}
 use Rattle.window.proofs.columns.column16.Tie as tie
 use Rattle.window.proofs.columns.column16.Reads as reads
 use Rattle.window.proofs.columns.column16.Lts as lts
-use Rattle.window.proofs.columns.less.Reads as less-reads
+use Rattle.window.proofs.columns.first.Reads as first-reads
+use Rattle.window.proofs.columns.past.Reads as past-reads
+use Rattle.window.proofs.columns.sample16.Reads as sample16-reads
 use Rattle.window.proofs.columns.tapped.Reads as tapped-reads
-use Rattle.window.proofs.columns.wide16.Reads as wide16-reads
 
 abbrev Inv-loop : tie.InvT-loop
-Inv-loop kernel a b stride-a stride-b width height x y n off from upto t₀ k₀ t k = ?
+Inv-loop kernel a b stride-a stride-b width height x y n off t₀ k₀ k-end t k = (k₀ ≤ k) × (k ≤ k-end) × (t ≡ partsOf kernel height (λ (m i : ℕ). quantOf m (viewOf (planeOf a stride-a) i x) (viewOf (planeOf b stride-b) i x)) y k)
 
 abbrev μ-loop : tie.MeasureT-loop
-μ-loop kernel a b stride-a stride-b width height x y n off from upto t₀ k₀ t k = ?
+μ-loop kernel a b stride-a stride-b width height x y n off t₀ k₀ k-end t k = k-end - k
 
--- src/columns.rt:110:9
-less-requires : tie.Need-less-requires Inv-loop μ-loop
-less-requires c κs = ?
+first-requires : tie.Need-first-requires Inv-loop μ-loop
+first-requires c κs = search needs
 
--- src/columns.rt:111:25
-add-less : tie.Need-add-less Inv-loop μ-loop
-add-less c = ?
+past-requires : tie.Need-past-requires Inv-loop μ-loop
+past-requires c κs = omega arith
 
--- src/columns.rt:111:25
-add-less-2 : tie.Need-add-less-2 Inv-loop μ-loop
-add-less-2 c = ?
-
--- src/columns.rt:111:20
-less-requires-2 : tie.Need-less-requires-2 Inv-loop μ-loop
-less-requires-2 c κs = ?
-
--- src/columns.rt:111:16
-sub-upto : tie.Need-sub-upto Inv-loop μ-loop
-sub-upto c = ?
-
--- src/columns.rt:119:5
 loop-holds : tie.Need-loop-holds Inv-loop μ-loop
-loop-holds c = ?
+loop-holds c = (omega arith, omega arith, sym (parts-first _ _ _ _ _ (omega arith)))
 
--- src/columns.rt:120:17
 add-r : tie.Need-add-r Inv-loop μ-loop
-add-r c = ?
+add-r c = omega (arith, side-room, taps-room)
 
--- src/columns.rt:120:17
 sub-r : tie.Need-sub-r Inv-loop μ-loop
-sub-r c = ?
+sub-r c = search needs
 
--- src/columns.rt:121:17
-mul-i : tie.Need-mul-i Inv-loop μ-loop
-mul-i c = ?
-
--- src/columns.rt:121:17
-add-i : tie.Need-add-i Inv-loop μ-loop
-add-i c = ?
-
--- src/columns.rt:122:17
-mul-j : tie.Need-mul-j Inv-loop μ-loop
-mul-j c = ?
-
--- src/columns.rt:122:17
-add-j : tie.Need-add-j Inv-loop μ-loop
-add-j c = ?
-
--- src/columns.rt:123:23
 mul-tapped : tie.Need-mul-tapped Inv-loop μ-loop
-mul-tapped c = ?
+mul-tapped c = search needs
 
--- src/columns.rt:123:23
 shared-slice-read-tapped : tie.Need-shared-slice-read-tapped Inv-loop μ-loop
-shared-slice-read-tapped c = ?
+shared-slice-read-tapped c = search needs
 
--- src/columns.rt:123:41
-mul-wide16 : tie.Need-mul-wide16 Inv-loop μ-loop
-mul-wide16 c = ?
+sample16-requires : tie.Need-sample16-requires Inv-loop μ-loop
+sample16-requires c κs =
+    let s = c .before .before .before .before .before .before .before .before in
+    rows.inside (s .args .stride-a) (s .pre .1 .1 .0 .long) (s .pre .0 .0) (omega arith)
 
--- src/columns.rt:123:41
-shared-slice-read-wide16 : tie.Need-shared-slice-read-wide16 Inv-loop μ-loop
-shared-slice-read-wide16 c = ?
+sample16-requires-2 : tie.Need-sample16-requires-2 Inv-loop μ-loop
+sample16-requires-2 c κs =
+    let s = c .before .before .before .before .before .before .before .before .before in
+    rows.inside (s .args .stride-b) (s .pre .1 .1 .1 .long) (s .pre .0 .0) (omega arith)
 
--- src/columns.rt:123:34
-wide16-requires : tie.Need-wide16-requires Inv-loop μ-loop
-wide16-requires c κs = ?
-
--- src/columns.rt:123:55
-mul-wide16-2 : tie.Need-mul-wide16-2 Inv-loop μ-loop
-mul-wide16-2 c = ?
-
--- src/columns.rt:123:55
-shared-slice-read-wide16-2 : tie.Need-shared-slice-read-wide16-2 Inv-loop μ-loop
-shared-slice-read-wide16-2 c = ?
-
--- src/columns.rt:123:48
-wide16-requires-2 : tie.Need-wide16-requires-2 Inv-loop μ-loop
-wide16-requires-2 c κs = ?
-
--- src/columns.rt:123:9
 tapped-requires : tie.Need-tapped-requires Inv-loop μ-loop
-tapped-requires c κs = ?
+tapped-requires c κs =
+    let s = c .before .before .before .before .before .before .before .before .before .before in
+    rw (c .sample162 .ensures, c .before .sample16 .ensures)
+    (parts-room _ _
+    (λ (m i : ℕ). quantOf m (viewOf (planeOf (now (s .args .a)) (s .args .stride-a)) i (s .args .x)) (viewOf (planeOf (now (s .args .b)) (s .args .stride-b)) i (s .args .x)))
+    _ _ _ (c .before .before .before .before .loop .inv .2) (s .pre .1 .0)
+    (λ m l k a b d. quant-small m _ _ (s .pre .1 .1 .0 .small _) (s .pre .1 .1 .1 .small _)) (omega arith) (omega arith) (omega arith))
 
--- src/columns.rt:119:9
 add-k : tie.Need-add-k Inv-loop μ-loop
-add-k c = ?
+add-k c = search needs
 
--- src/columns.rt:119:5
 loop-less : tie.Need-loop-less Inv-loop μ-loop
-loop-less c = ?
+loop-less c = search needs
 
--- src/columns.rt:119:5
 loop-again : tie.Need-loop-again Inv-loop μ-loop
-loop-again c = ?
+loop-again c =
+    (
+      omega arith,
+      omega arith,
+      rw (c .tapped .ensures, c .before .sample162 .ensures, c .before .before .sample16 .ensures, c .before .before .before .before .before .loop .inv .2)
+          (sym (parts-more _ _ _ _ _ (omega arith) (omega arith))),
+    )
 
--- src/columns.rt:90:1
 returns : tie.Need-returns Inv-loop μ-loop
-returns c = ?
+returns c =
+    rw (c .before .loop .inv .2)
+    (parts-last _ _ _ _ (c .before .before .before .before .before .before .before .pre .1 .0) _ (omega arith) (omega arith))
 
 pub column16-spec : {M : Type 1} → statement M
 column16-spec =
@@ -118,26 +92,15 @@ column16-spec =
     (tie.spec
     Inv-loop
     μ-loop
-    less-requires
-    add-less
-    add-less-2
-    less-requires-2
-    sub-upto
+    first-requires
+    past-requires
     loop-holds
     add-r
     sub-r
-    mul-i
-    add-i
-    mul-j
-    add-j
     mul-tapped
     shared-slice-read-tapped
-    mul-wide16
-    shared-slice-read-wide16
-    wide16-requires
-    mul-wide16-2
-    shared-slice-read-wide16-2
-    wide16-requires-2
+    sample16-requires
+    sample16-requires-2
     tapped-requires
     add-k
     loop-less

@@ -1,108 +1,90 @@
+-- `window::columns::column8` meets its contract. Assumes nothing.
+use mathlib.Core.Path.{_≡_, sym, ap, _∙_}
+use Prim.Native.Nat.{ℕ, _≤_, _<_, _-_, _+_, _*_, _/_, _^_}
+use native.Mathlib.Omega.{arith}
+use borrow.Author.Needs.{needs}
+use denote.Ref.{now}
+use lib.ListN.{length}
+use Rattle.plane.specs.Plane.{planeOf}
+use Rattle.plane.proofs.Rows as rows
+use Rattle.window.specs.Parts.{partsOf, quantOf}
+use Rattle.window.specs.Columns.{viewOf}
+use Rattle.window.proofs.Windows.{side-room, taps-room}
+use Rattle.window.proofs.Five.{quant-small, parts-more, parts-first, parts-last, parts-room}
 use Rattle.window.proofs.columns.column8.Statement.{statement}
 use Rattle.window.proofs.columns.column8.Tie as tie
 use Rattle.window.proofs.columns.column8.Reads as reads
 use Rattle.window.proofs.columns.column8.Lts as lts
-use Rattle.window.proofs.columns.less.Reads as less-reads
+use Rattle.window.proofs.columns.first.Reads as first-reads
+use Rattle.window.proofs.columns.past.Reads as past-reads
+use Rattle.window.proofs.columns.sample8.Reads as sample8-reads
 use Rattle.window.proofs.columns.tapped.Reads as tapped-reads
-use Rattle.window.proofs.columns.wide8.Reads as wide8-reads
 
 abbrev Inv-loop : tie.InvT-loop
-Inv-loop kernel a b stride-a stride-b width height x y n off from upto t₀ k₀ t k = ?
+Inv-loop kernel a b stride-a stride-b width height x y n off t₀ k₀ k-end t k = (k₀ ≤ k) × (k ≤ k-end) × (t ≡ partsOf kernel height (λ (m i : ℕ). quantOf m (viewOf (planeOf a stride-a) i x) (viewOf (planeOf b stride-b) i x)) y k)
 
 abbrev μ-loop : tie.MeasureT-loop
-μ-loop kernel a b stride-a stride-b width height x y n off from upto t₀ k₀ t k = ?
+μ-loop kernel a b stride-a stride-b width height x y n off t₀ k₀ k-end t k = k-end - k
 
--- src/columns.rt:71:9
-less-requires : tie.Need-less-requires Inv-loop μ-loop
-less-requires c κs = ?
+first-requires : tie.Need-first-requires Inv-loop μ-loop
+first-requires c κs = search needs
 
--- src/columns.rt:72:25
-add-less : tie.Need-add-less Inv-loop μ-loop
-add-less c = ?
+past-requires : tie.Need-past-requires Inv-loop μ-loop
+past-requires c κs = omega arith
 
--- src/columns.rt:72:25
-add-less-2 : tie.Need-add-less-2 Inv-loop μ-loop
-add-less-2 c = ?
-
--- src/columns.rt:72:20
-less-requires-2 : tie.Need-less-requires-2 Inv-loop μ-loop
-less-requires-2 c κs = ?
-
--- src/columns.rt:72:16
-sub-upto : tie.Need-sub-upto Inv-loop μ-loop
-sub-upto c = ?
-
--- src/columns.rt:80:5
 loop-holds : tie.Need-loop-holds Inv-loop μ-loop
-loop-holds c = ?
+loop-holds c = (omega arith, omega arith, sym (parts-first _ _ _ _ _ (omega arith)))
 
--- src/columns.rt:81:17
 add-r : tie.Need-add-r Inv-loop μ-loop
-add-r c = ?
+add-r c = omega (arith, side-room, taps-room)
 
--- src/columns.rt:81:17
 sub-r : tie.Need-sub-r Inv-loop μ-loop
-sub-r c = ?
+sub-r c = search needs
 
--- src/columns.rt:82:17
-mul-i : tie.Need-mul-i Inv-loop μ-loop
-mul-i c = ?
-
--- src/columns.rt:82:17
-add-i : tie.Need-add-i Inv-loop μ-loop
-add-i c = ?
-
--- src/columns.rt:83:17
-mul-j : tie.Need-mul-j Inv-loop μ-loop
-mul-j c = ?
-
--- src/columns.rt:83:17
-add-j : tie.Need-add-j Inv-loop μ-loop
-add-j c = ?
-
--- src/columns.rt:84:23
 mul-tapped : tie.Need-mul-tapped Inv-loop μ-loop
-mul-tapped c = ?
+mul-tapped c = search needs
 
--- src/columns.rt:84:23
 shared-slice-read-tapped : tie.Need-shared-slice-read-tapped Inv-loop μ-loop
-shared-slice-read-tapped c = ?
+shared-slice-read-tapped c = search needs
 
--- src/columns.rt:84:40
-shared-slice-read-wide8 : tie.Need-shared-slice-read-wide8 Inv-loop μ-loop
-shared-slice-read-wide8 c = ?
+sample8-requires : tie.Need-sample8-requires Inv-loop μ-loop
+sample8-requires c κs =
+    let s = c .before .before .before .before .before .before .before .before in
+    rows.inside (s .args .stride-a) (s .pre .1 .1 .0 .long) (s .pre .0 .0) (omega arith)
 
--- src/columns.rt:84:34
-wide8-requires : tie.Need-wide8-requires Inv-loop μ-loop
-wide8-requires c κs = ?
+sample8-requires-2 : tie.Need-sample8-requires-2 Inv-loop μ-loop
+sample8-requires-2 c κs =
+    let s = c .before .before .before .before .before .before .before .before .before in
+    rows.inside (s .args .stride-b) (s .pre .1 .1 .1 .long) (s .pre .0 .0) (omega arith)
 
--- src/columns.rt:84:53
-shared-slice-read-wide8-2 : tie.Need-shared-slice-read-wide8-2 Inv-loop μ-loop
-shared-slice-read-wide8-2 c = ?
-
--- src/columns.rt:84:47
-wide8-requires-2 : tie.Need-wide8-requires-2 Inv-loop μ-loop
-wide8-requires-2 c κs = ?
-
--- src/columns.rt:84:9
 tapped-requires : tie.Need-tapped-requires Inv-loop μ-loop
-tapped-requires c κs = ?
+tapped-requires c κs =
+    let s = c .before .before .before .before .before .before .before .before .before .before in
+    rw (c .sample82 .ensures, c .before .sample8 .ensures)
+    (parts-room _ _
+    (λ (m i : ℕ). quantOf m (viewOf (planeOf (now (s .args .a)) (s .args .stride-a)) i (s .args .x)) (viewOf (planeOf (now (s .args .b)) (s .args .stride-b)) i (s .args .x)))
+    _ _ _ (c .before .before .before .before .loop .inv .2) (s .pre .1 .0)
+    (λ m l k a b d. quant-small m _ _ (s .pre .1 .1 .0 .small _) (s .pre .1 .1 .1 .small _)) (omega arith) (omega arith) (omega arith))
 
--- src/columns.rt:80:9
 add-k : tie.Need-add-k Inv-loop μ-loop
-add-k c = ?
+add-k c = search needs
 
--- src/columns.rt:80:5
 loop-less : tie.Need-loop-less Inv-loop μ-loop
-loop-less c = ?
+loop-less c = search needs
 
--- src/columns.rt:80:5
 loop-again : tie.Need-loop-again Inv-loop μ-loop
-loop-again c = ?
+loop-again c =
+    (
+      omega arith,
+      omega arith,
+      rw (c .tapped .ensures, c .before .sample82 .ensures, c .before .before .sample8 .ensures, c .before .before .before .before .before .loop .inv .2)
+          (sym (parts-more _ _ _ _ _ (omega arith) (omega arith))),
+    )
 
--- src/columns.rt:51:1
 returns : tie.Need-returns Inv-loop μ-loop
-returns c = ?
+returns c =
+    rw (c .before .loop .inv .2)
+    (parts-last _ _ _ _ (c .before .before .before .before .before .before .before .pre .1 .0) _ (omega arith) (omega arith))
 
 pub column8-spec : {M : Type 1} → statement M
 column8-spec =
@@ -110,24 +92,15 @@ column8-spec =
     (tie.spec
     Inv-loop
     μ-loop
-    less-requires
-    add-less
-    add-less-2
-    less-requires-2
-    sub-upto
+    first-requires
+    past-requires
     loop-holds
     add-r
     sub-r
-    mul-i
-    add-i
-    mul-j
-    add-j
     mul-tapped
     shared-slice-read-tapped
-    shared-slice-read-wide8
-    wide8-requires
-    shared-slice-read-wide8-2
-    wide8-requires-2
+    sample8-requires
+    sample8-requires-2
     tapped-requires
     add-k
     loop-less

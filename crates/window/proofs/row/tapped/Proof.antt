@@ -1,50 +1,42 @@
+-- `window::row::tapped` meets its contract: for each of the five there is room. Assumes nothing.
+use native.Mathlib.Omega.{arith}
 use borrow.Author.Needs.{needs}
+use lib.Dec.{lit<}
 use Rattle.window.proofs.row.tapped.Statement.{statement}
 use Rattle.window.proofs.row.tapped.Tie as tie
 use Rattle.window.proofs.row.tapped.Reads as reads
 use Rattle.window.proofs.row.tapped.Lts as lts
 
--- src/row.rt:48:22
 mul-t5 : tie.Need-mul-t5
-mul-t5 c = ?
+mul-t5 c = omega (arith, c .before .pre 0 (lit< tt))
 
--- src/row.rt:48:14
 add-t6 : tie.Need-add-t6
-add-t6 c = ?
+add-t6 c = omega (arith, c .before .before .pre 0 (lit< tt))
 
--- src/row.rt:49:22
 mul-t7 : tie.Need-mul-t7
-mul-t7 c = ?
+mul-t7 c = omega (arith, c .before .before .before .pre 1 (lit< tt))
 
--- src/row.rt:49:14
 add-t8 : tie.Need-add-t8
-add-t8 c = ?
+add-t8 c = omega (arith, c .before .before .before .before .pre 1 (lit< tt))
 
--- src/row.rt:50:20
 mul-t9 : tie.Need-mul-t9
-mul-t9 c = ?
+mul-t9 c = omega (arith, c .before .before .before .before .before .pre 2 (lit< tt))
 
--- src/row.rt:50:13
 add-t10 : tie.Need-add-t10
-add-t10 c = ?
+add-t10 c = omega (arith, c .before .before .before .before .before .before .pre 2 (lit< tt))
 
--- src/row.rt:51:20
 mul-t11 : tie.Need-mul-t11
-mul-t11 c = ?
+mul-t11 c = omega (arith, c .before .before .before .before .before .before .before .pre 3 (lit< tt))
 
--- src/row.rt:51:13
 add-t12 : tie.Need-add-t12
-add-t12 c = ?
+add-t12 c = omega (arith, c .before .before .before .before .before .before .before .before .pre 3 (lit< tt))
 
--- src/row.rt:52:20
 mul-t13 : tie.Need-mul-t13
-mul-t13 c = ?
+mul-t13 c = omega (arith, c .before .before .before .before .before .before .before .before .before .pre 4 (lit< tt))
 
--- src/row.rt:52:13
 add-t14 : tie.Need-add-t14
-add-t14 c = ?
+add-t14 c = omega (arith, c .before .before .before .before .before .before .before .before .before .before .pre 4 (lit< tt))
 
--- src/row.rt:42:1
 returns : tie.Need-returns
 returns c = search needs
 

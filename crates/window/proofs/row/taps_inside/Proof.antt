@@ -1,71 +1,68 @@
+-- `window::row::taps_inside` meets its contract. Assumes nothing.
+use mathlib.Core.Path.{_≡_, sym, ap, _∙_}
+use Prim.Native.Nat.{ℕ, _≤_, _<_, _-_, _+_, _*_, _/_, _^_}
+use native.Mathlib.Omega.{arith}
+use borrow.Author.Needs.{needs}
+use denote.Ref.{now}
+use lib.ListN.{length}
+use native.Mathlib.Nat.{mul-one, le-refl}
+use Rattle.window.specs.Parts.{partOf}
+use Rattle.window.proofs.Windows.{part-more, part-first, part-last, part-room, total-room}
 use Rattle.window.proofs.row.taps_inside.Statement.{statement}
 use Rattle.window.proofs.row.taps_inside.Tie as tie
 use Rattle.window.proofs.row.taps_inside.Reads as reads
 use Rattle.window.proofs.row.taps_inside.Lts as lts
-use Rattle.window.proofs.columns.less.Reads as less-reads
+use Rattle.window.proofs.columns.first.Reads as first-reads
+use Rattle.window.proofs.columns.past.Reads as past-reads
 use Rattle.window.proofs.wide.Reads as wide-reads
 
 abbrev Inv-loop : tie.InvT-loop
-Inv-loop kernel side x n off from upto sum₀ k₀ sum k = ?
+Inv-loop kernel side x n sum₀ k₀ k-end sum k = (k₀ ≤ k) × (k ≤ k-end) × (sum ≡ partOf kernel side (λ (i : ℕ). 1) x k)
 
 abbrev μ-loop : tie.MeasureT-loop
-μ-loop kernel side x n off from upto sum₀ k₀ sum k = ?
+μ-loop kernel side x n sum₀ k₀ k-end sum k = k-end - k
 
--- src/row.rt:88:9
-less-requires : tie.Need-less-requires Inv-loop μ-loop
-less-requires c κs = ?
+first-requires : tie.Need-first-requires Inv-loop μ-loop
+first-requires c κs = search needs
 
--- src/row.rt:89:34
-add-less : tie.Need-add-less Inv-loop μ-loop
-add-less c = ?
+past-requires : tie.Need-past-requires Inv-loop μ-loop
+past-requires c κs = omega arith
 
--- src/row.rt:89:34
-add-less-2 : tie.Need-add-less-2 Inv-loop μ-loop
-add-less-2 c = ?
-
--- src/row.rt:89:20
-less-requires-2 : tie.Need-less-requires-2 Inv-loop μ-loop
-less-requires-2 c κs = ?
-
--- src/row.rt:89:16
-sub-upto : tie.Need-sub-upto Inv-loop μ-loop
-sub-upto c = ?
-
--- src/row.rt:91:5
 loop-holds : tie.Need-loop-holds Inv-loop μ-loop
-loop-holds c = ?
+loop-holds c = (omega arith, omega arith, sym (part-first _ _ _ _ _ (omega arith)))
 
--- src/row.rt:92:33
 mul-wide : tie.Need-mul-wide Inv-loop μ-loop
-mul-wide c = ?
+mul-wide c = search needs
 
--- src/row.rt:92:33
 shared-slice-read-wide : tie.Need-shared-slice-read-wide Inv-loop μ-loop
-shared-slice-read-wide c = ?
+shared-slice-read-wide c = search needs
 
--- src/row.rt:92:21
 wide-requires : tie.Need-wide-requires Inv-loop μ-loop
-wide-requires c κs = ?
+wide-requires c κs = search needs
 
--- src/row.rt:92:15
 add-sum : tie.Need-add-sum Inv-loop μ-loop
-add-sum c = ?
+add-sum c =
+    let s = c .before .before .before .before .before .before .before in
+    let room = part-room _ _ (λ (i : ℕ). 1) _ 1 _ _ (s .pre .1) (λ k a m n. le-refl 1) (c .before .before .before .loop .inv .2)
+        (omega arith) (omega arith) (omega arith) in
+    omega (arith, room, total-room)
 
--- src/row.rt:91:9
 add-k : tie.Need-add-k Inv-loop μ-loop
-add-k c = ?
+add-k c = search needs
 
--- src/row.rt:91:5
 loop-less : tie.Need-loop-less Inv-loop μ-loop
-loop-less c = ?
+loop-less c = search needs
 
--- src/row.rt:91:5
 loop-again : tie.Need-loop-again Inv-loop μ-loop
-loop-again c = ?
+loop-again c =
+    (
+      omega arith,
+      omega arith,
+      rw (c .wide .ensures, c .before .before .before .loop .inv .2) (sym (part-more _ _ _ _ _ (omega arith) (omega arith) ∙ rw mul-one)),
+    )
 
--- src/row.rt:81:1
 returns : tie.Need-returns Inv-loop μ-loop
-returns c = ?
+returns c = rw (c .before .loop .inv .2) (part-last _ _ _ _ (c .before .before .before .before .before .pre .1) _ (omega arith) (omega arith))
 
 pub taps-inside-spec : {M : Type 1} → statement M
 taps-inside-spec =
@@ -73,11 +70,8 @@ taps-inside-spec =
     (tie.spec
     Inv-loop
     μ-loop
-    less-requires
-    add-less
-    add-less-2
-    less-requires-2
-    sub-upto
+    first-requires
+    past-requires
     loop-holds
     mul-wide
     shared-slice-read-wide
