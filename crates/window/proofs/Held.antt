@@ -2,9 +2,10 @@
 use mathlib.Core.Path.{_≡_, refl, sym, ap, _∙_}
 use mathlib.Core.List.{List}
 use Prim.Native.Nat.{ℕ, _+_, _-_, _*_, _/_, _%_, _≤_, _<_, _^_}
-use native.Mathlib.Nat.{le-trans, le-refl, ne-of-lt}
+use native.Mathlib.Nat.{le-trans, le-refl, ne-of-lt, add-zero}
 use native.Mathlib.Omega.{arith}
-use borrow.Author.Count.{below-more}
+use borrow.Author.Count.{below-more, below-none}
+use lib.Dec.{lit<}
 use lib.IntN.{ℤ, pos, natAbs}
 use lib.ListN.{length, getD, set, length-set}
 use lib.Seq.{getD-set-same, getD-set-other}
@@ -76,3 +77,29 @@ five-more l l′ i g e old h j m =
     let h2 = set-more l1 l2 (i + 2) g refl (λ k (q : k < i + 2). h1 k (omega arith)) (simp length-set (omega arith)) in
     let h3 = set-more l2 l3 (i + 3) g refl (λ k (q : k < i + 3). h2 k (omega arith)) (simp length-set (omega arith)) in
     set-more l3 l′ (i + 4) g e (λ k (q : k < i + 4). h3 k (omega arith)) (simp length-set (omega arith)) j (omega arith)
+
+-- the sums of column x, put after those of the columns before it
+module _ (ker : List ℕ) (height : ℕ) (a b : ℕ → ℕ → ℕ) (y x : ℕ) where
+  sum-there : (t : Sums) → t ≡ partsOf ker height (λ (m r : ℕ). quantOf m (a r x) (b r x)) y (length ker)
+      → (m : ℕ) → m < 5 → nth t m ≡ columnAt ker height a b y (5 * x + m)
+  unfolding partsOf
+  sum-there t e m l =
+      let u : (5 * x + m) % 5 ≡ m = omega arith in
+      let v : (5 * x + m) / 5 ≡ x = omega arith in
+      rw (e, u, v) (nth-five (λ (i : ℕ). windowOf ker height (λ (r : ℕ). quantOf i (a r x) (b r x)) y) m l)
+
+  pub holds-more : (s s′ : List ℤ) (t : Sums)
+      → s′ ≡ set (set (set (set (set s (5 * x) (pos (t .mux))) (5 * x + 1) (pos (t .muy))) (5 * x + 2) (pos (t .x2)))
+      (5 * x + 3) (pos (t .xy))) (5 * x + 4) (pos (t .y2))
+      → t ≡ partsOf ker height (λ (m r : ℕ). quantOf m (a r x) (b r x)) y (length ker)
+      → Holds s (5 * x) ker height a b y → 5 * x + 5 ≤ length s → Holds s′ (5 * (x + 1)) ker height a b y
+  unfolding Holds
+  holds-more s s′ t e f held room j l =
+      let q = sum-there t f in
+      five-more s s′ (5 * x) (λ (i : ℕ). pos (columnAt ker height a b y i))
+      (simp (rw add-zero at (q 0 (lit< tt)), q 1 (lit< tt), q 2 (lit< tt), q 3 (lit< tt), q 4 (lit< tt)) at e)
+      held room j (omega arith)
+
+  pub holds-none : (s : List ℤ) → Holds s (5 * 0) ker height a b y
+  unfolding Holds
+  holds-none s = below-none _

@@ -136,6 +136,6 @@ pub taps-room : mostTaps ≤ 2 ^ 32
 unfolding mostTaps
 taps-room = lit≤ tt
 
-pub total-room : fixedTotal ≤ 2 ^ 32
+pub total-room : fixedTotal ≤ 2 ^ 16
 unfolding fixedTotal
 total-room = lit≤ tt
