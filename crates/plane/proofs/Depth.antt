@@ -57,11 +57,12 @@ pub max-grows : {d e : ℕ} → d ≤ e → maxOf d ≤ maxOf e
 unfolding maxOf
 max-grows l = omega (arith, pow-le-pow-right {n = 2} (lit< tt) l)
 
--- sample_max fits a sample: of words 16 bits, of bytes 8
-pub words-fit : maxOf (mostDepth true) < 2 ^ 16
+-- sample_max of any depth, and of the depths of bytes
+pub max-small : (wide : Bool) {depth : ℕ} → depth ≤ mostDepth wide → maxOf depth < 2 ^ 12
 unfolding maxOf mostDepth
-words-fit = lit< tt
+max-small true l = omega (arith, max-grows l)
+max-small false l = omega (arith, max-grows l)
 
-pub bytes-fit : maxOf (mostDepth false) < 2 ^ 8
+pub byte-small : {depth : ℕ} → depth ≤ mostDepth false → maxOf depth < 2 ^ 8
 unfolding maxOf mostDepth
-bytes-fit = lit< tt
+byte-small l = omega (arith, max-grows l)

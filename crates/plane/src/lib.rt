@@ -4,10 +4,10 @@ ghost use mathlib.Core.Path.{_≡_};
 ghost use mathlib.Core.Bool.{true, false};
 ghost use mathlib.Core.List.{[], _∷_};
 ghost use Prim.Native.Nat.{_+_, _*_, _<_, _≤_};
-ghost use lib.ListN.{length, getD};
+ghost use lib.ListN.{length};
 ghost use Rattle.refusal.specs.First.{firstBroken};
 ghost use Rattle.plane.specs.Limits.{mostDepth};
-ghost use Rattle.plane.specs.Plane.{planeOf, pairOf, samplesOf, maxOf, needed, allTo};
+ghost use Rattle.plane.specs.Plane.{planeOf, pairOf, samplesOf, maxOf, at, needed, allTo};
 ghost use Rattle.plane.specs.Tests.{depthSuits, sidesSuit, sidesReach, strideSuits, longEnough};
 ghost use Rattle.plane.specs.Tests.{noneAbove, rowSuits, samplesSuit, sizeTests, layoutTests, planeRefusal};
 
@@ -62,7 +62,7 @@ pub fn stride_suits(width: usize, stride: usize) -> bool
 // The sample at place `i`.
 pub fn sample(bytes: &[u8], words: &[u16], wide: bool, i: usize) -> u32
     requires { ⌜ i < length (samplesOf wide (now bytes) (now words)) ⌝ }
-    ensures { λ r. ⌜ r ≡ getD (samplesOf wide (now (bytes .entry)) (now (words .entry))) i 0 ⌝ }
+    ensures { λ r. ⌜ r ≡ at (samplesOf wide (now (bytes .entry)) (now (words .entry))) i ⌝ }
 {
     if wide {
         words[i] as u32
@@ -99,7 +99,7 @@ pub fn long_enough(
 
 // Whether no sample of a row is above `max`. A row is walked to its end, whatever it holds: such a loop is vectorised.
 fn row_suits8(row: &[u8], max: u8) -> bool
-    ensures { λ r. ⌜ r ≡ noneAbove max (now (row .entry)) ⌝ }
+    ensures { λ r. ⌜ r ≡ noneAbove max (at (now (row .entry))) (length (now (row .entry))) ⌝ }
 {
     let mut ok = true;
     for x in 0..row.len() {
@@ -109,7 +109,7 @@ fn row_suits8(row: &[u8], max: u8) -> bool
 }
 
 fn row_suits16(row: &[u16], max: u16) -> bool
-    ensures { λ r. ⌜ r ≡ noneAbove max (now (row .entry)) ⌝ }
+    ensures { λ r. ⌜ r ≡ noneAbove max (at (now (row .entry))) (length (now (row .entry))) ⌝ }
 {
     let mut ok = true;
     for x in 0..row.len() {
@@ -234,7 +234,7 @@ fn layout_refusal(
 }
 
 // The lowest of 1 to 6 that applies to two planes of either width, and 0 where none does.
-fn check(
+pub fn check(
     a8: &[u8],
     a16: &[u16],
     b8: &[u8],
