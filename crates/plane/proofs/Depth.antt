@@ -21,23 +21,23 @@ depth-says wide depth e =
 -- a depth of bytes, a depth of words, and one of neither
 pub byte-depth : (wide : Bool) (depth : ℕ) → leastDepth false ≤ depth → depth ≤ mostDepth false → not wide ≡ depthSuits wide depth
 unfolding depthSuits leastDepth mostDepth
-byte-depth false depth l m = rw (le-leb 1 depth l, le-leb depth 8 m)
-byte-depth true depth l m = rw (lt-leb 9 depth (omega arith))
+byte-depth false depth l m = rw (le-leb _ _ l, le-leb _ _ m)
+byte-depth true depth l m = rw (lt-leb (leastDepth true) depth (omega arith))
 
 pub word-depth : (wide : Bool) (depth : ℕ) → leastDepth true ≤ depth → depth ≤ mostDepth true → wide ≡ depthSuits wide depth
 unfolding depthSuits leastDepth mostDepth
-word-depth true depth l m = rw (le-leb 9 depth l, le-leb depth 12 m)
-word-depth false depth l m = rw (le-leb 1 depth (omega arith), lt-leb depth 8 (omega arith))
+word-depth true depth l m = rw (le-leb _ _ l, le-leb _ _ m)
+word-depth false depth l m = rw (le-leb (leastDepth false) depth (omega arith), lt-leb depth (mostDepth false) (omega arith))
 
 pub below-depths : (wide : Bool) (depth : ℕ) → depth < leastDepth false → false ≡ depthSuits wide depth
 unfolding depthSuits leastDepth mostDepth
-below-depths false depth l = rw (lt-leb 1 depth l)
-below-depths true depth l = rw (lt-leb 9 depth (omega arith))
+below-depths false depth l = rw (lt-leb _ _ l)
+below-depths true depth l = rw (lt-leb (leastDepth true) depth (omega arith))
 
 pub above-depths : (wide : Bool) (depth : ℕ) → mostDepth true < depth → false ≡ depthSuits wide depth
 unfolding depthSuits leastDepth mostDepth
-above-depths true depth l = rw (le-leb 9 depth (omega arith), lt-leb depth 12 l)
-above-depths false depth l = rw (le-leb 1 depth (omega arith), lt-leb depth 8 (omega arith))
+above-depths true depth l = rw (le-leb (leastDepth true) depth (omega arith), lt-leb _ _ l)
+above-depths false depth l = rw (le-leb (leastDepth false) depth (omega arith), lt-leb depth (mostDepth false) (omega arith))
 
 -- every depth is small enough for a shift of 32 bits
 pub depth-small : (wide : Bool) → mostDepth wide < 32
