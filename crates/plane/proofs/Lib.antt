@@ -3,3 +3,4 @@ pub mod All
 pub mod Depth
 pub mod Rows
 pub mod Accept
+pub mod Several

@@ -1,7 +1,7 @@
 -- Document 01, "When the desk says no", 1 to 6: each test, true where the number is not given, and their list. Definitions only.
 use mathlib.Core.Bool.{Bool, true, false, _&&_}
 use mathlib.Core.List.{List, [], _∷_, _++_}
-use Prim.Native.Nat.{ℕ}
+use Prim.Native.Nat.{ℕ, zero, suc, min}
 use lib.Dec.{leb}
 use lib.ListN.{length}
 use Rattle.refusal.specs.Numbers.{depthNo, sideNo, smallNo, strideNo, shortNo, sampleNo}
@@ -64,3 +64,9 @@ planeTests wide planes width height depth least = sizeTests wide width height de
 -- the lowest of 1 to 6 that applies, and 0 where none does
 abbrev pub planeRefusal : Bool → List Plane → ℕ → ℕ → ℕ → ℕ → ℕ
 planeRefusal wide planes width height depth least = firstBroken (planeTests wide planes width height depth least)
+
+-- of two refusals the lower, where 0 is none
+abbrev pub lowerOf : ℕ → ℕ → ℕ
+lowerOf zero b = b
+lowerOf (suc a) zero = suc a
+lowerOf (suc a) (suc b) = min (suc a) (suc b)

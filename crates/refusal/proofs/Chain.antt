@@ -23,14 +23,6 @@ fails {r} e h = sym e ∙ not-true r h
 pub holds : {r b : Bool} → r ≡ b → not r ≡ false → b ≡ true
 holds {r} e h = sym e ∙ not-false r h
 
--- ---- the same of two results under one `&`
-pub both-hold : {r s b d : Bool} → r ≡ b → s ≡ d → not (r && s) ≡ false → (b ≡ true) × (d ≡ true)
-both-hold {r} {s} e f h =
-    let t = not-false (r && s) h in (sym e ∙ and-left r s t, sym f ∙ and-right r s t)
-
-pub one-fails : {r s b d : Bool} → r ≡ b → s ≡ d → not (r && s) ≡ true → (b && d) ≡ false
-one-fails {r} {s} e f h = rw (← e, ← f) (not-true (r && s) h)
-
 -- ---- a list of tests that goes on: its first part decides where it refuses, else the rest
 -- no test has the number 0, which says that none is broken
 abbrev pub Named : List (ℕ × Bool) → Type 0

@@ -1,0 +1,70 @@
+-- The tests of several planes, taken apart: first those of what they share, then those of each plane, of which the lowest number counts.
+-- Assumes nothing.
+use mathlib.Core.Path.{_≡_, refl, sym}
+use mathlib.Core.Bool.{Bool, true, false, _&&_, and-true}
+use mathlib.Core.List.{List, [], _∷_}
+use Prim.Native.Nat.{ℕ, zero, suc, min, _≤_}
+use Rattle.refusal.specs.Numbers.{strideNo, shortNo, sampleNo}
+use Rattle.refusal.specs.First.{firstBroken}
+use Rattle.refusal.proofs.Chain.{passed, go-on, stop}
+use Rattle.plane.specs.Plane.{Plane}
+use Rattle.plane.specs.Tests.{depthSuits, strideSuits, longEnough, samplesSuit}
+use Rattle.plane.specs.Tests.{sizeTests, layoutTests, planeRefusal, lowerOf}
+use Rattle.plane.proofs.Accept.{sides-say, size-named}
+
+-- 4, 5 and 6 of one plane, or of several
+abbrev first : Bool → Bool → Bool → ℕ
+first stride long sample = firstBroken ((strideNo, stride) ∷ (shortNo, long) ∷ (sampleNo, sample) ∷ [])
+
+both : (s l m t k n : Bool) → first (s && t) (l && k) (m && n) ≡ lowerOf (first s l m) (first t k n)
+both false l m false k n = refl
+both false l m true false n = refl
+both false l m true true false = refl
+both false l m true true true = refl
+both true false m false k n = refl
+both true true false false k n = refl
+both true true true false k n = refl
+both true false m true false n = refl
+both true false m true true false = refl
+both true false m true true true = refl
+both true true false true false n = refl
+both true true true true false n = refl
+both true true false true true false = refl
+both true true false true true true = refl
+both true true true true true n = refl
+
+pub one-more : (p : Plane) (more : List Plane) (width height depth : ℕ) → firstBroken (layoutTests (p ∷ more) width height depth)
+    ≡ lowerOf (firstBroken (layoutTests (p ∷ []) width height depth)) (firstBroken (layoutTests more width height depth))
+unfolding layoutTests
+one-more p more width height depth =
+    simp and-true (both (strideSuits width (p .stride)) (longEnough width height p) (samplesSuit depth width height p) _ _ _)
+
+module _ (wide : Bool) (planes : List Plane) (width height depth least : ℕ) where
+  -- where the tests of the sizes refuse, theirs is the number; where they pass, that of the planes
+  pub sizes-stop : (firstBroken (sizeTests wide width height depth least) ≡ 0 → ⊥)
+      → firstBroken (sizeTests wide width height depth least) ≡ planeRefusal wide planes width height depth least
+  sizes-stop h = sym (stop (sizeTests wide width height depth least) (layoutTests planes width height depth) h)
+
+  pub sizes-pass : firstBroken (sizeTests wide width height depth least) ≡ 0
+      → firstBroken (layoutTests planes width height depth) ≡ planeRefusal wide planes width height depth least
+  sizes-pass e =
+      let named = size-named wide width height depth least in
+      sym (go-on (sizeTests wide width height depth least) (layoutTests planes width height depth) named e)
+
+-- what the tests of each plane may count on
+pub sizes-say : (wide : Bool) (width height depth least : ℕ) → firstBroken (sizeTests wide width height depth least) ≡ 0
+    → (depthSuits wide depth ≡ true) × (1 ≤ width)
+unfolding sizeTests
+sizes-say wide width height depth least e =
+    let t = passed (sizeTests wide width height depth least) (size-named wide width height depth least) e in
+    (t .0, sides-say width height (t .1 .0) .0 .0)
+
+-- of two refusals, neither of which is 0
+pub lower-left : (a b : ℕ) → (a ≡ 0 → ⊥) → b ≡ 0 → a ≡ lowerOf a b
+lower-left zero b h e = absurd (h refl)
+lower-left (suc a) b h e = rw e
+
+pub lower-least : (a b : ℕ) → (a ≡ 0 → ⊥) → (b ≡ 0 → ⊥) → min a b ≡ lowerOf a b
+lower-least zero b h k = absurd (h refl)
+lower-least (suc a) zero h k = absurd (k refl)
+lower-least (suc a) (suc b) h k = refl
