@@ -1,6 +1,6 @@
 -- The tests of several planes, taken apart: first those of what they share, then those of each plane, of which the lowest number counts.
 -- Assumes nothing.
-use mathlib.Core.Path.{_≡_, refl, sym}
+use mathlib.Core.Path.{_≡_, refl, sym, _∙_}
 use mathlib.Core.Bool.{Bool, true, false, _&&_, and-true}
 use mathlib.Core.List.{List, [], _∷_}
 use Prim.Native.Nat.{ℕ, zero, suc, min, _≤_}
@@ -39,27 +39,27 @@ unfolding layoutTests
 one-more p more width height depth =
     simp and-true (both (strideSuits width (p .stride)) (longEnough width height p) (samplesSuit depth width height p) _ _ _)
 
-module _ (wide : Bool) (planes : List Plane) (width height depth least : ℕ) where
-  -- where the tests of the sizes refuse, theirs is the number; where they pass, that of the planes
-  pub sizes-stop : (firstBroken (sizeTests wide width height depth least) ≡ 0 → ⊥)
-      → firstBroken (sizeTests wide width height depth least) ≡ planeRefusal wide planes width height depth least
-  sizes-stop h = sym (stop (sizeTests wide width height depth least) (layoutTests planes width height depth) h)
+-- ---- after `size_refusal`, which answered n
+module _ {n : ℕ} (wide : Bool) (width height depth least : ℕ) (e : n ≡ firstBroken (sizeTests wide width height depth least)) where
+  -- it refused: that is the answer
+  pub sizes-stop : (planes : List Plane) → (n ≡ 0 → ⊥) → n ≡ planeRefusal wide planes width height depth least
+  sizes-stop planes h = stop (sizeTests wide width height depth least) (layoutTests planes width height depth) e h
 
-  pub sizes-pass : firstBroken (sizeTests wide width height depth least) ≡ 0
-      → firstBroken (layoutTests planes width height depth) ≡ planeRefusal wide planes width height depth least
-  sizes-pass e =
+  -- it did not: the answer is that of the tests of the planes
+  pub sizes-pass : {m : ℕ} (planes : List Plane) → n ≡ 0 → m ≡ firstBroken (layoutTests planes width height depth)
+      → m ≡ planeRefusal wide planes width height depth least
+  sizes-pass planes z f =
       let named = size-named wide width height depth least in
-      sym (go-on (sizeTests wide width height depth least) (layoutTests planes width height depth) named e)
+      go-on (sizeTests wide width height depth least) (layoutTests planes width height depth) named e z f
 
--- what the tests of each plane may count on
-pub sizes-say : (wide : Bool) (width height depth least : ℕ) → firstBroken (sizeTests wide width height depth least) ≡ 0
-    → (depthSuits wide depth ≡ true) × (1 ≤ width)
-unfolding sizeTests
-sizes-say wide width height depth least e =
-    let t = passed (sizeTests wide width height depth least) (size-named wide width height depth least) e in
-    (t .0, sides-say width height (t .1 .0) .0 .0)
+  -- and these may count on so much
+  pub sizes-say : n ≡ 0 → (depthSuits wide depth ≡ true) × (1 ≤ width)
+  unfolding sizeTests
+  sizes-say z =
+      let t = passed (sizeTests wide width height depth least) (size-named wide width height depth least) (sym e ∙ z) in
+      (t .0, sides-say width height (t .1 .0) .0 .0)
 
--- of two refusals, neither of which is 0
+-- ---- the lower of two
 pub lower-left : (a b : ℕ) → (a ≡ 0 → ⊥) → b ≡ 0 → a ≡ lowerOf a b
 lower-left zero b h e = absurd (h refl)
 lower-left (suc a) b h e = rw e
