@@ -1,11 +1,11 @@
 -- Laws of depths, and of sample_max. Assumes nothing.
 use mathlib.Core.Path.{_≡_}
-use mathlib.Core.Bool.{Bool, true, false, not, _&&_}
-use Prim.Native.Nat.{ℕ, _+_, _*_, _-_, _^_, _%_, _≤_, _<_}
+use mathlib.Core.Bool.{Bool, true, false, not}
+use Prim.Native.Nat.{ℕ, _+_, _*_, _^_, _%_, _≤_, _<_}
 use native.Mathlib.Nat.{one-mul, mod-eq-of-lt, pow-le-pow-right, lt-of-le-of-lt}
 use native.Mathlib.Omega.{arith}
 use borrow.Author.Tests.{leb-true, le-leb, lt-leb}
-use lib.Dec.{leb, lit<, lit≤}
+use lib.Dec.{leb, lit<}
 use lib.Pow.{pow-pos}
 use Rattle.refusal.proofs.Chain.{and-left, and-right}
 use Rattle.plane.specs.Limits.{leastDepth, mostDepth}

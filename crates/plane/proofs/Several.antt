@@ -2,20 +2,22 @@
 -- Assumes nothing.
 use mathlib.Core.Path.{_≡_, refl, sym, _∙_}
 use mathlib.Core.Bool.{Bool, true, false, _&&_, and-true}
-use mathlib.Core.List.{List, [], _∷_}
+use mathlib.Core.List.{List, [], _∷_, _++_}
 use Prim.Native.Nat.{ℕ, zero, suc, min, _≤_}
 use Rattle.refusal.specs.Numbers.{strideNo, shortNo, sampleNo}
 use Rattle.refusal.specs.First.{firstBroken}
 use Rattle.refusal.proofs.Chain.{passed, go-on, stop}
 use Rattle.plane.specs.Plane.{Plane}
 use Rattle.plane.specs.Tests.{depthSuits, strideSuits, longEnough, samplesSuit}
-use Rattle.plane.specs.Tests.{sizeTests, layoutTests, planeRefusal, lowerOf}
-use Rattle.plane.proofs.Accept.{sides-say, size-named}
+use Rattle.plane.specs.Tests.{sizeTests, layoutTests, planeTests, planeRefusal, lowerOf}
+use Rattle.plane.specs.Lawful.{Accepted}
+use Rattle.plane.proofs.Accept.{sides-say, size-named, plane-named, accepted}
 
--- 4, 5 and 6 of one plane, or of several
+-- the lowest of 4, 5 and 6
 abbrev first : Bool → Bool → Bool → ℕ
 first stride long sample = firstBroken ((strideNo, stride) ∷ (shortNo, long) ∷ (sampleNo, sample) ∷ [])
 
+-- of two planes, or of one and several others
 both : (s l m t k n : Bool) → first (s && t) (l && k) (m && n) ≡ lowerOf (first s l m) (first t k n)
 both false l m false k n = refl
 both false l m true false n = refl
@@ -33,10 +35,10 @@ both true true false true true false = refl
 both true true false true true true = refl
 both true true true true true n = refl
 
-pub one-more : (p : Plane) (more : List Plane) (width height depth : ℕ) → firstBroken (layoutTests (p ∷ more) width height depth)
-    ≡ lowerOf (firstBroken (layoutTests (p ∷ []) width height depth)) (firstBroken (layoutTests more width height depth))
+pub one-more : (p q : Plane) (more : List Plane) (width height depth : ℕ) → firstBroken (layoutTests (p ∷ q ∷ more) width height depth)
+    ≡ lowerOf (firstBroken (layoutTests (p ∷ []) width height depth)) (firstBroken (layoutTests (q ∷ more) width height depth))
 unfolding layoutTests
-one-more p more width height depth =
+one-more p q more width height depth =
     simp and-true (both (strideSuits width (p .stride)) (longEnough width height p) (samplesSuit depth width height p) _ _ _)
 
 -- ---- after `size_refusal`, which answered n
@@ -58,6 +60,23 @@ module _ {n : ℕ} (wide : Bool) (width height depth least : ℕ) (e : n ≡ fir
   sizes-say z =
       let t = passed (sizeTests wide width height depth least) (size-named wide width height depth least) (sym e ∙ z) in
       (t .0, sides-say width height (t .1 .0) .0 .0)
+
+-- ---- after `check`, which answered n: a call whose own tests are `more`
+module _ {n : ℕ} (wide : Bool) (planes : List Plane) (width height depth least : ℕ) (e : n ≡ planeRefusal wide planes width height depth least) where
+  -- it refused: that is the answer
+  pub planes-stop : (more : List (ℕ × Bool)) → (n ≡ 0 → ⊥) → n ≡ firstBroken (planeTests wide planes width height depth least ++ more)
+  planes-stop more h = stop (planeTests wide planes width height depth least) more e h
+
+  -- it did not: the answer is that of the call's own tests
+  pub planes-pass : {m : ℕ} (more : List (ℕ × Bool)) → n ≡ 0 → m ≡ firstBroken more
+      → m ≡ firstBroken (planeTests wide planes width height depth least ++ more)
+  planes-pass more z f =
+      let named = plane-named wide planes width height depth least in
+      go-on (planeTests wide planes width height depth least) more named e z f
+
+  -- and the planes are lawful
+  pub planes-say : n ≡ 0 → Accepted wide planes width height depth least
+  planes-say z = accepted wide planes width height depth least (sym e ∙ z)
 
 -- ---- the lower of two
 pub lower-left : (a b : ℕ) → (a ≡ 0 → ⊥) → b ≡ 0 → a ≡ lowerOf a b

@@ -1,5 +1,5 @@
 -- Document 01, "When the desk says no", 1 to 6: each test, true where the number is not given, and their list. Definitions only.
-use mathlib.Core.Bool.{Bool, true, false, _&&_}
+use mathlib.Core.Bool.{Bool, _&&_}
 use mathlib.Core.List.{List, [], _∷_, _++_}
 use Prim.Native.Nat.{ℕ, zero, suc, min}
 use lib.Dec.{leb}

@@ -5,7 +5,7 @@ use mathlib.Core.List.{List, [], _∷_, _++_}
 use Prim.Native.Nat.{ℕ, _≤_}
 use native.Mathlib.Omega.{arith}
 use borrow.Author.Tests.{not-true, not-false}
-use Rattle.refusal.specs.First.{unless, firstBroken}
+use Rattle.refusal.specs.First.{firstBroken}
 
 -- ---- two tests that both passed
 pub and-left : (a b : Bool) → (a && b) ≡ true → a ≡ true
