@@ -1,4 +1,6 @@
+pub mod Limits
 pub mod All
 pub mod Depth
 pub mod Rows
 pub mod Accept
+pub mod Several
