@@ -1,0 +1,4 @@
+-- What the functions' proofs use and no one function owns, and the laws about the root.
+pub mod Whole
+pub mod Words
+pub mod Doubles

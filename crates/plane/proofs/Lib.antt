@@ -1,0 +1,4 @@
+pub mod All
+pub mod Depth
+pub mod Rows
+pub mod Accept

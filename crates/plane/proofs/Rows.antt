@@ -1,0 +1,75 @@
+-- Where the rows of a plane stand, and what test 6 says of a row that is a part of a slice. Assumes nothing.
+use mathlib.Core.Path.{_≡_, refl, sym, _∙_}
+use mathlib.Core.Bool.{Bool, true, false, not, _&&_}
+use mathlib.Core.List.{List}
+use Prim.Native.Nat.{ℕ, _+_, _*_, _-_, _/_, _^_, _≤_, _<_}
+use native.Mathlib.Nat.{mul-le-mul-right, mul-comm, le-div-iff-mul-le, lt-of-not-le, not-le-of-lt, le-trans}
+use native.Mathlib.Omega.{arith}
+use borrow.Author.Tests.{leb-true, leb-false, le-leb, lt-leb}
+use lib.Dec.{leb}
+use lib.ListN.{length, take, drop, getD, length-drop}
+use lib.Seq.{length-take-le, getD-take, getD-drop}
+use Rattle.plane.specs.Plane.{Plane, planeOf, samplesOf, needed, maxOf}
+use Rattle.plane.specs.Tests.{longEnough, noneAbove, rowSuits, samplesSuit}
+use Rattle.plane.proofs.All.{all-ext, all-true}
+
+-- each row of a plane that is long enough ends inside it
+pub row-inside : (width stride : ℕ) {height n y : ℕ} → needed width height stride ≤ n → y < height → y * stride + width ≤ n
+row-inside width stride {height} {n} {y} long l =
+    let k : y * stride ≤ (height - 1) * stride = mul-le-mul-right stride (omega arith) in
+    omega (arith, k, mul-comm stride (height - 1))
+
+-- and so does each sample
+pub inside : {width height n x y : ℕ} (stride : ℕ) → needed width height stride ≤ n → x < width → y < height → y * stride + x < n
+inside {width} stride long lx ly = omega (arith, row-inside width stride long ly)
+
+-- the samples of either width are as few as a slice can hold
+pub count-fits : (wide : Bool) (bytes words : List ℕ) → length bytes < 2 ^ 64 → length words < 2 ^ 64
+    → length (samplesOf wide bytes words) < 2 ^ 64
+count-fits true bytes words b w = w
+count-fits false bytes words b w = b
+
+-- ---- test 5 by a division
+-- two tests that follow from each other are one
+same-test : (a b c d : ℕ) → (a ≤ b → c ≤ d) → (c ≤ d → a ≤ b) → leb a b ≡ leb c d
+same-test a b c d to from = go (leb a b) refl
+  where
+    go : (t : Bool) → leb a b ≡ t → leb a b ≡ leb c d
+    go true e = e ∙ sym (le-leb c d (to (leb-true a b e)))
+    go false e = e ∙ sym (lt-leb c d (lt-of-not-le (λ l. not-le-of-lt (leb-false a b e) (from l))))
+
+module _ (width height : ℕ) (p : Plane) {n : ℕ} (e : n ≡ length (p .samples)) where
+  pub too-short : n < width → false ≡ longEnough width height p
+  unfolding longEnough
+  too-short l = sym (lt-leb _ (length (p .samples)) (omega arith))
+
+  pub by-division : 1 ≤ p .stride → width ≤ n → leb height ((n - width) / p .stride + 1) ≡ longEnough width height p
+  unfolding longEnough
+  by-division s w =
+      let m = mul-comm (p .stride) (height - 1) in
+      let rows = le-div-iff-mul-le {k = p .stride} {x = height - 1} {y = n - width} s in
+      same-test height ((n - width) / p .stride + 1) (needed width height (p .stride)) (length (p .samples))
+      (λ (l : height ≤ (n - width) / p .stride + 1). omega (arith, rows .0 (omega arith)))
+      (λ (l : needed width height (p .stride) ≤ length (p .samples)). omega (arith, rows .1 (omega arith)))
+
+-- ---- test 6
+-- a row's part of the samples, judged alone
+pub part-suits : (max width : ℕ) (samples : List ℕ) (stride y : ℕ) → y * stride + width ≤ length samples
+    → noneAbove max (take (y * stride + width - y * stride) (drop (y * stride) samples)) ≡ rowSuits max width (planeOf samples stride) y
+unfolding noneAbove rowSuits
+part-suits max width samples stride y h =
+    let row = drop (y * stride) samples in
+    let e : y * stride + width - y * stride ≡ width = omega arith in
+    let l : length (take width row) ≡ width = length-take-le width row (simp length-drop (omega arith)) in
+    rw (e, l)
+    (all-ext _ _ width (λ (x : ℕ) (m : x < width). rw (getD-take width row x 0 m, getD-drop (y * stride) samples x 0)))
+
+-- no byte is above a sample_max of 255, so that bytes need not be read
+pub bytes-suit : (depth width height stride : ℕ) (wide : Bool) (bytes words : List ℕ) {max : ℕ} → ((i : ℕ) → getD bytes i 0 ≤ 255)
+    → max ≡ maxOf depth → (not wide && leb 255 max) ≡ true
+    → samplesSuit depth width height (planeOf (samplesOf wide bytes words) stride) ≡ true
+unfolding samplesSuit rowSuits
+bytes-suit depth width height stride true bytes words small e t = cc
+bytes-suit depth width height stride false bytes words {max} small e t =
+    let top : 255 ≤ maxOf depth = omega (arith, leb-true 255 max t) in
+    all-true _ height (λ (y : ℕ). all-true _ width (λ (x : ℕ). le-leb _ _ (le-trans (small (y * stride + x)) top)))

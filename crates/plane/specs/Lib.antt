@@ -1,0 +1,4 @@
+pub mod Limits
+pub mod Plane
+pub mod Tests
+pub mod Lawful
