@@ -2,3 +2,5 @@
 pub mod Whole
 pub mod Words
 pub mod Doubles
+pub mod Nearest
+pub mod Worked

@@ -195,7 +195,7 @@ pub record Answered (n s : ℕ) : Type 0 where
   pub from : 2 ^ 52 ≤ s
   pub upto : s < 2 ^ 53
 
-near-from : (n s : ℕ) → Scaled n → Near n s → 2 ^ 52 ≤ s
+pub near-from : (n s : ℕ) → Scaled n → Near n s → 2 ^ 52 ≤ s
 near-from n s a c = go (decLt s (2 ^ 52))
   where
     go : Dec (s < 2 ^ 52) → 2 ^ 52 ≤ s
@@ -204,7 +204,7 @@ near-from n s a c = go (decLt s (2 ^ 52))
         let p : s * (s + 1) ≤ (2 ^ 52 - 1) * 2 ^ 52 = mul-le-mul {n₁ = s} {m₁ = s + 1} {n₂ = 2 ^ 52 - 1} {m₂ = 2 ^ 52} (omega arith) (omega arith) in
         absurd (omega (arith, a .least, c .above))
 
-near-upto : (n s : ℕ) → Scaled n → Near n s → s < 2 ^ 53
+pub near-upto : (n s : ℕ) → Scaled n → Near n s → s < 2 ^ 53
 near-upto n s a c = go (decLt s (2 ^ 53))
   where
     go : Dec (s < 2 ^ 53) → s < 2 ^ 53

@@ -2,3 +2,4 @@ pub mod Limits
 pub mod Plane
 pub mod Tests
 pub mod Lawful
+pub mod Sums
