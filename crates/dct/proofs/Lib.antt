@@ -1,2 +1,4 @@
 pub mod Size
 pub mod Trip
+pub mod Blocks
+pub mod Round

@@ -14,14 +14,14 @@ abbrev pub inside : ℕ → List ℤ → Bool
 inside n [] = true
 inside n (a ∷ v) = leb (natAbs a) n && inside n v
 
--- 64 places in, 64 out, every value in range
-unfoldable pub takes : ℕ → List ℤ → List ℤ → Bool
-takes n given out = eqb (length given) blockSize && (eqb (length out) blockSize && inside n given)
+-- 64 places in, 64 places out, every value in range
+unfoldable pub takes : ℕ → List ℤ → ℕ → Bool
+takes n given places = eqb (length given) blockSize && (eqb places blockSize && inside n given)
 
 -- the answer of a call that takes -n to n: 0, or 12
 unfoldable pub answer : ℕ → List ℤ → List ℤ → ℕ
-answer n given out = firstBroken ((valueNo, takes n given out) ∷ [])
+answer n given out = firstBroken ((valueNo, takes n given (length out)) ∷ [])
 
 -- what is in out afterwards: f of what was given, or, refused, what was there
 unfoldable pub later : ℕ → (List ℤ → List ℤ) → List ℤ → List ℤ → List ℤ
-later n f given out = cond (takes n given out) (f given) out
+later n f given out = cond (takes n given (length out)) (f given) out

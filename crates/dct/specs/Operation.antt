@@ -26,6 +26,10 @@ abbrev pub Small : ℕ → List ℤ → Type 0
 Small n [] = Unit {0}
 Small n (a ∷ v) = Within n a × Small n v
 
+-- the sizes that a pass takes: its values then stay within 32 bits
+abbrev pub passLimit : ℕ
+passLimit = 16777216
+
 -- h is 2^(s-1)
 abbrev pub HalfOf : ℤ → ℕ → Type 0
 HalfOf (pos n) s = T (eqb n (2 ^ (s - 1)))

@@ -3,7 +3,7 @@ use crate::lift::{add, down, halved, sub, up};
 
 ghost use mathlib.Core.Path.{_≡_};
 ghost use mathlib.Core.List.{[], _∷_};
-ghost use Rattle.dct.specs.Operation.{Small, vals};
+ghost use Rattle.dct.specs.Operation.{passLimit, Small, vals};
 ghost use Rattle.dct.specs.Steps.{run, steps, undoAll};
 
 // Eight numbers: t0 to t7.
@@ -20,7 +20,7 @@ pub struct T8 {
 
 // The steps, in the order of document 01.
 pub fn forward(t0: i32, t1: i32, t2: i32, t3: i32, t4: i32, t5: i32, t6: i32, t7: i32) -> T8
-    requires { ⌜ Small 16777216 (t0 ∷ t1 ∷ t2 ∷ t3 ∷ t4 ∷ t5 ∷ t6 ∷ t7 ∷ []) ⌝ }
+    requires { ⌜ Small passLimit (t0 ∷ t1 ∷ t2 ∷ t3 ∷ t4 ∷ t5 ∷ t6 ∷ t7 ∷ []) ⌝ }
     ensures { λ r. ⌜ vals r ≡ run steps (t0 ∷ t1 ∷ t2 ∷ t3 ∷ t4 ∷ t5 ∷ t6 ∷ t7 ∷ []) ⌝ }
 {
     let t1 = sub(t0, t1);
@@ -73,7 +73,7 @@ pub fn forward(t0: i32, t1: i32, t2: i32, t3: i32, t4: i32, t5: i32, t6: i32, t7
 
 // The steps undone, from the last to the first.
 pub fn inverse(t0: i32, t1: i32, t2: i32, t3: i32, t4: i32, t5: i32, t6: i32, t7: i32) -> T8
-    requires { ⌜ Small 16777216 (t0 ∷ t1 ∷ t2 ∷ t3 ∷ t4 ∷ t5 ∷ t6 ∷ t7 ∷ []) ⌝ }
+    requires { ⌜ Small passLimit (t0 ∷ t1 ∷ t2 ∷ t3 ∷ t4 ∷ t5 ∷ t6 ∷ t7 ∷ []) ⌝ }
     ensures { λ r. ⌜ vals r ≡ run (undoAll steps) (t0 ∷ t1 ∷ t2 ∷ t3 ∷ t4 ∷ t5 ∷ t6 ∷ t7 ∷ []) ⌝ }
 {
     let t5 = down(t5, t3, 2485, 4096, 13);
