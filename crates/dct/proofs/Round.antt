@@ -110,6 +110,14 @@ pub length-turn⁻¹ : (b : List ℤ) → length (turn⁻¹ b) ≡ 64
 unfolding turn⁻¹ across
 length-turn⁻¹ b = refl
 
+pub length-transform : (b : List ℤ) → length (transform b) ≡ 64
+unfolding transform
+length-transform b = length-turn (turn b)
+
+pub length-transform⁻¹ : (z : List ℤ) → length (transform⁻¹ z) ≡ 64
+unfolding transform⁻¹
+length-transform⁻¹ z = length-turn⁻¹ (turn⁻¹ z)
+
 -- the inverse of the transform's result is the block
 pub undo-transform : (b : List ℤ) → length b ≡ 64 → transform⁻¹ (transform b) ≡ b
 unfolding transform transform⁻¹

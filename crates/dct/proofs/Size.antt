@@ -17,7 +17,7 @@ use mir.Facts.{toZ-ofZ}
 use Rattle.dct.specs.Steps.{half, part}
 use Rattle.dct.specs.Operation.{rd, Is, Within, HalfOf}
 
-cond-ind : (c : Bool) (x y : ℤ) (P : ℤ → Type 0) → (T c → P x) → (T (not c) → P y) → P (cond c x y)
+pub cond-ind : (c : Bool) (x y : ℤ) (P : ℤ → Type 0) → (T c → P x) → (T (not c) → P y) → P (cond c x y)
 cond-ind true x y P f g = f tt
 cond-ind false x y P f g = g tt
 
@@ -62,7 +62,7 @@ answer z n h l = subst (λ (x : ℤ). Is z n x) (sym e) (record { is = e; size =
     e : rd z ≡ z
     e = toZ-ofZ (fits z l)
 
-size-mul : (a b : ℤ) → natAbs (a *ℤ b) ≡ natAbs a * natAbs b
+pub size-mul : (a b : ℤ) → natAbs (a *ℤ b) ≡ natAbs a * natAbs b
 size-mul (pos a) (pos b) = refl
 size-mul (pos a) (negsuc b) = size-neg (pos (a * suc b))
 size-mul (negsuc a) (pos b) = size-neg (pos (suc a * b))

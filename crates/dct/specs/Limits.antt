@@ -12,3 +12,7 @@ forwardLimit = 4095
 -- inverse takes -1,048,575 to 1,048,575
 abbrev pub inverseLimit : ℕ
 inverseLimit = 1048575
+
+-- for what forward takes, no coefficient's size is above this (proofs/Bound.antt, `coefficient-bound`)
+abbrev pub coefficientLimit : ℕ
+coefficientLimit = 32767

@@ -1,7 +1,6 @@
 // Rows and columns of a block, and a pass over each of the eight.
 use crate::pass;
 use crate::pass::T8;
-
 ghost use mathlib.Core.Path.{_≡_};
 ghost use mathlib.Core.List.{_++_};
 ghost use Prim.Native.Nat.{_<_, _≤_};
@@ -161,4 +160,3 @@ pub fn back(out: &mut [i32], x: &[i32])
     unlines(&mut z, x);
     crossed(out, &z);
 }
-

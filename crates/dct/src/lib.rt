@@ -3,8 +3,8 @@ mod block;
 mod lift;
 mod pass;
 
-use crate::block::{back, turn};
-
+use crate::block::back;
+use crate::block::turn;
 ghost use mathlib.Core.Path.{_≡_};
 ghost use Prim.Native.Nat.{_≤_};
 ghost use lib.Dec.{T, leb};
@@ -18,7 +18,9 @@ ghost use Rattle.dct.specs.Call as Call;
 
 // The places of a block, and the largest sizes that the two calls take. specs/Limits.antt has the same for definitions.
 pub const BLOCK_SIZE: usize = 64;
+
 pub const FORWARD_LIMIT: i32 = 4095;
+
 pub const INVERSE_LIMIT: i32 = 1048575;
 
 fn fits(v: i32, limit: i32) -> bool
@@ -88,9 +90,7 @@ fn untransform(coefs: &[i32], out: &mut [i32])
 // The transform of a block into `out`: 0, or 12 and nothing altered.
 pub fn forward(block: &[i32], out: &mut [i32]) -> u8
     ensures answer { λ r. ⌜ r ≡ Call.answer forwardLimit (now (block .entry)) (now (out .entry)) ⌝ }
-    ensures content {
-        λ _. ⌜ now (out .exit) ≡ Call.later forwardLimit Block.transform (now (block .entry)) (now (out .entry)) ⌝
-    }
+    ensures content { λ _. ⌜ now (out .exit) ≡ Call.later forwardLimit Block.transform (now (block .entry)) (now (out .entry)) ⌝ }
 {
     if takes(block, out.len(), FORWARD_LIMIT) {
         transform(block, out);
@@ -102,9 +102,7 @@ pub fn forward(block: &[i32], out: &mut [i32]) -> u8
 // The one block that the transform carries to the coefficients, into `out`: 0, or 12 and nothing altered.
 pub fn inverse(coefs: &[i32], out: &mut [i32]) -> u8
     ensures answer { λ r. ⌜ r ≡ Call.answer inverseLimit (now (coefs .entry)) (now (out .entry)) ⌝ }
-    ensures content {
-        λ _. ⌜ now (out .exit) ≡ Call.later inverseLimit Block.transform⁻¹ (now (coefs .entry)) (now (out .entry)) ⌝
-    }
+    ensures content { λ _. ⌜ now (out .exit) ≡ Call.later inverseLimit Block.transform⁻¹ (now (coefs .entry)) (now (out .entry)) ⌝ }
     ensures carried { λ r. ⌜ (r ≡ 0 → Block.transform (now (out .exit)) ≡ now (coefs .entry)) ⌝ }
 {
     if takes(coefs, out.len(), INVERSE_LIMIT) {

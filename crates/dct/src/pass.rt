@@ -1,6 +1,9 @@
 // One pass over eight numbers, forward and undone.
-use crate::lift::{add, down, halved, sub, up};
-
+use crate::lift::add;
+use crate::lift::down;
+use crate::lift::halved;
+use crate::lift::sub;
+use crate::lift::up;
 ghost use mathlib.Core.Path.{_≡_};
 ghost use mathlib.Core.List.{[], _∷_};
 ghost use Rattle.dct.specs.Operation.{passLimit, Small, vals};

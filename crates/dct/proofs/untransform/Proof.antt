@@ -1,33 +1,35 @@
+-- `untransform` is two turns back; what the first leaves is small enough for the second. Assumes nothing.
+use mathlib.Core.Path.{refl, _∙_, ap}
+use lib.Dec.{lit≤}
 use borrow.Author.Needs.{needs}
+use Rattle.dct.specs.Block.{turn⁻¹, transform⁻¹}
+use Rattle.dct.proofs.Bound.{small-mono, middle-back-small}
 use Rattle.dct.proofs.untransform.Statement.{statement}
 use Rattle.dct.proofs.untransform.Tie as tie
-use Rattle.dct.proofs.untransform.Reads as reads
-use Rattle.dct.proofs.untransform.Lts as lts
-use Rattle.dct.proofs.block.back.Reads as back-reads
 
--- src/lib.rt:84:10
 slice-aggregate-back : tie.Need-slice-aggregate-back
 slice-aggregate-back c = search needs
 
--- src/lib.rt:84:5
 back-requires : tie.Need-back-requires
-back-requires c κs = ?
+back-requires c κs =
+    let s = c .before in
+    (s .pre .0, (refl, small-mono (lit≤ tt) (s .args .coefs .now) (s .pre .1 .1)))
 
--- src/lib.rt:85:15
 slice-aggregate-back-2 : tie.Need-slice-aggregate-back-2
 slice-aggregate-back-2 c = search needs
 
--- src/lib.rt:85:5
 back-requires-2 : tie.Need-back-requires-2
-back-requires-2 c κs = ?
+back-requires-2 c κs =
+    let s = c .before .before .before .before .before in
+    let t = c .before .before .before .back in
+    (t .kept .0, (s .pre .1 .0, rw (t .ensures) (middle-back-small (s .args .coefs .now) (s .pre .1 .1))))
 
--- src/lib.rt:77:1
 same-length : tie.Need-same-length
 same-length c = search needs
 
--- src/lib.rt:77:1
 returns : tie.Need-returns
-returns c = ?
+unfolding transform⁻¹
+returns c = c .before .back2 .ensures ∙ ap turn⁻¹ (c .before .before .before .before .before .back .ensures)
 
 pub untransform-spec : {M : Type 1} → statement M
 untransform-spec =

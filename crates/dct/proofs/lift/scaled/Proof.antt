@@ -70,17 +70,35 @@ shr-result c = omega (arith, high c)
 cast-result-5 : tie.Need-cast-result-5
 unfolding part
 cast-result-5 c =
-    rw
-    (toZ-ofZ (c .fits .a), toZ-ofZ (wide-a c), toZ-ofZ (c .fits .b), toZ-ofZ (wide-b c), toZ-ofZ (prod c), toZ-ofZ (c .fits .h), toZ-ofZ (wide-h c),
-    toZ-ofZ (sum c), h-is c, toZ-ofZ (wide-part c))
+    rw (
+      toZ-ofZ (c .fits .a),
+      toZ-ofZ (wide-a c),
+      toZ-ofZ (c .fits .b),
+      toZ-ofZ (wide-b c),
+      toZ-ofZ (prod c),
+      toZ-ofZ (c .fits .h),
+      toZ-ofZ (wide-h c),
+      toZ-ofZ (sum c),
+      h-is c,
+      toZ-ofZ (wide-part c),
+    )
     (fits (part (c .args .a) (c .args .b) (c .args .s)) (omega (arith, size c)))
 
 returns : tie.Need-returns
 unfolding part
 returns c =
-    rw
-    (toZ-ofZ (c .fits .a), toZ-ofZ (wide-a c), toZ-ofZ (c .fits .b), toZ-ofZ (wide-b c), toZ-ofZ (prod c), toZ-ofZ (c .fits .h), toZ-ofZ (wide-h c),
-    toZ-ofZ (sum c), h-is c, toZ-ofZ (wide-part c))
+    rw (
+      toZ-ofZ (c .fits .a),
+      toZ-ofZ (wide-a c),
+      toZ-ofZ (c .fits .b),
+      toZ-ofZ (wide-b c),
+      toZ-ofZ (prod c),
+      toZ-ofZ (c .fits .h),
+      toZ-ofZ (wide-h c),
+      toZ-ofZ (sum c),
+      h-is c,
+      toZ-ofZ (wide-part c),
+    )
     (answer (part (c .args .a) (c .args .b) (c .args .s)) _ (size c) (omega (arith, size c)))
 
 pub scaled-spec : {M : Type 1} → statement M

@@ -70,21 +70,28 @@ values1 c = rd (c .before .before .before .before .before .before .before .befor
 
 at1 : (c : tie.After-sub6) → values1 c ≡ run steps1 (args (c .before .before .before .before .before .before .before .before .before .before .before .before))
 unfolding steps1 values1 args
-at1 c = simp (c .before .before .before .before .before .before .before .before .before .before .before .sub .ensures .is
-    , c .before .before .before .before .before .before .before .before .before .before .halved .ensures .is
-    , c .before .before .before .before .before .before .before .before .before .sub2 .ensures .is
-    , c .before .before .before .before .before .before .before .before .add .ensures .is, c .before .before .before .before .before .before .before .halved2 .ensures .is
-    , c .before .before .before .before .before .before .sub3 .ensures .is, c .before .before .before .before .before .sub4 .ensures .is
-    , c .before .before .before .before .halved3 .ensures .is, c .before .before .before .sub5 .ensures .is, c .before .before .add2 .ensures .is
-    , c .before .halved4 .ensures .is, c .sub6 .ensures .is
-    , toZ-ofZ (c .before .before .before .before .before .before .before .before .before .before .before .before .fits .t0)
-    , toZ-ofZ (c .before .before .before .before .before .before .before .before .before .before .before .before .fits .t1)
-    , toZ-ofZ (c .before .before .before .before .before .before .before .before .before .before .before .before .fits .t2)
-    , toZ-ofZ (c .before .before .before .before .before .before .before .before .before .before .before .before .fits .t3)
-    , toZ-ofZ (c .before .before .before .before .before .before .before .before .before .before .before .before .fits .t4)
-    , toZ-ofZ (c .before .before .before .before .before .before .before .before .before .before .before .before .fits .t5)
-    , toZ-ofZ (c .before .before .before .before .before .before .before .before .before .before .before .before .fits .t6)
-    , toZ-ofZ (c .before .before .before .before .before .before .before .before .before .before .before .before .fits .t7))
+at1 c = simp (
+  c .before .before .before .before .before .before .before .before .before .before .before .sub .ensures .is,
+  c .before .before .before .before .before .before .before .before .before .before .halved .ensures .is,
+  c .before .before .before .before .before .before .before .before .before .sub2 .ensures .is,
+  c .before .before .before .before .before .before .before .before .add .ensures .is,
+  c .before .before .before .before .before .before .before .halved2 .ensures .is,
+  c .before .before .before .before .before .before .sub3 .ensures .is,
+  c .before .before .before .before .before .sub4 .ensures .is,
+  c .before .before .before .before .halved3 .ensures .is,
+  c .before .before .before .sub5 .ensures .is,
+  c .before .before .add2 .ensures .is,
+  c .before .halved4 .ensures .is,
+  c .sub6 .ensures .is,
+  toZ-ofZ (c .before .before .before .before .before .before .before .before .before .before .before .before .fits .t0),
+  toZ-ofZ (c .before .before .before .before .before .before .before .before .before .before .before .before .fits .t1),
+  toZ-ofZ (c .before .before .before .before .before .before .before .before .before .before .before .before .fits .t2),
+  toZ-ofZ (c .before .before .before .before .before .before .before .before .before .before .before .before .fits .t3),
+  toZ-ofZ (c .before .before .before .before .before .before .before .before .before .before .before .before .fits .t4),
+  toZ-ofZ (c .before .before .before .before .before .before .before .before .before .before .before .before .fits .t5),
+  toZ-ofZ (c .before .before .before .before .before .before .before .before .before .before .before .before .fits .t6),
+  toZ-ofZ (c .before .before .before .before .before .before .before .before .before .before .before .before .fits .t7),
+)
 
 add-requires-3 : tie.Need-add-requires-3
 add-requires-3 c κs = omega (arith, size1 c)
@@ -116,9 +123,14 @@ values2 c = rd (c .before .before .before .add3 .result)
 
 at2 : (c : tie.After-sub9) → values2 c ≡ run steps2 (values1 (c .before .before .before .before))
 unfolding steps2 values2 values1
-at2 c = simp (c .before .before .before .add3 .ensures .is, c .before .before .sub7 .ensures .is, c .before .sub8 .ensures .is, c .sub9 .ensures .is
-    , c .before .before .before .before .before .halved4 .ensures .is
-    , c .before .before .before .before .before .before .before .before .before .before .before .halved2 .ensures .is)
+at2 c = simp (
+  c .before .before .before .add3 .ensures .is,
+  c .before .before .sub7 .ensures .is,
+  c .before .sub8 .ensures .is,
+  c .sub9 .ensures .is,
+  c .before .before .before .before .before .halved4 .ensures .is,
+  c .before .before .before .before .before .before .before .before .before .before .before .halved2 .ensures .is,
+)
 
 down-requires : tie.Need-down-requires
 down-requires c κs = omega (arith, size2 c)
@@ -157,8 +169,14 @@ values3 c = rd (c .before .before .before .down2 .result)
 
 at3 : (c : tie.After-down4) → values3 c ≡ run steps3 (values2 (c .before .before .before .before .before .before))
 unfolding steps3 values3 values2
-at3 c = simp (c .before .before .before .before .before .down .ensures .is, c .before .before .before .before .up .ensures .is
-    , c .before .before .before .down2 .ensures .is, c .before .before .down3 .ensures .is, c .before .up2 .ensures .is, c .down4 .ensures .is)
+at3 c = simp (
+  c .before .before .before .before .before .down .ensures .is,
+  c .before .before .before .before .up .ensures .is,
+  c .before .before .before .down2 .ensures .is,
+  c .before .before .down3 .ensures .is,
+  c .before .up2 .ensures .is,
+  c .down4 .ensures .is,
+)
 
 up-requires-3 : tie.Need-up-requires-3
 up-requires-3 c κs = omega (arith, size3 c)
@@ -196,10 +214,17 @@ values4 c = rd (c .before .before .before .before .before .before .before .befor
 
 at4 : (c : tie.After-sub13) → values4 c ≡ run steps4 (values3 (c .before .before .before .before .before .before .before .before))
 unfolding steps4 values4 values3
-at4 c = simp (c .before .before .before .before .before .before .before .up3 .ensures .is, c .before .before .before .before .before .before .up4 .ensures .is
-    , c .before .before .before .before .before .down5 .ensures .is, c .before .before .before .before .halved5 .ensures .is
-    , c .before .before .before .sub10 .ensures .is, c .before .before .sub11 .ensures .is, c .before .sub12 .ensures .is, c .sub13 .ensures .is
-    , c .before .before .before .before .before .before .before .before .before .before .before .before .before .before .before .before .before .before .before .before .before .before .before .before .before .before .before .before .halved .ensures .is)
+at4 c = simp (
+  c .before .before .before .before .before .before .before .up3 .ensures .is,
+  c .before .before .before .before .before .before .up4 .ensures .is,
+  c .before .before .before .before .before .down5 .ensures .is,
+  c .before .before .before .before .halved5 .ensures .is,
+  c .before .before .before .sub10 .ensures .is,
+  c .before .before .sub11 .ensures .is,
+  c .before .sub12 .ensures .is,
+  c .sub13 .ensures .is,
+  c .before .before .before .before .before .before .before .before .before .before .before .before .before .before .before .before .before .before .before .before .before .before .before .before .before .before .before .before .halved .ensures .is,
+)
 
 up-requires-5 : tie.Need-up-requires-5
 up-requires-5 c κs = omega (arith, size4 c)
@@ -230,8 +255,14 @@ values5 c = rd (c .before .before .before .before .before .before .before .befor
 
 at5 : (c : tie.After-up8) → values5 c ≡ run steps5 (values4 (c .before .before .before .before .before .before))
 unfolding steps5 values5 values4
-at5 c = simp (c .before .before .before .before .before .up5 .ensures .is, c .before .before .before .before .down6 .ensures .is
-    , c .before .before .before .up6 .ensures .is, c .before .before .up7 .ensures .is, c .before .down7 .ensures .is, c .up8 .ensures .is)
+at5 c = simp (
+  c .before .before .before .before .before .up5 .ensures .is,
+  c .before .before .before .before .down6 .ensures .is,
+  c .before .before .before .up6 .ensures .is,
+  c .before .before .up7 .ensures .is,
+  c .before .down7 .ensures .is,
+  c .up8 .ensures .is,
+)
 
 returns : tie.Need-returns
 unfolding values5 args steps

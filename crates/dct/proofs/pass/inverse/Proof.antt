@@ -50,12 +50,22 @@ values1 c = rd (c .before .before .before .before .before .before .args .t0) ∷
 
 at1 : (c : tie.After-down4) → values1 c ≡ run (undoAll steps5) (args (c .before .before .before .before .before .before))
 unfolding steps5 values1 args
-at1 c = simp (c .before .before .before .before .before .down .ensures .is, c .before .before .before .before .up .ensures .is
-    , c .before .before .before .down2 .ensures .is, c .before .before .down3 .ensures .is, c .before .up2 .ensures .is, c .down4 .ensures .is
-    , toZ-ofZ (c .before .before .before .before .before .before .fits .t0), toZ-ofZ (c .before .before .before .before .before .before .fits .t1)
-    , toZ-ofZ (c .before .before .before .before .before .before .fits .t2), toZ-ofZ (c .before .before .before .before .before .before .fits .t3)
-    , toZ-ofZ (c .before .before .before .before .before .before .fits .t4), toZ-ofZ (c .before .before .before .before .before .before .fits .t5)
-    , toZ-ofZ (c .before .before .before .before .before .before .fits .t6), toZ-ofZ (c .before .before .before .before .before .before .fits .t7))
+at1 c = simp (
+  c .before .before .before .before .before .down .ensures .is,
+  c .before .before .before .before .up .ensures .is,
+  c .before .before .before .down2 .ensures .is,
+  c .before .before .down3 .ensures .is,
+  c .before .up2 .ensures .is,
+  c .down4 .ensures .is,
+  toZ-ofZ (c .before .before .before .before .before .before .fits .t0),
+  toZ-ofZ (c .before .before .before .before .before .before .fits .t1),
+  toZ-ofZ (c .before .before .before .before .before .before .fits .t2),
+  toZ-ofZ (c .before .before .before .before .before .before .fits .t3),
+  toZ-ofZ (c .before .before .before .before .before .before .fits .t4),
+  toZ-ofZ (c .before .before .before .before .before .before .fits .t5),
+  toZ-ofZ (c .before .before .before .before .before .before .fits .t6),
+  toZ-ofZ (c .before .before .before .before .before .before .fits .t7),
+)
 
 add-requires : tie.Need-add-requires
 add-requires c κs = omega (arith, size1 c)
@@ -106,10 +116,17 @@ values2 c = rd (c .before .before .before .before .before .before .before .befor
 
 at2 : (c : tie.After-down6) → values2 c ≡ run (undoAll steps4) (values1 (c .before .before .before .before .before .before .before .before .before))
 unfolding steps4 values2 values1
-at2 c = simp (c .before .before .before .before .before .before .before .before .add .ensures .is
-    , c .before .before .before .before .before .before .before .halved .ensures .is, c .before .before .before .before .before .before .sub .ensures .is
-    , c .before .before .before .before .before .add2 .ensures .is, c .before .before .before .before .halved2 .ensures .is, c .before .before .before .sub2 .ensures .is
-    , c .before .before .up3 .ensures .is, c .before .down5 .ensures .is, c .down6 .ensures .is)
+at2 c = simp (
+  c .before .before .before .before .before .before .before .before .add .ensures .is,
+  c .before .before .before .before .before .before .before .halved .ensures .is,
+  c .before .before .before .before .before .before .sub .ensures .is,
+  c .before .before .before .before .before .add2 .ensures .is,
+  c .before .before .before .before .halved2 .ensures .is,
+  c .before .before .before .sub2 .ensures .is,
+  c .before .before .up3 .ensures .is,
+  c .before .down5 .ensures .is,
+  c .down6 .ensures .is,
+)
 
 up-requires-4 : tie.Need-up-requires-4
 up-requires-4 c κs = omega (arith, size2 c)
@@ -147,8 +164,14 @@ values3 c = rd (c .up7 .result) ∷ rd (c .before .before .before .before .befor
 
 at3 : (c : tie.After-up7) → values3 c ≡ run (undoAll steps3) (values2 (c .before .before .before .before .before .before))
 unfolding steps3 values3 values2
-at3 c = simp (c .before .before .before .before .before .up4 .ensures .is, c .before .before .before .before .down7 .ensures .is
-    , c .before .before .before .up5 .ensures .is, c .before .before .up6 .ensures .is, c .before .down8 .ensures .is, c .up7 .ensures .is)
+at3 c = simp (
+  c .before .before .before .before .before .up4 .ensures .is,
+  c .before .before .before .before .down7 .ensures .is,
+  c .before .before .before .up5 .ensures .is,
+  c .before .before .up6 .ensures .is,
+  c .before .down8 .ensures .is,
+  c .up7 .ensures .is,
+)
 
 sub-requires-3 : tie.Need-sub-requires-3
 sub-requires-3 c κs = omega (arith, size3 c)
@@ -189,8 +212,14 @@ values4 c = rd (c .sub6 .result)
 
 at4 : (c : tie.After-sub6) → values4 c ≡ run (undoAll steps2) (values3 (c .before .before .before .before .before .before))
 unfolding steps2 values4 values3
-at4 c = simp (c .before .before .before .before .before .sub3 .ensures .is, c .before .before .before .before .halved3 .ensures .is
-    , c .before .before .before .sub4 .ensures .is, c .before .before .sub5 .ensures .is, c .before .halved4 .ensures .is, c .sub6 .ensures .is)
+at4 c = simp (
+  c .before .before .before .before .before .sub3 .ensures .is,
+  c .before .before .before .before .halved3 .ensures .is,
+  c .before .before .before .sub4 .ensures .is,
+  c .before .before .sub5 .ensures .is,
+  c .before .halved4 .ensures .is,
+  c .sub6 .ensures .is,
+)
 
 sub-requires-7 : tie.Need-sub-requires-7
 sub-requires-7 c κs = omega (arith, size4 c)
@@ -227,13 +256,20 @@ values5 c = rd (c .before .add5 .result) ∷ rd (c .sub11 .result) ∷ rd (c .be
 
 at5 : (c : tie.After-sub11) → values5 c ≡ run (undoAll steps1) (values4 (c .before .before .before .before .before .before .before .before .before))
 unfolding steps1 values5 values4
-at5 c = simp (c .before .before .before .before .before .before .before .before .sub7 .ensures .is
-    , c .before .before .before .before .before .before .before .sub8 .ensures .is, c .before .before .before .before .before .before .halved5 .ensures .is
-    , c .before .before .before .before .before .add3 .ensures .is, c .before .before .before .before .sub9 .ensures .is, c .before .before .before .add4 .ensures .is
-    , c .before .before .sub10 .ensures .is, c .before .add5 .ensures .is, c .sub11 .ensures .is
-    , c .before .before .before .before .before .before .before .before .before .before .halved4 .ensures .is
-    , c .before .before .before .before .before .before .before .before .before .before .before .before .before .halved3 .ensures .is
-    , c .before .before .before .before .before .before .before .before .before .before .before .before .before .before .before .before .before .before .before .before .before .before .before .before .before .before .before .before .halved .ensures .is)
+at5 c = simp (
+  c .before .before .before .before .before .before .before .before .sub7 .ensures .is,
+  c .before .before .before .before .before .before .before .sub8 .ensures .is,
+  c .before .before .before .before .before .before .halved5 .ensures .is,
+  c .before .before .before .before .before .add3 .ensures .is,
+  c .before .before .before .before .sub9 .ensures .is,
+  c .before .before .before .add4 .ensures .is,
+  c .before .before .sub10 .ensures .is,
+  c .before .add5 .ensures .is,
+  c .sub11 .ensures .is,
+  c .before .before .before .before .before .before .before .before .before .before .halved4 .ensures .is,
+  c .before .before .before .before .before .before .before .before .before .before .before .before .before .halved3 .ensures .is,
+  c .before .before .before .before .before .before .before .before .before .before .before .before .before .before .before .before .before .before .before .before .before .before .before .before .before .before .before .before .halved .ensures .is,
+)
 
 returns : tie.Need-returns
 unfolding values5 args steps
