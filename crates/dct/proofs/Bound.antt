@@ -6,7 +6,7 @@ use native.Mathlib.Nat.{le-refl, le-trans}
 use lib.Dec.{T, leb, leb→le}
 use lib.IntN.{ℤ}
 use Rattle.dct.specs.Limits.{forwardLimit, inverseLimit, coefficientLimit}
-use Rattle.dct.specs.Operation.{Small, passLimit}
+use Rattle.dct.specs.Operation.{Small, passLimit, undoneLimit}
 use Rattle.dct.specs.Steps.{run, steps, undoAll}
 use Rattle.dct.specs.Block.{line, line⁻¹, places, places⁻¹, column, row, rows, turn, across, turn⁻¹, transform}
 use Rattle.dct.proofs.Forms.{reach, reached, computed}
@@ -58,8 +58,8 @@ module _ (n m : ℕ) (l : reach 8 (undoAll steps) n ≤ m) where
 pub middle-small : (b : List ℤ) → Small forwardLimit b → Small passLimit (turn b)
 middle-small = turn-small forwardLimit passLimit (leb→le _ passLimit (computed .middle))
 
-pub middle-back-small : (z : List ℤ) → Small inverseLimit z → Small passLimit (turn⁻¹ z)
-middle-back-small = turn⁻¹-small inverseLimit passLimit (leb→le _ passLimit (computed .middle-back))
+pub middle-back-small : (z : List ℤ) → Small inverseLimit z → Small undoneLimit (turn⁻¹ z)
+middle-back-small = turn⁻¹-small inverseLimit undoneLimit (leb→le _ undoneLimit (computed .middle-back))
 
 -- every coefficient of a block that forward takes
 pub coefficient-bound : (b : List ℤ) → Small forwardLimit b → Small coefficientLimit (transform b)

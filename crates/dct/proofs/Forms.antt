@@ -1,8 +1,8 @@
 -- How far a list of steps can carry eight numbers. Each rounding leaves a rest of known size. So after any steps a place, times a common
 -- denominator, is a sum of multiples of the eight numbers and of the rests. The multiples are computed; this file shows that they bound the
 -- place. Assumes nothing.
-use mathlib.Core.Path.{_≡_, refl, sym, ap, ap₂, _∙_}
-use mathlib.Core.List.{List, [], _∷_}
+use mathlib.Core.Path.{_≡_, refl, sym, ap, ap₂, _∙_, subst}
+use mathlib.Core.List.{List, [], _∷_, _++_}
 use Prim.Native.Nat.{ℕ, zero, suc, _+_, _-_, _*_, _/_, _%_, _^_, _≤_, _<_, zero-le, max}
 use native.Mathlib.Nat.{le-trans, le-max-left, le-max-right, mul-le-mul-left, mul-comm, mul-suc, mul-pos, le-div-iff-mul-le, div-add-mod, mod-lt, pow-suc}
 use native.Mathlib.Numerals.{sub-one}
@@ -10,11 +10,11 @@ use native.Mathlib.Omega.{arith}
 use lib.Dec.{T, leb, ltb, ltb→lt, lit≤}
 use lib.Pow.{pow-pos}
 use lib.IntN.{ℤ, pos, negsuc, negℤ, natAbs, _+ℤ_, _-ℤ_, _*ℤ_, +ℤ-assoc, +ℤ-comm, +ℤ-idl, +ℤ-idr, +ℤ-negℤ-cancel, zero-*ℤ, *ℤ-zero, *ℤ-comm, negℤ-+ℤ}
-use lib.ListN.{length, getD, set, replicate}
+use lib.ListN.{length, getD, set, take, drop, replicate}
 use lib.Signed.{shrZ}
 use borrow.Author.Tests.{lt-ltb}
 use Rattle.dct.specs.Limits.{forwardLimit, inverseLimit, coefficientLimit}
-use Rattle.dct.specs.Operation.{Small, passLimit}
+use Rattle.dct.specs.Operation.{Small, passLimit, undoneLimit}
 use Rattle.dct.specs.Steps.{Of, whole, halved, times, of, half, part, Step, plus, less, from, step, run, undoAll, steps, steps1, steps2, steps3, steps4, steps5}
 use Rattle.dct.proofs.Size.{cond-ind, size-add, size-mul, size-neg}
 use Rattle.dct.proofs.Ring.{exchange, plus-times, times-plus, neg-times, times-neg, times-assoc, times-swap}
@@ -50,7 +50,7 @@ dot-join (a ∷ c) (b ∷ d) (y ∷ x) =
     ap₂ (λ (p q : ℤ). p +ℤ q) (plus-times b y a) (dot-join c d x) ∙ exchange (a *ℤ y) (b *ℤ y) (dot c x) (dot d x)
 
 -- the size of each number of x is at most that of gs
-Under : List ℕ → List ℤ → Type 0
+abbrev pub Under : List ℕ → List ℤ → Type 0
 Under gs [] = Unit {0}
 Under [] (a ∷ x) = ⊥
 Under (g ∷ gs) (a ∷ x) = (natAbs a ≤ g) × Under gs x
@@ -61,7 +61,7 @@ weigh [] (a ∷ c) = 0
 weigh (g ∷ gs) (a ∷ c) = natAbs a * g + weigh gs c
 
 dot-size : (gs : List ℕ) (c x : List ℤ) → Under gs x → natAbs (dot c x) ≤ weigh gs c
-unfolding dot Under weigh
+unfolding dot weigh
 dot-size gs [] x h = zero-le
 dot-size gs (a ∷ c) [] h = zero-le
 dot-size [] (a ∷ c) (b ∷ x) h = absurd h
@@ -298,7 +298,7 @@ after (t ∷ ts) s = after ts (advance t s)
 
 wrote : (i j : ℕ) (f : Of) (u w : ℤ) (s : State) (v : List ℤ) (a : ℤ) → Holds s v
     → Lifted (den f) u w (slack f) (getD v i (pos 0)) (getD v j (pos 0)) a → Holds (write i j f u w s) (set v i a)
-unfolding write Under
+unfolding write
 wrote i j f u w s v a h l =
     let x = h .numbers in
     let at : (k : ℕ) → Form (s .unit) (getD (s .places) k []) x (getD v k (pos 0)) = λ k. forms-at (s .unit) (s .places) x v k (h .forms) in
@@ -343,19 +343,16 @@ form-size d gs c x v p h f =
     let e : natAbs v * d ≡ natAbs (dot c x) = mul-comm (natAbs v) d ∙ sym (size-mul (pos d) v) ∙ ap natAbs f in
     le-div-iff-mul-le p .1 (omega (arith, dot-size gs c x h))
 
-most : List ℕ → ℕ → List (List ℤ) → ℕ
-most gs d [] = 0
-most gs d (c ∷ cs) = max (weigh gs c / d) (most gs d cs)
+sizes-of : List ℕ → ℕ → List (List ℤ) → List ℕ
+sizes-of gs d [] = []
+sizes-of gs d (c ∷ cs) = weigh gs c / d ∷ sizes-of gs d cs
 
-forms-size : (d m : ℕ) (gs : List ℕ) (cs : List (List ℤ)) (x v : List ℤ) → 0 < d → Under gs x → most gs d cs ≤ m → Forms d cs x v → Small m v
-unfolding most Forms
-forms-size d m gs [] x [] p h l f = tt
-forms-size d m gs [] x (a ∷ v) p h l f = absurd f
-forms-size d m gs (c ∷ cs) x [] p h l f = absurd f
-forms-size d m gs (c ∷ cs) x (a ∷ v) p h l f = (
-  record { le = le-trans (form-size d gs c x a p h (f .0)) (le-trans (le-max-left (weigh gs c / d) (most gs d cs)) l) },
-  forms-size d m gs cs x v p h (le-trans (le-max-right (weigh gs c / d) (most gs d cs)) l) (f .1),
-)
+forms-size : (d : ℕ) (gs : List ℕ) (cs : List (List ℤ)) (x v : List ℤ) → 0 < d → Under gs x → Forms d cs x v → Under (sizes-of gs d cs) v
+unfolding sizes-of Forms
+forms-size d gs [] x [] p h f = tt
+forms-size d gs [] x (a ∷ v) p h f = absurd f
+forms-size d gs (c ∷ cs) x [] p h f = absurd f
+forms-size d gs (c ∷ cs) x (a ∷ v) p h f = (form-size d gs c x a p h (f .0), forms-size d gs cs x v p h (f .1))
 
 -- before any step each place is the number that it holds
 singles : ℕ → List (List ℤ)
@@ -371,28 +368,60 @@ forms-start [] = tt
 forms-start (a ∷ x) = (sym (+ℤ-idr (pos 1 *ℤ a)), forms-stretch 1 1 a (singles (length x)) x x (forms-start x))
 
 under-start : (n : ℕ) (x : List ℤ) → Small n x → Under (replicate (length x) n) x
-unfolding Under
 under-start n [] h = tt
 under-start n (a ∷ x) h = (h .0 .le, under-start n x (h .1))
 
--- the largest size that k numbers of size at most n can have after the steps
-pub reach : ℕ → List Step → ℕ → ℕ
-reach k ts n = let s = after ts (start k n) in most (s .sizes) (s .unit) (s .places)
+-- the largest size that each of k places can have after the steps, if no number's size is above n
+pub bounds : ℕ → List Step → ℕ → List ℕ
+bounds k ts n = let s = after ts (start k n) in sizes-of (s .sizes) (s .unit) (s .places)
 
-pub reached : (ts : List Step) (n m : ℕ) (x : List ℤ) → reach (length x) ts n ≤ m → Small n x → Small m (run ts x)
-unfolding reach start
-reached ts n m x l h =
+pub bounded : (ts : List Step) (n : ℕ) (x : List ℤ) → Small n x → Under (bounds (length x) ts n) (run ts x)
+unfolding bounds start
+bounded ts n x h =
     let s = start (length x) n in
     let g = held ts s x (record { numbers = x; under = under-start n x h; forms = forms-start x }) in
-    forms-size (after ts s .unit) m (after ts s .sizes) (after ts s .places) (g .numbers) (run ts x) (positive ts s (lit≤ tt)) (g .under) l (g .forms)
+    forms-size (after ts s .unit) (after ts s .sizes) (after ts s .places) (g .numbers) (run ts x) (positive ts s (lit≤ tt)) (g .under) (g .forms)
+
+pub sized : (ts : List Step) (n : ℕ) (gs : List ℕ) (x v : List ℤ) → bounds (length x) ts n ≡ gs → v ≡ run ts x → Small n x → Under gs v
+sized ts n gs x v e w h =
+    subst (λ (l : List ℤ). Under gs l) (sym w) (subst (λ (l : List ℕ). Under l (run ts x)) e (bounded ts n x h))
+
+-- and the largest of them
+largest : List ℕ → ℕ
+largest [] = 0
+largest (g ∷ gs) = max g (largest gs)
+
+under-small : (m : ℕ) (gs : List ℕ) (v : List ℤ) → largest gs ≤ m → Under gs v → Small m v
+unfolding largest
+under-small m gs [] l h = tt
+under-small m [] (a ∷ v) l h = absurd h
+under-small m (g ∷ gs) (a ∷ v) l h = (
+  record { le = le-trans (h .0) (le-trans (le-max-left g (largest gs)) l) },
+  under-small m gs v (le-trans (le-max-right g (largest gs)) l) (h .1),
+)
+
+pub reach : ℕ → List Step → ℕ → ℕ
+reach k ts n = largest (bounds k ts n)
+
+pub reached : (ts : List Step) (n m : ℕ) (x : List ℤ) → reach (length x) ts n ≤ m → Small n x → Small m (run ts x)
+unfolding reach
+reached ts n m x l h = under-small m (bounds (length x) ts n) (run ts x) l (bounded ts n x h)
 
 -- what is computed: the sizes after one pass and after two, for what the calls take
 pub record Computed : Type 0 where
   pub middle : T (leb (reach 8 steps forwardLimit) passLimit)
   pub coefficients : T (leb (reach 8 steps (reach 8 steps forwardLimit)) coefficientLimit)
   pub returned : T (leb coefficientLimit inverseLimit)
-  pub middle-back : T (leb (reach 8 (undoAll steps) inverseLimit) passLimit)
+  pub middle-back : T (leb (reach 8 (undoAll steps) inverseLimit) undoneLimit)
 
 pub computed : Computed
-unfolding reach most weigh after advance write stretch scale join den num slack start singles steps steps1 steps2 steps3 steps4 steps5
+unfolding reach largest bounds sizes-of weigh after advance write stretch scale join den num slack start singles steps steps1 steps2 steps3 steps4 steps5
 computed = record { middle = tt; coefficients = tt; returned = tt; middle-back = tt }
+
+-- within a pass, where a product would else not be known to fit 32 bits
+pub pass-sizes :
+    (bounds 8 (steps1 ++ steps2) passLimit ≡ 46341 ∷ 46340 ∷ 46341 ∷ 46340 ∷ 46341 ∷ 23170 ∷ 46341 ∷ 23170 ∷ [])
+    × (bounds 8 ((steps1 ++ steps2) ++ take 5 steps3) passLimit ≡ 65537 ∷ 46340 ∷ 60548 ∷ 46340 ∷ 65536 ∷ 23170 ∷ 77305 ∷ 23170 ∷ [])
+    × (bounds 8 ((((steps1 ++ steps2) ++ take 5 steps3) ++ drop 5 steps3) ++ steps4) passLimit ≡ 65537 ∷ 55939 ∷ 60548 ∷ 55939 ∷ 65536 ∷ 55938 ∷ 60547 ∷ 55938 ∷ [])
+unfolding bounds sizes-of weigh after advance write stretch scale join den num slack start singles steps steps1 steps2 steps3 steps4 steps5
+pass-sizes = (refl, refl, refl)

@@ -129,14 +129,6 @@ undoAll-twice : (ss : List Step) → undoAll (undoAll ss) ≡ ss
 undoAll-twice [] = refl
 undoAll-twice (s ∷ ss) = undo-append (undoAll ss) (undo s ∷ []) ∙ ap₂ (λ (a : Step) (l : List Step). a ∷ l) (undo-twice s) (undoAll-twice ss)
 
--- the paragraphs one after the other, and undone in the other order
-pub in-stages : (a b c d e : List Step) (v : List ℤ) → run (a ++ (b ++ (c ++ (d ++ e)))) v ≡ run e (run d (run c (run b (run a v))))
-in-stages a b c d e v = simp run-append
-
-pub in-stages-back : (a b c d e : List Step) (v : List ℤ)
-    → run (undoAll (a ++ (b ++ (c ++ (d ++ e))))) v ≡ run (undoAll a) (run (undoAll b) (run (undoAll c) (run (undoAll d) (run (undoAll e) v))))
-in-stages-back a b c d e v = simp (undo-append, run-append)
-
 pub there-and-back : (v : List ℤ) → length v ≡ 8 → run (undoAll steps) (run steps v) ≡ v
 there-and-back v e = undone steps v (subst (λ (n : ℕ). AllApart n steps) (sym e) steps-apart)
 

@@ -26,9 +26,13 @@ abbrev pub Small : ℕ → List ℤ → Type 0
 Small n [] = Unit {0}
 Small n (a ∷ v) = Within n a × Small n v
 
--- the sizes that a pass takes: its values then stay within 32 bits
+-- the sizes that a pass takes: its products then stay within 32 bits
 abbrev pub passLimit : ℕ
-passLimit = 16777216
+passLimit = 23170
+
+-- the sizes that a pass undone takes: its values then stay within 32 bits
+abbrev pub undoneLimit : ℕ
+undoneLimit = 16777216
 
 -- h is 2^(s-1)
 abbrev pub HalfOf : ℤ → ℕ → Type 0

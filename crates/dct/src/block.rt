@@ -7,7 +7,7 @@ ghost use Prim.Native.Nat.{_<_, _≤_};
 ghost use lib.ListN.{length, drop};
 ghost use Rattle.dct.specs.Limits.{blockSize};
 ghost use Rattle.dct.specs.Block as Block;
-ghost use Rattle.dct.specs.Operation.{passLimit, Small, vals};
+ghost use Rattle.dct.specs.Operation.{passLimit, undoneLimit, Small, vals};
 
 // Eight numbers to the front of a part; a column, and a row, of a block.
 pub fn store(out: &mut [i32], r: T8)
@@ -98,7 +98,7 @@ pub fn unline(out: &mut [i32], x: &[i32], i: usize)
     requires { ⌜ i < 8 ⌝ }
     requires { ⌜ length (now x) ≡ blockSize ⌝ }
     requires { ⌜ 8 ≤ length (now out) ⌝ }
-    requires { ⌜ Small passLimit (Block.row i (now x)) ⌝ }
+    requires { ⌜ Small undoneLimit (Block.row i (now x)) ⌝ }
     ensures { λ _. ⌜ now (out .exit) ≡ Block.line⁻¹ (Block.row i (now (x .entry))) ++ drop 8 (now (out .entry)) ⌝ }
 {
     let a = row(x, i);
@@ -130,7 +130,7 @@ pub fn cross(out: &mut [i32], x: &[i32], i: usize)
 pub fn unlines(out: &mut [i32], x: &[i32])
     requires { ⌜ length (now x) ≡ blockSize ⌝ }
     requires { ⌜ length (now out) ≡ blockSize ⌝ }
-    requires { ⌜ Small passLimit (now x) ⌝ }
+    requires { ⌜ Small undoneLimit (now x) ⌝ }
     ensures { λ _. ⌜ now (out .exit) ≡ Block.rows (λ i. Block.line⁻¹ (Block.row i (now (x .entry)))) 8 ⌝ }
 {
     for i in 0..8 {
@@ -153,7 +153,7 @@ pub fn crossed(out: &mut [i32], x: &[i32])
 pub fn back(out: &mut [i32], x: &[i32])
     requires { ⌜ length (now x) ≡ blockSize ⌝ }
     requires { ⌜ length (now out) ≡ blockSize ⌝ }
-    requires { ⌜ Small passLimit (now x) ⌝ }
+    requires { ⌜ Small undoneLimit (now x) ⌝ }
     ensures { λ _. ⌜ now (out .exit) ≡ Block.turn⁻¹ (now (x .entry)) ⌝ }
 {
     let mut z = [0i32; 64];

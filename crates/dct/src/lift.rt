@@ -1,5 +1,5 @@
 // The operations of a pass. Each gives the exact result, and a bound on its size that linear arithmetic can follow (`Is`).
-ghost use Prim.Native.Nat.{_+_, _/_, _^_, _<_};
+ghost use Prim.Native.Nat.{_+_, _*_, _/_, _^_, _<_};
 ghost use lib.IntN.{_+ℤ_, _-ℤ_, natAbs};
 ghost use Rattle.dct.specs.Steps.{half, part};
 ghost use Rattle.dct.specs.Operation.{Is, Scale};
@@ -25,18 +25,20 @@ pub fn halved(a: i32) -> i32
     a / 2
 }
 
-// [a b s]: (a * b + h) >> s, with h = 2^(s-1). The inverse's products need 37 bits.
+// [a b s]: (a * b + h) >> s, with h = 2^(s-1), where the product is known to fit.
 pub fn scaled(a: i32, b: i32, h: i32, s: u32) -> i32
     requires { ⌜ natAbs a < 2 ^ 31 ⌝ }
+    requires { ⌜ natAbs a * natAbs b + natAbs h < 2 ^ 31 ⌝ }
     requires { ⌜ Scale b h s ⌝ }
     ensures { λ r. ⌜ Is (part a b s) (natAbs a) r ⌝ }
 {
-    ((a as i64 * b as i64 + h as i64) >> s) as i32
+    (a * b + h) >> s
 }
 
 // x + [y b s]
 pub fn up(x: i32, y: i32, b: i32, h: i32, s: u32) -> i32
     requires { ⌜ natAbs x + natAbs y < 2 ^ 31 ⌝ }
+    requires { ⌜ natAbs y * natAbs b + natAbs h < 2 ^ 31 ⌝ }
     requires { ⌜ Scale b h s ⌝ }
     ensures { λ r. ⌜ Is (x +ℤ part y b s) (natAbs x + natAbs y) r ⌝ }
 {
@@ -46,8 +48,34 @@ pub fn up(x: i32, y: i32, b: i32, h: i32, s: u32) -> i32
 // x - [y b s]
 pub fn down(x: i32, y: i32, b: i32, h: i32, s: u32) -> i32
     requires { ⌜ natAbs x + natAbs y < 2 ^ 31 ⌝ }
+    requires { ⌜ natAbs y * natAbs b + natAbs h < 2 ^ 31 ⌝ }
     requires { ⌜ Scale b h s ⌝ }
     ensures { λ r. ⌜ Is (x -ℤ part y b s) (natAbs x + natAbs y) r ⌝ }
 {
     sub(x, scaled(y, b, h, s))
+}
+
+// The same three for the inverse, whose products need 37 bits.
+pub fn scaled_wide(a: i32, b: i32, h: i32, s: u32) -> i32
+    requires { ⌜ natAbs a < 2 ^ 31 ⌝ }
+    requires { ⌜ Scale b h s ⌝ }
+    ensures { λ r. ⌜ Is (part a b s) (natAbs a) r ⌝ }
+{
+    ((a as i64 * b as i64 + h as i64) >> s) as i32
+}
+
+pub fn up_wide(x: i32, y: i32, b: i32, h: i32, s: u32) -> i32
+    requires { ⌜ natAbs x + natAbs y < 2 ^ 31 ⌝ }
+    requires { ⌜ Scale b h s ⌝ }
+    ensures { λ r. ⌜ Is (x +ℤ part y b s) (natAbs x + natAbs y) r ⌝ }
+{
+    add(x, scaled_wide(y, b, h, s))
+}
+
+pub fn down_wide(x: i32, y: i32, b: i32, h: i32, s: u32) -> i32
+    requires { ⌜ natAbs x + natAbs y < 2 ^ 31 ⌝ }
+    requires { ⌜ Scale b h s ⌝ }
+    ensures { λ r. ⌜ Is (x -ℤ part y b s) (natAbs x + natAbs y) r ⌝ }
+{
+    sub(x, scaled_wide(y, b, h, s))
 }

@@ -3,7 +3,7 @@ use mathlib.Core.List.{List, _++_}
 use lib.IntN.{ℤ}
 use lib.ListN.{drop}
 use borrow.Author.Needs.{needs}
-use Rattle.dct.specs.Operation.{passLimit, Small}
+use Rattle.dct.specs.Operation.{undoneLimit, Small}
 use Rattle.dct.specs.Steps.{run, undoAll, steps}
 use Rattle.dct.specs.Block.{line⁻¹, places⁻¹}
 use Rattle.dct.proofs.Size.{read, whole8}
@@ -20,7 +20,7 @@ row-requires c κs = search needs
 
 inverse-requires : tie.Need-inverse-requires
 inverse-requires c κs =
-    let w = subst (Small passLimit) (sym (c .before .before .before .before .before .before .before .before .row .ensures)) (c .before .before .before .before .before .before .before .before .before .pre .1 .1 .1) in
+    let w = subst (Small undoneLimit) (sym (c .before .before .before .before .before .before .before .before .row .ensures)) (c .before .before .before .before .before .before .before .before .before .pre .1 .1 .1) in
     (read (w .0), (read (w .1 .0), (read (w .1 .1 .0), (read (w .1 .1 .1 .0), (read (w .1 .1 .1 .1 .0), (read (w .1 .1 .1 .1 .1 .0), (read (w .1 .1 .1 .1 .1 .1 .0), (read (w .1 .1 .1 .1 .1 .1 .1 .0), tt))))))))
 
 store-requires : tie.Need-store-requires

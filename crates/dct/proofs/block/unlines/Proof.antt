@@ -8,7 +8,7 @@ use borrow.Rule.Slice.PartMut.{putMid, same-len-mid}
 use Rattle.dct.proofs.Blocks.{small-row, rows-more, rows-all}
 use Rattle.dct.proofs.Round.{length-back}
 use Rattle.dct.specs.Block.{line⁻¹, row, rows}
-use Rattle.dct.specs.Operation.{passLimit}
+use Rattle.dct.specs.Operation.{undoneLimit}
 use Rattle.dct.proofs.block.unlines.Statement.{statement}
 use Rattle.dct.proofs.block.unlines.Tie as tie
 use Rattle.dct.proofs.block.unlines.Reads as reads
@@ -42,7 +42,7 @@ part-unline-end c = omega arith
 unline-requires : tie.Need-unline-requires Inv-loop μ-loop
 unline-requires c κs =
     let s = c .before .before .before in
-    (omega arith, (s .pre .0, (simp (length-take, length-drop) (omega arith), small-row passLimit (s .args .x .now) (s .pre .1 .1) (c .before .before .loop .i))))
+    (omega arith, (s .pre .0, (simp (length-take, length-drop) (omega arith), small-row undoneLimit (s .args .x .now) (s .pre .1 .1) (c .before .before .loop .i))))
 
 add-i : tie.Need-add-i Inv-loop μ-loop
 add-i c = omega arith
