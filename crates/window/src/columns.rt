@@ -25,11 +25,7 @@ pub fn past(n: usize, x: usize, side: usize) -> usize
     ensures { λ r. ⌜ r ≡ n - (x + n / 2 + 1 - side) ⌝ }
 {
     let reach = x + n / 2 + 1;
-    if side < reach {
-        n - (reach - side)
-    } else {
-        n
-    }
+    if side < reach { n - (reach - side) } else { n }
 }
 
 // The sample at row r and column c of each width, wider.
@@ -213,7 +209,18 @@ pub fn fill(
 {
     for x in 0..width {
         let t = column(
-            kernel, a8, a16, b8, b16, wide, stride_a, stride_b, width, height, x, y,
+            kernel,
+            a8,
+            a16,
+            b8,
+            b16,
+            wide,
+            stride_a,
+            stride_b,
+            width,
+            height,
+            x,
+            y,
         );
         put(cols, 5 * x, t);
     }

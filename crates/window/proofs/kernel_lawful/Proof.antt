@@ -33,7 +33,7 @@ returns : tie.Need-returns
 unfolding lawful lentTotal
 returns c =
     let odd = sym (c .before .before .before .before .before .before .before .before .odd-count .ensures)
-        ∙ c .before .before .before .before .before .before .before .if1 .taken in
+    ∙ c .before .before .before .before .before .before .before .if1 .taken in
     let suit = sym (c .before .before .before .before .before .before .taps-suit .ensures) ∙ c .before .before .before .before .before .if2 .taken in
     let sum = sym (c .before .before .before .before .sums-to .ensures) ∙ c .before .before .before .if3 .taken in
     let same = sym (c .before .before .is-mirrored .ensures) ∙ c .before .if4 .taken in
@@ -43,7 +43,7 @@ returns-2 : tie.Need-returns-2
 unfolding lawful lentTotal
 returns-2 c =
     let odd = sym (c .before .before .before .before .before .before .before .odd-count .ensures)
-        ∙ c .before .before .before .before .before .before .if1 .taken in
+    ∙ c .before .before .before .before .before .before .if1 .taken in
     let suit = sym (c .before .before .before .before .before .taps-suit .ensures) ∙ c .before .before .before .before .if2 .taken in
     let sum = sym (c .before .before .before .sums-to .ensures) ∙ c .before .before .if3 .taken in
     rw (odd, suit, sum, ← (c .before .is-mirrored .ensures), c .if4 .left)

@@ -73,13 +73,12 @@ loop-less : tie.Need-loop-less Inv-loop μ-loop
 loop-less c = search needs
 
 loop-again : tie.Need-loop-again Inv-loop μ-loop
-loop-again c =
-    (
-      omega arith,
-      omega arith,
-      rw (c .tapped .ensures, c .before .sample82 .ensures, c .before .before .sample8 .ensures, c .before .before .before .before .before .loop .inv .2)
-          (sym (parts-more _ _ _ _ _ (omega arith) (omega arith))),
-    )
+loop-again c = (
+  omega arith,
+  omega arith,
+  rw (c .tapped .ensures, c .before .sample82 .ensures, c .before .before .sample8 .ensures, c .before .before .before .before .before .loop .inv .2)
+      (sym (parts-more _ _ _ _ _ (omega arith) (omega arith))),
+)
 
 returns : tie.Need-returns Inv-loop μ-loop
 returns c =

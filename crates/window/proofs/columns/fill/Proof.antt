@@ -18,7 +18,7 @@ use Rattle.window.proofs.columns.column.Reads as column-reads
 use Rattle.window.proofs.columns.put.Reads as put-reads
 
 abbrev Inv-loop : tie.InvT-loop
-Inv-loop cols₀ kernel a8 a16 b8 b16 wide stride-a stride-b width height y x₀ cols x = 
+Inv-loop cols₀ kernel a8 a16 b8 b16 wide stride-a stride-b width height y x₀ cols x =
     (x ≤ width) × (length cols ≡ length cols₀)
     × Holds cols (5 * x) kernel height (viewOf (planeOf (samplesOf wide a8 a16) stride-a)) (viewOf (planeOf (samplesOf wide b8 b16) stride-b)) y
 
@@ -39,8 +39,7 @@ put-requires c κs =
     let s = c .before .before .before .before .before .before .before .before .before in
     let a = (viewOf (planeOf (samplesOf (s .args .wide) (now (s .args .a8)) (now (s .args .a16))) (s .args .stride-a))) in
     let b = (viewOf (planeOf (samplesOf (s .args .wide) (now (s .args .b8)) (now (s .args .b16))) (s .args .stride-b))) in
-    let x = c .before .before .before .loop .x in
-    (
+    let x = c .before .before .before .loop .x in (
       omega arith,
       parts-low _ _ (λ (m r : ℕ). quantOf m (a r x) (b r x)) _ _ (c .before .column .ensures) (s .pre .1 .0)
           (λ m k l n o. quant-le m _ _ (s .pre .1 .1 .0 .small _) (s .pre .1 .1 .1 .small _)),
@@ -55,8 +54,7 @@ loop-less c = search needs
 loop-again : tie.Need-loop-again Inv-loop μ-loop
 loop-again c =
     let s = c .before .before .before .before .before .before .before .before .before .before .before in
-    let l = c .before .before .before .before .before .loop in
-    (
+    let l = c .before .before .before .before .before .loop in (
       search needs,
       c .before .put .kept .0 ∙ l .inv .1,
       holds-more (now (s .args .kernel)) (s .args .height) (viewOf (planeOf (samplesOf (s .args .wide) (now (s .args .a8)) (now (s .args .a16))) (s .args .stride-a)))

@@ -52,8 +52,8 @@ tapped-requires : tie.Need-tapped-requires Inv-loop μ-loop
 tapped-requires c κs =
     let s = c .before .before .before .before .before .before .before in
     let room = parts-room _ _ (cellOf (now (s .args .cols))) _ _ _ (c .before .before .before .loop .inv .2) (s .pre .1 .0)
-        (λ m l k a b d. (s .pre .1 .1 _ (omega arith)) .low)
-        (omega arith) (omega arith) (omega arith) in
+    (λ m l k a b d. (s .pre .1 .1 _ (omega arith)) .low)
+    (omega arith) (omega arith) (omega arith) in
     rw (c .cells .ensures) (λ m l. rw (nth-five (λ (i : ℕ). cellOf (now (s .args .cols)) i (s .args .x + c .before .before .before .loop .k - length (now (s .args .kernel)) / 2)) m l) (room m l))
 
 add-k : tie.Need-add-k Inv-loop μ-loop
@@ -63,13 +63,12 @@ loop-less : tie.Need-loop-less Inv-loop μ-loop
 loop-less c = search needs
 
 loop-again : tie.Need-loop-again Inv-loop μ-loop
-loop-again c =
-    (
-      omega arith,
-      omega arith,
-      rw (c .tapped .ensures, c .before .cells .ensures, c .before .before .before .before .loop .inv .2)
-          (sym (parts-more _ _ _ _ _ (omega arith) (omega arith))),
-    )
+loop-again c = (
+  omega arith,
+  omega arith,
+  rw (c .tapped .ensures, c .before .cells .ensures, c .before .before .before .before .loop .inv .2)
+      (sym (parts-more _ _ _ _ _ (omega arith) (omega arith))),
+)
 
 returns : tie.Need-returns Inv-loop μ-loop
 returns c =

@@ -44,7 +44,7 @@ add-sum : tie.Need-add-sum Inv-loop μ-loop
 add-sum c =
     let s = c .before .before .before .before .before .before .before in
     let room = part-room _ _ (λ (i : ℕ). 1) _ 1 _ _ (s .pre .1) (λ k a m n. le-refl 1) (c .before .before .before .loop .inv .2)
-        (omega arith) (omega arith) (omega arith) in
+    (omega arith) (omega arith) (omega arith) in
     omega (arith, room, total-room)
 
 add-k : tie.Need-add-k Inv-loop μ-loop
@@ -54,12 +54,11 @@ loop-less : tie.Need-loop-less Inv-loop μ-loop
 loop-less c = search needs
 
 loop-again : tie.Need-loop-again Inv-loop μ-loop
-loop-again c =
-    (
-      omega arith,
-      omega arith,
-      rw (c .wide .ensures, c .before .before .before .loop .inv .2) (sym (part-more _ _ _ _ _ (omega arith) (omega arith) ∙ rw mul-one)),
-    )
+loop-again c = (
+  omega arith,
+  omega arith,
+  rw (c .wide .ensures, c .before .before .before .loop .inv .2) (sym (part-more _ _ _ _ _ (omega arith) (omega arith) ∙ rw mul-one)),
+)
 
 returns : tie.Need-returns Inv-loop μ-loop
 returns c = rw (c .before .loop .inv .2) (part-last _ _ _ _ (c .before .before .before .before .before .pre .1) _ (omega arith) (omega arith))
