@@ -8,8 +8,8 @@ ghost use lib.ListN.{length};
 ghost use Rattle.plane.specs.Limits.{sideLimit};
 ghost use Rattle.plane.specs.Plane.{planeOf, samplesOf};
 ghost use Rattle.window.specs.Kernel.{mostTaps};
-ghost use Rattle.ssim.specs.Scratch.{grownOf, linesOf, placesOf, scratchAfter};
-ghost use Rattle.ssim.specs.Answer.{ssimRefusal, ssimOf};
+ghost use Rattle.ssim.specs.Scratch.{grownOf, linesOf, placesOf, cleared, scratchAfter};
+ghost use Rattle.ssim.specs.Answer.{ssimRefusal, Sound, scoreOf, ssimOf};
 
 pub mod score;
 pub mod walk;
@@ -99,8 +99,9 @@ fn refusal(
     0
 }
 
-// SSIM of two planes of either width.
-fn of_either(
+// The score of two planes of either width that no test refuses. The needed part of the scratch is all zero afterwards.
+fn scored(
+    scratch: &mut [i64],
     a8: &[u8],
     a16: &[u16],
     b8: &[u8],
@@ -112,13 +113,55 @@ fn of_either(
     stride_b: usize,
     depth: u32,
     kernel: &[u16],
+) -> Ssim
+    requires { ⌜ Sound (planeOf (samplesOf wide (now a8) (now a16)) «stride_a») (planeOf (samplesOf wide (now b8) (now b16)) «stride_b»)
+        width height depth (now kernel) (length (now scratch)) ⌝ }
+    ensures { λ r. ⌜ r ≡ scoreOf (planeOf (samplesOf wide (now (a8 .entry)) (now (a16 .entry))) «stride_a»)
+        (planeOf (samplesOf wide (now (b8 .entry)) (now (b16 .entry))) «stride_b») width height depth (now (kernel .entry)) ⌝ }
+    ensures { λ _. ⌜ now (scratch .exit) ≡ cleared (placesOf width (length (now (kernel .entry)))) (now (scratch .entry)) ⌝ }
+{
+    let need = places(width, kernel.len());
+    let max2 = score::squared(plane::sample_max(depth));
+    let t = walk::totals(
+        &mut scratch[..need],
+        max2,
+        kernel,
+        window::LENT_TOTAL,
+        a8,
+        a16,
+        b8,
+        b16,
+        wide,
+        stride_a,
+        stride_b,
+        width,
+        height,
+    );
+    score::pair(t)
+}
+
+// SSIM of two planes of either width.
+fn of_either(
     scratch: &mut [i64],
+    a8: &[u8],
+    a16: &[u16],
+    b8: &[u8],
+    b16: &[u16],
+    wide: bool,
+    width: usize,
+    height: usize,
+    stride_a: usize,
+    stride_b: usize,
+    depth: u32,
+    kernel: &[u16],
 ) -> Ssim
     ensures { λ r. ⌜ r ≡ ssimOf wide (planeOf (samplesOf wide (now (a8 .entry)) (now (a16 .entry))) «stride_a»)
         (planeOf (samplesOf wide (now (b8 .entry)) (now (b16 .entry))) «stride_b»)
         width height depth (now (kernel .entry)) (length (now (scratch .entry))) ⌝ }
-    ensures { λ _. ⌜ now (scratch .exit) ≡ scratchAfter (ssimRefusal wide (planeOf (samplesOf wide (now (a8 .entry)) (now (a16 .entry))) «stride_a»
-        ∷ planeOf (samplesOf wide (now (b8 .entry)) (now (b16 .entry))) «stride_b» ∷ []) width height depth (now (kernel .entry)) (length (now (scratch .entry))))
+    ensures { λ _. ⌜ now (scratch .exit) ≡ scratchAfter
+        (ssimRefusal wide (planeOf (samplesOf wide (now (a8 .entry)) (now (a16 .entry))) «stride_a»
+        ∷ planeOf (samplesOf wide (now (b8 .entry)) (now (b16 .entry))) «stride_b» ∷ [])
+        width height depth (now (kernel .entry)) (length (now (scratch .entry))))
         (placesOf width (length (now (kernel .entry)))) (now (scratch .entry)) ⌝ }
 {
     let no = refusal(
@@ -138,24 +181,20 @@ fn of_either(
     if no != 0 {
         return Ssim::Refused(no);
     }
-    let need = places(width, kernel.len());
-    let max2 = score::squared(plane::sample_max(depth));
-    let t = walk::totals(
-        max2,
-        kernel,
-        window::LENT_TOTAL,
+    scored(
+        scratch,
         a8,
         a16,
         b8,
         b16,
         wide,
-        stride_a,
-        stride_b,
         width,
         height,
-        &mut scratch[..need],
-    );
-    score::pair(t)
+        stride_a,
+        stride_b,
+        depth,
+        kernel,
+    )
 }
 
 // SSIM of two planes of bytes. Refused, scratch is as it was; else, and at 9, its needed part is all zero and the rest as it was.
@@ -178,6 +217,7 @@ pub fn ssim8(
         (placesOf width (length (now (kernel .entry)))) (now (scratch .entry)) ⌝ }
 {
     of_either(
+        scratch,
         a,
         &[0u16; 0],
         b,
@@ -189,7 +229,6 @@ pub fn ssim8(
         stride_b,
         depth,
         kernel,
-        scratch,
     )
 }
 
@@ -213,6 +252,7 @@ pub fn ssim16(
         (placesOf width (length (now (kernel .entry)))) (now (scratch .entry)) ⌝ }
 {
     of_either(
+        scratch,
         &[0u8; 0],
         a,
         &[0u8; 0],
@@ -224,6 +264,5 @@ pub fn ssim16(
         stride_b,
         depth,
         kernel,
-        scratch,
     )
 }

@@ -51,6 +51,7 @@ pub fn clear(s: &mut [i64])
 
 // Every row: its column sums, then its centres.
 fn rows(
+    cols: &mut [i64],
     max2: f64,
     kernel: &[u16],
     total: u64,
@@ -63,7 +64,6 @@ fn rows(
     stride_b: usize,
     width: usize,
     height: usize,
-    cols: &mut [i64],
 ) -> Totals
     requires { ⌜ (width ≤ sideLimit) × (height ≤ sideLimit) × (5 * width ≤ length (now cols)) ⌝ }
     requires { ⌜ Kernel (now kernel) ⌝ }
@@ -102,6 +102,7 @@ fn rows(
 
 // The sums over every centre. All of the scratch is zero afterwards.
 pub fn totals(
+    scratch: &mut [i64],
     max2: f64,
     kernel: &[u16],
     total: u64,
@@ -114,7 +115,6 @@ pub fn totals(
     stride_b: usize,
     width: usize,
     height: usize,
-    scratch: &mut [i64],
 ) -> Totals
     requires { ⌜ (width ≤ sideLimit) × (height ≤ sideLimit) × (5 * width ≤ length (now scratch)) ⌝ }
     requires { ⌜ Kernel (now kernel) ⌝ }
@@ -127,6 +127,7 @@ pub fn totals(
     ensures { λ _. ⌜ now (scratch .exit) ≡ replicate (length (now (scratch .entry))) (pos 0) ⌝ }
 {
     let t = rows(
+        scratch,
         max2,
         kernel,
         total,
@@ -139,7 +140,6 @@ pub fn totals(
         stride_b,
         width,
         height,
-        scratch,
     );
     clear(scratch);
     t

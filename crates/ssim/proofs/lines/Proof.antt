@@ -32,12 +32,11 @@ loop-less : tie.Need-loop-less Inv-loop μ-loop
 loop-less c = search needs
 
 loop-again : tie.Need-loop-again Inv-loop μ-loop
-loop-again c =
-    (
-      search needs,
-      rw (c .grown .ensures) (grown-le _ _ (c .before .before .loop .inv .1)),
-      rw (fold-more, c .grown .ensures, c .before .before .loop .inv .2),
-    )
+loop-again c = (
+  search needs,
+  rw (c .grown .ensures) (grown-le _ _ (c .before .before .loop .inv .1)),
+  rw (fold-more, c .grown .ensures, c .before .before .loop .inv .2),
+)
 
 returns : tie.Need-returns Inv-loop μ-loop
 unfolding linesOf

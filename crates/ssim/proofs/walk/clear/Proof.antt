@@ -35,12 +35,11 @@ loop-less : tie.Need-loop-less Inv-loop μ-loop
 loop-less c = search needs
 
 loop-again : tie.Need-loop-again Inv-loop μ-loop
-loop-again c =
-    (
-      search needs,
-      simp length-set (c .before .loop .inv .1),
-      rw (c .before .loop .inv .2) (fill-more (pos 0) _ _ (c .loop-test .taken)),
-    )
+loop-again c = (
+  search needs,
+  simp length-set (c .before .loop .inv .1),
+  rw (c .before .loop .inv .2) (fill-more (pos 0) _ _ (c .loop-test .taken)),
+)
 
 same-length : tie.Need-same-length Inv-loop μ-loop
 same-length c = c .before .loop .inv .1

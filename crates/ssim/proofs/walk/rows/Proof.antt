@@ -20,11 +20,11 @@ use Rattle.window.proofs.columns.fill.Reads as fill-reads
 use Rattle.window.proofs.row.weight.Reads as weight-reads
 
 abbrev Inv-loop : tie.InvT-loop
-Inv-loop max2 kernel total a8 a16 b8 b16 wide stride-a stride-b width height cols₀ t₀ y₀ cols t y = 
+Inv-loop cols₀ max2 kernel total a8 a16 b8 b16 wide stride-a stride-b width height t₀ y₀ cols t y =
     (y ≤ height) × (length cols ≡ length cols₀) × (t ≡ totalsOf max2 kernel width height (viewOf (planeOf (samplesOf wide a8 a16) stride-a)) (viewOf (planeOf (samplesOf wide b8 b16) stride-b)) y)
 
 abbrev μ-loop : tie.MeasureT-loop
-μ-loop max2 kernel total a8 a16 b8 b16 wide stride-a stride-b width height cols₀ t₀ y₀ cols t y = height - y
+μ-loop cols₀ max2 kernel total a8 a16 b8 b16 wide stride-a stride-b width height t₀ y₀ cols t y = height - y
 
 loop-holds : tie.Need-loop-holds Inv-loop μ-loop
 loop-holds c = (search needs, refl, sym (totals-none _ _ _ _ _ _))
@@ -41,8 +41,7 @@ centres-requires : tie.Need-centres-requires Inv-loop μ-loop
 centres-requires c κs =
     let s = c .before .before .before .before .before .before .before .before .before .before .before .before in
     let f = c .before .before .before .fill in
-    let y = c .before .before .before .before .before .before .loop .y in
-    (
+    let y = c .before .before .before .before .before .before .loop .y in (
       omega (arith, f .kept .0, weight-le (now (s .args .kernel)) (s .args .height) y (s .pre .1 .0)),
       (
         s .pre .1 .0,
@@ -65,8 +64,7 @@ loop-again : tie.Need-loop-again Inv-loop μ-loop
 loop-again c =
     let s = c .before .before .before .before .before .before .before .before .before .before .before .before .before in
     let f = c .before .before .before .before .fill in
-    let l = c .before .before .before .before .before .before .before .loop in
-    (
+    let l = c .before .before .before .before .before .before .before .loop in (
       search needs,
       f .kept .0 ∙ l .inv .1,
       rw (c .centres .ensures, c .before .before .weight .ensures, l .inv .2)
