@@ -1,4 +1,7 @@
+-- `ssim::of_either` meets its contract. Assumes nothing.
+use mathlib.Core.Path.{sym, _∙_}
 use borrow.Author.Needs.{needs}
+use Rattle.ssim.proofs.Accept.{sound, refused, untouched}
 use Rattle.ssim.proofs.of_either.Statement.{statement}
 use Rattle.ssim.proofs.of_either.Tie as tie
 use Rattle.ssim.proofs.of_either.Reads as reads
@@ -6,25 +9,20 @@ use Rattle.ssim.proofs.of_either.Lts as lts
 use Rattle.ssim.proofs.refusal.Reads as refusal-reads
 use Rattle.ssim.proofs.scored.Reads as scored-reads
 
--- src/lib.rt:167:9
 refusal-requires : tie.Need-refusal-requires
 refusal-requires c κs = search needs
 
--- src/lib.rt:182:9
 returns : tie.Need-returns
-returns c = ?
+returns c = rw (← (c .before .refusal .ensures)) (refused _ _ (c .if1 .taken), untouched _ _ _ (c .if1 .taken))
 
--- src/lib.rt:184:5
 scored-requires : tie.Need-scored-requires
-scored-requires c κs = ?
+scored-requires c κs = sound _ _ _ _ _ _ _ _ (c .before .before .refusal .ensures) (c .before .if1 .left)
 
--- src/lib.rt:144:1
 same-length : tie.Need-same-length
 same-length c = search needs
 
--- src/lib.rt:144:1
 returns-2 : tie.Need-returns-2
-returns-2 c = ?
+returns-2 c = rw (sym (c .before .before .before .before .refusal .ensures) ∙ c .before .before .before .if1 .left) (c .before .scored .ensures)
 
 pub of-either-spec : {M : Type 1} → statement M
 of-either-spec =

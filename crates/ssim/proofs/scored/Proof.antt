@@ -1,4 +1,12 @@
+-- `ssim::scored` meets its contract. Assumes nothing.
+use mathlib.Core.Path.{refl, sym, _∙_}
+use Prim.Native.Nat.{ℕ}
+use native.Mathlib.Omega.{arith}
 use borrow.Author.Needs.{needs}
+use denote.Ref.{now}
+use lib.Seq.{length-take-le}
+use Rattle.window.specs.Kernel.{lentTotal}
+use Rattle.ssim.proofs.Accept.{either-small}
 use Rattle.ssim.proofs.scored.Statement.{statement}
 use Rattle.ssim.proofs.scored.Tie as tie
 use Rattle.ssim.proofs.scored.Reads as reads
@@ -9,41 +17,60 @@ use Rattle.ssim.proofs.score.pair.Reads as pair-reads
 use Rattle.ssim.proofs.score.squared.Reads as squared-reads
 use Rattle.ssim.proofs.walk.totals.Reads as totals-reads
 
--- src/lib.rt:123:9
 places-requires : tie.Need-places-requires
 places-requires c κs = search needs
 
--- src/lib.rt:124:31
 sample-max-requires : tie.Need-sample-max-requires
 sample-max-requires c κs = search needs
 
--- src/lib.rt:124:9
 squared-requires : tie.Need-squared-requires
 squared-requires c κs = search needs
 
--- src/lib.rt:126:9
 slice-relend-prefix-totals : tie.Need-slice-relend-prefix-totals
 slice-relend-prefix-totals c = search needs
 
--- src/lib.rt:126:9
 slice-aggregate-totals : tie.Need-slice-aggregate-totals
-slice-aggregate-totals c = ?
+slice-aggregate-totals c =
+    let s = c .before .before .before .before .before .before .before .before .before in
+    sym (length-take-le _ (now (s .args .scratch)) (rw (c .before .before .before .places .ensures) (s .pre .lent-enough)))
 
--- src/lib.rt:125:9
 totals-requires : tie.Need-totals-requires
-totals-requires c κs = ?
+unfolding lentTotal
+totals-requires c κs =
+    let s = c .before .before .before .before .before .before .before .before .before in
+    let e = c .before .before .before .places .ensures in
+    let long = length-take-le (c .before .before .before .places .result) (now (s .args .scratch)) (rw e (s .pre .lent-enough)) in
+    let small-a = either-small (s .args .wide) (now (s .args .a8)) (now (s .args .a16))
+        (λ i. omega (arith, c .before .before .before .before .before .before .before .before .shared-slice-known .given i))
+        (λ i. omega (arith, c .before .before .before .before .before .before .before .shared-slice-known2 .given i)) in
+    let small-b = either-small (s .args .wide) (now (s .args .b8)) (now (s .args .b16))
+        (λ i. omega (arith, c .before .before .before .before .before .before .shared-slice-known3 .given i))
+        (λ i. omega (arith, c .before .before .before .before .before .shared-slice-known4 .given i)) in
+    (
+      (s .pre .width-most, s .pre .height-most, rw (long, e) (s .pre .columns-fit)),
+      (
+        s .pre .kernel,
+        (s .pre .total, (record { long = s .pre .long-a; small = small-a }, record { long = s .pre .long-b; small = small-b })),
+      ),
+    )
 
--- src/lib.rt:140:5
 pair-requires : tie.Need-pair-requires
 pair-requires c κs = search needs
 
--- src/lib.rt:103:1
 same-length : tie.Need-same-length
 same-length c = search needs
 
--- src/lib.rt:103:1
 returns : tie.Need-returns
-returns c = ?
+returns c =
+    let s = c .before .before .before .before .before .before .before .before .before .before .before .before in
+    let need = c .before .before .before .before .before .before .places .result in
+    let e = c .before .before .before .before .before .before .places .ensures in
+    let max = c .before .before .before .before .squared .ensures in
+    let largest = c .before .before .before .before .before .sample-max .ensures in
+    (
+      rw (c .pair .ensures, c .before .before .totals .ensures .0, max, largest),
+      rw (c .before .before .totals .ensures .1, length-take-le need (now (s .args .scratch)) (rw e (s .pre .lent-enough)), e),
+    )
 
 pub scored-spec : {M : Type 1} → statement M
 scored-spec =
