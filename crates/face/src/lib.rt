@@ -9,6 +9,8 @@ ghost use Rattle.plane.specs.Tests.{planeRefusal};
 ghost use Rattle.face.specs.Root.{rootNumber, rootWritten};
 use number::Rooted;
 
+pub mod similarity;
+
 // The square root of x, written to `out`; 12 where x is not +0 or positive and finite, and `out` is as it was.
 #[no_mangle]
 pub extern "C" fn fuavelino_root(x: f64, out: &mut f64) -> u8

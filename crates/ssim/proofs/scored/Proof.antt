@@ -41,12 +41,11 @@ totals-requires c κs =
     let e = c .before .before .before .places .ensures in
     let long = length-take-le (c .before .before .before .places .result) (now (s .args .scratch)) (rw e (s .pre .lent-enough)) in
     let small-a = either-small (s .args .wide) (now (s .args .a8)) (now (s .args .a16))
-        (λ i. omega (arith, c .before .before .before .before .before .before .before .before .shared-slice-known .given i))
-        (λ i. omega (arith, c .before .before .before .before .before .before .before .shared-slice-known2 .given i)) in
+    (λ i. omega (arith, c .before .before .before .before .before .before .before .before .shared-slice-known .given i))
+    (λ i. omega (arith, c .before .before .before .before .before .before .before .shared-slice-known2 .given i)) in
     let small-b = either-small (s .args .wide) (now (s .args .b8)) (now (s .args .b16))
-        (λ i. omega (arith, c .before .before .before .before .before .before .shared-slice-known3 .given i))
-        (λ i. omega (arith, c .before .before .before .before .before .shared-slice-known4 .given i)) in
-    (
+    (λ i. omega (arith, c .before .before .before .before .before .before .shared-slice-known3 .given i))
+    (λ i. omega (arith, c .before .before .before .before .before .shared-slice-known4 .given i)) in (
       (s .pre .width-most, s .pre .height-most, rw (long, e) (s .pre .columns-fit)),
       (
         s .pre .kernel,
@@ -66,8 +65,7 @@ returns c =
     let need = c .before .before .before .before .before .before .places .result in
     let e = c .before .before .before .before .before .before .places .ensures in
     let max = c .before .before .before .before .squared .ensures in
-    let largest = c .before .before .before .before .before .sample-max .ensures in
-    (
+    let largest = c .before .before .before .before .before .sample-max .ensures in (
       rw (c .pair .ensures, c .before .before .totals .ensures .0, max, largest),
       rw (c .before .before .totals .ensures .1, length-take-le need (now (s .args .scratch)) (rw e (s .pre .lent-enough)), e),
     )
