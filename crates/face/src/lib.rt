@@ -7,6 +7,9 @@ ghost use Rattle.number.specs.Root.{rootOf};
 ghost use Rattle.plane.specs.Plane.{planeOf};
 ghost use Rattle.plane.specs.Tests.{planeRefusal};
 ghost use Rattle.face.specs.Root.{rootNumber, rootWritten};
+
+pub mod transform;
+
 use number::Rooted;
 
 pub mod similarity;
