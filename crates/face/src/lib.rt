@@ -7,12 +7,10 @@ ghost use Rattle.number.specs.Root.{rootOf};
 ghost use Rattle.plane.specs.Plane.{planeOf};
 ghost use Rattle.plane.specs.Tests.{planeRefusal};
 ghost use Rattle.face.specs.Root.{rootNumber, rootWritten};
-
-pub mod transform;
-
 use number::Rooted;
 
 pub mod similarity;
+pub mod transform;
 
 // The square root of x, written to `out`; 12 where x is not +0 or positive and finite, and `out` is as it was.
 #[no_mangle]
