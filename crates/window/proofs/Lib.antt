@@ -2,4 +2,5 @@ pub mod KernelSays
 pub mod Windows
 pub mod Separable
 pub mod Five
+pub mod Folded
 pub mod Held
