@@ -1,5 +1,5 @@
 -- Document 01, "When the desk says no", number 12: "transform: not 64 places in or out, or a value out of range". Definitions only.
-use mathlib.Core.Bool.{Bool, true, false, _&&_, cond}
+use mathlib.Core.Bool.{Bool, true, _&&_, cond}
 use mathlib.Core.List.{List, [], _∷_}
 use Prim.Native.Nat.{ℕ}
 use lib.Dec.{eqb, leb}

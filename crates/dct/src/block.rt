@@ -1,4 +1,5 @@
 // Rows and columns of a block, and a pass over each of the eight.
+use crate::BLOCK_SIZE;
 use crate::pass;
 use crate::pass::T8;
 ghost use mathlib.Core.Path.{_≡_};
@@ -156,7 +157,7 @@ pub fn back(out: &mut [i32], x: &[i32])
     requires { ⌜ Small undoneLimit (now x) ⌝ }
     ensures { λ _. ⌜ now (out .exit) ≡ Block.turn⁻¹ (now (x .entry)) ⌝ }
 {
-    let mut z = [0i32; 64];
+    let mut z = [0i32; BLOCK_SIZE];
     unlines(&mut z, x);
     crossed(out, &z);
 }

@@ -6,7 +6,6 @@ mod pass;
 use crate::block::back;
 use crate::block::turn;
 ghost use mathlib.Core.Path.{_≡_};
-ghost use Prim.Native.Nat.{_≤_};
 ghost use lib.Dec.{T, leb};
 ghost use lib.IntN.{natAbs};
 ghost use lib.Signed.{nonNeg};
@@ -71,7 +70,7 @@ pub fn transform(block: &[i32], out: &mut [i32])
     requires { ⌜ Small forwardLimit (now block) ⌝ }
     ensures { λ _. ⌜ now (out .exit) ≡ Block.transform (now (block .entry)) ⌝ }
 {
-    let mut z = [0i32; 64];
+    let mut z = [0i32; BLOCK_SIZE];
     turn(&mut z, block);
     turn(out, &z);
 }
@@ -82,7 +81,7 @@ fn untransform(coefs: &[i32], out: &mut [i32])
     requires { ⌜ Small inverseLimit (now coefs) ⌝ }
     ensures { λ _. ⌜ now (out .exit) ≡ Block.transform⁻¹ (now (coefs .entry)) ⌝ }
 {
-    let mut z = [0i32; 64];
+    let mut z = [0i32; BLOCK_SIZE];
     back(&mut z, coefs);
     back(out, &z);
 }

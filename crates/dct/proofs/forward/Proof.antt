@@ -6,10 +6,6 @@ use Rattle.dct.specs.Block.{transform}
 use Rattle.dct.proofs.Calls.{taken, accepted, refused}
 use Rattle.dct.proofs.forward.Statement.{statement}
 use Rattle.dct.proofs.forward.Tie as tie
-use Rattle.dct.proofs.forward.Reads as reads
-use Rattle.dct.proofs.forward.Lts as lts
-use Rattle.dct.proofs.takes.Reads as takes-reads
-use Rattle.dct.proofs.transform.Reads as transform-reads
 
 takes-requires : tie.Need-takes-requires
 takes-requires c κs = search needs

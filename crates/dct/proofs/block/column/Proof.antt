@@ -1,9 +1,8 @@
+-- `column` reads column i. Assumes nothing.
 use borrow.Author.Needs.{needs}
 use Rattle.dct.proofs.Size.{whole8}
 use Rattle.dct.proofs.block.column.Statement.{statement}
 use Rattle.dct.proofs.block.column.Tie as tie
-use Rattle.dct.proofs.block.column.Reads as reads
-use Rattle.dct.proofs.block.column.Lts as lts
 
 mul-t3 : tie.Need-mul-t3
 mul-t3 c = search needs
@@ -76,7 +75,14 @@ shared-slice-copy-out-t33 c = search needs
 
 returns : tie.Need-returns
 returns c =
-    whole8 _ _ _ _ _ _ _ _ (c .before .before .before .before .before .before .before .t5 .given) (c .before .before .before .before .before .before .t9 .given) (c .before .before .before .before .before .t13 .given) (c .before .before .before .before .t17 .given) (c .before .before .before .t21 .given) (c .before .before .t25 .given) (c .before .t29 .given) (c .t33 .given)
+    let c6 = c .before in
+    let c5 = c6 .before in
+    let c4 = c5 .before in
+    let c3 = c4 .before in
+    let c2 = c3 .before in
+    let c1 = c2 .before in
+    let c0 = c1 .before in
+    whole8 _ _ _ _ _ _ _ _ (c0 .t5 .given) (c1 .t9 .given) (c2 .t13 .given) (c3 .t17 .given) (c4 .t21 .given) (c5 .t25 .given) (c6 .t29 .given) (c .t33 .given)
 
 pub column-spec : {M : Type 1} → statement M
 column-spec =

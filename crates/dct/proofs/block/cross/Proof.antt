@@ -1,3 +1,4 @@
+-- `cross` copies a column to the front. Assumes nothing.
 use mathlib.Core.Path.{_∙_, ap}
 use mathlib.Core.List.{List, _++_}
 use lib.IntN.{ℤ}
@@ -5,10 +6,6 @@ use lib.ListN.{drop}
 use borrow.Author.Needs.{needs}
 use Rattle.dct.proofs.block.cross.Statement.{statement}
 use Rattle.dct.proofs.block.cross.Tie as tie
-use Rattle.dct.proofs.block.cross.Reads as reads
-use Rattle.dct.proofs.block.cross.Lts as lts
-use Rattle.dct.proofs.block.column.Reads as column-reads
-use Rattle.dct.proofs.block.store.Reads as store-reads
 
 column-requires : tie.Need-column-requires
 column-requires c κs = search needs

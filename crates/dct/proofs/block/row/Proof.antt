@@ -1,9 +1,8 @@
+-- `row` reads row i. Assumes nothing.
 use borrow.Author.Needs.{needs}
 use Rattle.dct.proofs.Size.{whole8}
 use Rattle.dct.proofs.block.row.Statement.{statement}
 use Rattle.dct.proofs.block.row.Tie as tie
-use Rattle.dct.proofs.block.row.Reads as reads
-use Rattle.dct.proofs.block.row.Lts as lts
 
 mul-at : tie.Need-mul-at
 mul-at c = search needs
@@ -79,7 +78,14 @@ shared-slice-copy-out-t34 c = search needs
 
 returns : tie.Need-returns
 returns c =
-    whole8 _ _ _ _ _ _ _ _ (c .before .before .before .before .before .before .before .t6 .given) (c .before .before .before .before .before .before .t10 .given) (c .before .before .before .before .before .t14 .given) (c .before .before .before .before .t18 .given) (c .before .before .before .t22 .given) (c .before .before .t26 .given) (c .before .t30 .given) (c .t34 .given)
+    let c6 = c .before in
+    let c5 = c6 .before in
+    let c4 = c5 .before in
+    let c3 = c4 .before in
+    let c2 = c3 .before in
+    let c1 = c2 .before in
+    let c0 = c1 .before in
+    whole8 _ _ _ _ _ _ _ _ (c0 .t6 .given) (c1 .t10 .given) (c2 .t14 .given) (c3 .t18 .given) (c4 .t22 .given) (c5 .t26 .given) (c6 .t30 .given) (c .t34 .given)
 
 pub row-spec : {M : Type 1} → statement M
 row-spec =
