@@ -1,12 +1,12 @@
 -- Blocks of 64 as rows and columns. Assumes nothing.
 use mathlib.Core.Path.{_≡_, refl, sym, ap, ap₂, _∙_}
 use mathlib.Core.List.{List, [], _∷_, _++_, append-assoc, append-nil}
-use Prim.Native.Nat.{ℕ, zero, suc, _+_, _-_, _*_, _≤_, zero-le}
+use Prim.Native.Nat.{ℕ, zero, suc, _+_, _-_, _*_, _≤_, _<_, zero-le}
 use native.Mathlib.Omega.{arith}
 use native.Mathlib.Numerals.{add-one}
 use lib.IntN.{ℤ, pos}
 use lib.ListN.{length, getD, set, take, drop, length-append, drop-of-length-le}
-use lib.Seq.{take-at, drop-at, take-length, drop-length, drop-drop}
+use lib.Seq.{take-all, take-suc, take-suc-set, take-at, drop-at, take-length, drop-length, drop-drop}
 use borrow.Rule.Slice.PartMut.{putMid}
 use Rattle.dct.specs.Operation.{Small, Within}
 use Rattle.dct.specs.Block.{rows, column, row, line, places}
@@ -73,3 +73,14 @@ rows-all f i out out₀ l k h e =
     let q : i ≡ 8 = omega arith in
     e ∙ ap (λ (n : ℕ). rows f n ++ drop (8 * n) out₀) q
     ∙ ap (λ (y : List ℤ). rows f 8 ++ y) (drop-of-length-le out₀ {i = 64} (omega arith)) ∙ append-nil (rows f 8)
+
+-- ---- a copy, one more at a time
+
+pub copied-more : (x out : List ℤ) (i : ℕ) (w : ℤ) → i < length x → length out ≡ length x → w ≡ getD x i (pos 0) → take i out ≡ take i x
+    → take (i + 1) (set out i w) ≡ take (i + 1) x
+copied-more x out i w l e p h =
+    let q : i < length out = omega arith in
+    rw (add-one, take-suc-set out i w q, take-suc x i (pos 0) l, h, p)
+
+pub copied-all : (x out : List ℤ) (i : ℕ) → length x ≤ i → length out ≡ length x → take i out ≡ take i x → out ≡ x
+copied-all x out i l e h = sym (take-all i out (omega arith)) ∙ h ∙ take-all i x l

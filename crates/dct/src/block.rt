@@ -94,6 +94,28 @@ pub fn turn(out: &mut [i32], x: &[i32])
     }
 }
 
+// The same into a block of its own. Nothing else can reach that block, so the eight passes can go side by side.
+pub fn turned(x: &[i32]) -> [i32; BLOCK_SIZE]
+    requires { ⌜ length (now x) ≡ blockSize ⌝ }
+    requires { ⌜ Small passLimit (now x) ⌝ }
+    ensures { λ r. ⌜ r ≡ Block.turn (now (x .entry)) ⌝ }
+{
+    let mut y = [0i32; BLOCK_SIZE];
+    turn(&mut y, x);
+    y
+}
+
+pub fn copy(out: &mut [i32], x: &[i32])
+    requires { ⌜ length (now out) ≡ length (now x) ⌝ }
+    ensures { λ _. ⌜ now (out .exit) ≡ now (x .entry) ⌝ }
+{
+    let mut i = 0;
+    while i < x.len() {
+        out[i] = x[i];
+        i += 1;
+    }
+}
+
 // Row i of x goes through the inverse pass to the front of out.
 pub fn unline(out: &mut [i32], x: &[i32], i: usize)
     requires { ⌜ i < 8 ⌝ }

@@ -4,7 +4,8 @@ mod lift;
 mod pass;
 
 use crate::block::back;
-use crate::block::turn;
+use crate::block::copy;
+use crate::block::turned;
 ghost use mathlib.Core.Path.{_≡_};
 ghost use lib.Dec.{T, leb};
 ghost use lib.IntN.{natAbs};
@@ -64,15 +65,13 @@ fn takes(given: &[i32], places: usize, limit: i32) -> bool
 }
 
 // The transform, for a caller who knows that the block is in range.
-pub fn transform(block: &[i32], out: &mut [i32])
+pub fn transform(block: &[i32]) -> [i32; BLOCK_SIZE]
     requires { ⌜ length (now block) ≡ blockSize ⌝ }
-    requires { ⌜ length (now out) ≡ blockSize ⌝ }
     requires { ⌜ Small forwardLimit (now block) ⌝ }
-    ensures { λ _. ⌜ now (out .exit) ≡ Block.transform (now (block .entry)) ⌝ }
+    ensures { λ r. ⌜ r ≡ Block.transform (now (block .entry)) ⌝ }
 {
-    let mut z = [0i32; BLOCK_SIZE];
-    turn(&mut z, block);
-    turn(out, &z);
+    let z = turned(block);
+    turned(&z)
 }
 
 fn untransform(coefs: &[i32], out: &mut [i32])
@@ -92,7 +91,8 @@ pub fn forward(block: &[i32], out: &mut [i32]) -> u8
     ensures content { λ _. ⌜ now (out .exit) ≡ Call.later forwardLimit Block.transform (now (block .entry)) (now (out .entry)) ⌝ }
 {
     if takes(block, out.len(), FORWARD_LIMIT) {
-        transform(block, out);
+        let y = transform(block);
+        copy(out, &y);
         return 0;
     }
     refusal::VALUE
