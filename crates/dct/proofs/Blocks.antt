@@ -9,7 +9,7 @@ use lib.ListN.{length, getD, set, take, drop, length-append, drop-of-length-le}
 use lib.Seq.{take-all, take-suc, take-suc-set, take-at, drop-at, take-length, drop-length, drop-drop}
 use borrow.Rule.Slice.PartMut.{putMid}
 use Rattle.dct.specs.Operation.{Small, Within}
-use Rattle.dct.specs.Block.{rows, column, row, line, places}
+use Rattle.dct.specs.Block.{rows, spaced, column, row, line, places}
 use Rattle.dct.specs.Steps.{steps}
 use Rattle.dct.proofs.Trip.{length-run}
 
@@ -33,14 +33,16 @@ small-at n [] h k = record { le = zero-le }
 small-at n (a ∷ b) h zero = h .0
 small-at n (a ∷ b) h (suc k) = small-at n b (h .1) k
 
+small-spaced : (n at by : ℕ) (b : List ℤ) → Small n b → Small n (spaced at by b)
+small-spaced n at by b h =
+    let w = small-at n b h in
+    (w at, (w (at + by), (w (at + 2 * by), (w (at + 3 * by), (w (at + 4 * by), (w (at + 5 * by), (w (at + 6 * by), (w (at + 7 * by), tt))))))))
+
 pub small-column : (n : ℕ) (b : List ℤ) → Small n b → (i : ℕ) → Small n (column i b)
-small-column n b h i =
-    let w = small-at n b h in (w i, (w (8 + i), (w (16 + i), (w (24 + i), (w (32 + i), (w (40 + i), (w (48 + i), (w (56 + i), tt))))))))
+small-column n b h i = small-spaced n i 8 b h
 
 pub small-row : (n : ℕ) (b : List ℤ) → Small n b → (i : ℕ) → Small n (row i b)
-small-row n b h i =
-    let w = small-at n b h in
-    (w (8 * i), (w (8 * i + 1), (w (8 * i + 2), (w (8 * i + 3), (w (8 * i + 4), (w (8 * i + 5), (w (8 * i + 6), (w (8 * i + 7), tt))))))))
+small-row n b h i = small-spaced n (8 * i) 1 b h
 
 pub length-line : (x : List ℤ) → length (line x) ≡ 8
 unfolding line

@@ -11,13 +11,13 @@ use Rattle.dct.proofs.Size.{read, whole8}
 use Rattle.dct.proofs.block.line.Statement.{statement}
 use Rattle.dct.proofs.block.line.Tie as tie
 
-column-requires : tie.Need-column-requires
-column-requires c κs = search needs
+gather-requires : tie.Need-gather-requires
+gather-requires c κs = search needs
 
 forward-requires : tie.Need-forward-requires
 forward-requires c κs =
     let d = c .before .before .before .before .before .before .before .before in
-    let w = subst (Small passLimit) (sym (d .column .ensures)) (d .before .pre .1 .1 .1) in (
+    let w = subst (Small passLimit) (sym (d .gather .ensures)) (d .before .pre .1 .1 .1) in (
       read (w .0),
       (
         read (w .1 .1 .1 .1 .1 .1 .1 .0),
@@ -51,7 +51,7 @@ returns c =
     ∙ ap (run steps)
     (whole8 _ _ _ _ _ _ _ _ (a .0 .1) (a .1 .1 .1 .1 .1 .1 .1 .0 .1) (a .1 .1 .0 .1) (a .1 .1 .1 .1 .1 .0 .1) (a .1 .0 .1)
     (a .1 .1 .1 .1 .1 .1 .0 .1) (a .1 .1 .1 .0 .1) (a .1 .1 .1 .1 .0 .1)
-    ∙ ap places (d .column .ensures)))
+    ∙ ap places (d .gather .ensures)))
 
 pub line-spec : {M : Type 1} → statement M
-line-spec = tie.close (tie.spec column-requires forward-requires store-requires same-length returns)
+line-spec = tie.close (tie.spec gather-requires forward-requires store-requires same-length returns)

@@ -11,13 +11,16 @@ use Rattle.dct.proofs.Size.{read, whole8}
 use Rattle.dct.proofs.block.unline.Statement.{statement}
 use Rattle.dct.proofs.block.unline.Tie as tie
 
-row-requires : tie.Need-row-requires
-row-requires c κs = search needs
+mul-at : tie.Need-mul-at
+mul-at c = search needs
+
+gather-requires : tie.Need-gather-requires
+gather-requires c κs = search needs
 
 inverse-requires : tie.Need-inverse-requires
 inverse-requires c κs =
     let d = c .before .before .before .before .before .before .before .before in
-    let w = subst (Small undoneLimit) (sym (d .row .ensures)) (d .before .pre .1 .1 .1) in (
+    let w = subst (Small undoneLimit) (sym (d .gather .ensures)) (d .before .pre .1 .1 .1) in (
       read (w .0),
       (
         read (w .1 .0),
@@ -58,7 +61,7 @@ returns c =
     ∙ ap (run (undoAll steps))
     (whole8 _ _ _ _ _ _ _ _ (a .0 .1) (a .1 .0 .1) (a .1 .1 .0 .1) (a .1 .1 .1 .0 .1) (a .1 .1 .1 .1 .0 .1) (a .1 .1 .1 .1 .1 .0 .1)
     (a .1 .1 .1 .1 .1 .1 .0 .1) (a .1 .1 .1 .1 .1 .1 .1 .0 .1)
-    ∙ d .row .ensures)))
+    ∙ d .gather .ensures)))
 
 pub unline-spec : {M : Type 1} → statement M
-unline-spec = tie.close (tie.spec row-requires inverse-requires store-requires same-length returns)
+unline-spec = tie.close (tie.spec mul-at gather-requires inverse-requires store-requires same-length returns)
