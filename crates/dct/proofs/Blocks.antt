@@ -8,7 +8,7 @@ use lib.IntN.{ℤ, pos}
 use lib.ListN.{length, getD, set, take, drop, length-append, drop-of-length-le}
 use lib.Seq.{take-all, take-suc, take-suc-set, take-at, drop-at, take-length, drop-length, drop-drop}
 use borrow.Rule.Slice.PartMut.{putMid}
-use Rattle.dct.specs.Operation.{Small, Within}
+use Rattle.dct.specs.Call.{Small, Within}
 use Rattle.dct.specs.Block.{rows, spaced, column, row, line, places}
 use Rattle.dct.specs.Steps.{steps}
 use Rattle.dct.proofs.Trip.{length-run}

@@ -5,7 +5,8 @@ use native.Mathlib.Nat.{le-refl, le-trans}
 use lib.Dec.{leb→le}
 use lib.IntN.{ℤ}
 use Rattle.dct.specs.Limits.{forwardLimit, inverseLimit, coefficientLimit}
-use Rattle.dct.specs.Operation.{Small, passLimit, undoneLimit}
+use Rattle.dct.specs.Operation.{passLimit, undoneLimit}
+use Rattle.dct.specs.Call.{Small}
 use Rattle.dct.specs.Steps.{run, steps, undoAll}
 use Rattle.dct.specs.Block.{line, line⁻¹, places, column, row, rows, turn, across, turn⁻¹, transform}
 use Rattle.dct.proofs.Forms.{reach, reached, computed}

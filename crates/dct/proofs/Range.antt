@@ -13,8 +13,7 @@ use lib.Signed.{ltZ, nonNeg}
 use mir.Syntax.{w32}
 use mir.Val.{SFits}
 use borrow.Author.Tests.{ltb-true, ltb-false, le-leb, lt-leb, leb-true}
-use Rattle.dct.specs.Operation.{Small}
-use Rattle.dct.specs.Call.{inside}
+use Rattle.dct.specs.Call.{Small, inside}
 
 -- ---- one number
 

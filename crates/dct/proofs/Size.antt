@@ -15,7 +15,8 @@ use mir.Syntax.{w32, w64}
 use mir.Val.{SFits, sel}
 use mir.Facts.{toZ-ofZ}
 use Rattle.dct.specs.Steps.{half, part}
-use Rattle.dct.specs.Operation.{rd, Is, Within, HalfOf}
+use Rattle.dct.specs.Operation.{rd, Is, HalfOf}
+use Rattle.dct.specs.Call.{Within}
 
 pub cond-ind : (c : Bool) (x y : ℤ) (P : ℤ → Type 0) → (T c → P x) → (T (not c) → P y) → P (cond c x y)
 cond-ind true x y P f g = f tt

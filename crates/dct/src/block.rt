@@ -8,7 +8,8 @@ ghost use Prim.Native.Nat.{_+_, _*_, _<_, _≤_};
 ghost use lib.ListN.{length, drop};
 ghost use Rattle.dct.specs.Limits.{blockSize};
 ghost use Rattle.dct.specs.Block as Block;
-ghost use Rattle.dct.specs.Operation.{passLimit, undoneLimit, Small, vals};
+ghost use Rattle.dct.specs.Operation.{passLimit, undoneLimit, vals};
+ghost use Rattle.dct.specs.Call.{Small};
 
 // Eight numbers to the front of a part.
 pub fn store(out: &mut [i32], r: T8)

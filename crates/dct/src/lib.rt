@@ -12,7 +12,7 @@ ghost use lib.IntN.{natAbs};
 ghost use lib.Signed.{nonNeg};
 ghost use lib.ListN.{length};
 ghost use Rattle.dct.specs.Limits.{blockSize, forwardLimit, inverseLimit};
-ghost use Rattle.dct.specs.Operation.{Small};
+ghost use Rattle.dct.specs.Call.{Small};
 ghost use Rattle.dct.specs.Block as Block;
 ghost use Rattle.dct.specs.Call as Call;
 

@@ -4,7 +4,8 @@ use mathlib.Core.List.{List, _++_}
 use lib.IntN.{ℤ}
 use lib.ListN.{drop}
 use borrow.Author.Needs.{needs}
-use Rattle.dct.specs.Operation.{passLimit, Small}
+use Rattle.dct.specs.Operation.{passLimit}
+use Rattle.dct.specs.Call.{Small}
 use Rattle.dct.specs.Steps.{run, steps}
 use Rattle.dct.specs.Block.{line, places}
 use Rattle.dct.proofs.Size.{read, whole8}
