@@ -2,6 +2,7 @@
 //!
 //! judge [--full] [--seed N] [FAMILY..]
 
+mod dct;
 mod family;
 mod model;
 mod plane;
@@ -16,8 +17,12 @@ use std::process::exit;
 /// A family's name, and what runs it.
 type Named = (&'static str, fn(Run) -> bool);
 
-const FAMILIES: [Named; 3] =
-    [("published", published_numbers::compare), ("root", root::compare), ("plane", plane::compare)];
+const FAMILIES: [Named; 4] = [
+    ("published", published_numbers::compare),
+    ("root", root::compare),
+    ("plane", plane::compare),
+    ("dct", dct::compare),
+];
 
 fn main() {
     family::hush_panics();
