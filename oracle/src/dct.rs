@@ -89,7 +89,7 @@ impl Family for Blocks {
         let name = if c.inverse { "inverse" } else { "forward" };
         let odd = c.values.iter().enumerate().filter(|(_, v)| **v != 0);
         let odd: Vec<String> = odd.map(|(i, v)| format!("[{}] = {}", i, v)).collect();
-        format!("{} of {} places into {}, all 0 but {}", name, c.values.len(), c.out_len, odd.join(", "))
+        format!("{} of {} places into {}, 0 but for: {}", name, c.values.len(), c.out_len, odd.join(", "))
     }
 
     fn answers(&self) -> Vec<u8> {
@@ -103,15 +103,17 @@ fn right(c: &Block, out: &[i32]) -> Result<(), String> {
     if !c.inverse {
         let mut block = c.values.clone();
         psnr_hvs::probe_forward(&mut block);
-        if block != to {
-            return Err(format!("gave {:?}, the published code {:?}", to, block));
-        }
+        let block: Vec<i64> = block.iter().map(|v| i64::from(*v)).collect();
+        same("the published code gives", &block, to)?;
     }
-    let carried = forward(from);
-    if carried.iter().copied().ne(to.iter().map(|v| i64::from(*v))) {
-        return Err(format!("{:?} is carried to {:?}, not to {:?}", from, carried, to));
+    same("the document's steps give", &forward(from), to)
+}
+
+fn same(who: &str, wanted: &[i64], got: &[i32]) -> Result<(), String> {
+    match (0..64).find(|i| wanted[*i] != i64::from(got[*i])) {
+        Some(i) => Err(format!("at place {} {} {}, not {}", i, who, wanted[i], got[i])),
+        None => Ok(()),
     }
-    Ok(())
 }
 
 fn forward(block: &[i32]) -> Vec<i64> {
