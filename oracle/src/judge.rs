@@ -2,14 +2,15 @@
 //!
 //! judge [--full] [--seed N] [FAMILY..]
 
-mod dct;
 mod family;
+mod lifting;
 mod model;
 mod plane;
 mod published_numbers;
 mod random;
 mod root;
 mod start;
+mod transform;
 
 use family::Run;
 use std::process::exit;
@@ -21,7 +22,7 @@ const FAMILIES: [Named; 4] = [
     ("published", published_numbers::compare),
     ("root", root::compare),
     ("plane", plane::compare),
-    ("dct", dct::compare),
+    ("transform", transform::compare),
 ];
 
 fn main() {
