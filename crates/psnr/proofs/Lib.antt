@@ -1,0 +1,3 @@
+pub mod Squares
+pub mod Whole
+pub mod Lawful

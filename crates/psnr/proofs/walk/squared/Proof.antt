@@ -1,0 +1,31 @@
+use mathlib.Core.Path.{_≡_}
+use mathlib.Core.Logic.{⊎-elim}
+use Prim.Native.Nat.{_-_, _^_, _≤_}
+use native.Mathlib.Nat.{mul-le-mul, lt-of-le-of-lt}
+use lib.Dec.{lit<}
+use Rattle.psnr.specs.Squared.{apart, squareOf}
+use native.Mathlib.Omega.{arith}
+use borrow.Author.Needs.{needs}
+use Rattle.psnr.proofs.walk.squared.Statement.{statement}
+use Rattle.psnr.proofs.walk.squared.Tie as tie
+use Rattle.psnr.proofs.walk.squared.Reads as reads
+use Rattle.psnr.proofs.walk.squared.Lts as lts
+
+-- src/walk.rt:11:24
+sub-d : tie.Need-sub-d
+sub-d c = search needs
+
+far : (c : tie.After-row-known) → c .before .if1 .d ≡ apart (c .before .before .args .a) (c .before .before .args .b)
+far c = ⊎-elim (λ w. omega arith) (λ w. omega arith) (c .before .if1 .came)
+
+-- src/walk.rt:12:5
+mul-result : tie.Need-mul-result
+mul-result c = let l : c .before .if1 .d ≤ 2 ^ 32 - 1 = omega arith in record { fits = lt-of-le-of-lt (mul-le-mul l l) (lit< tt) }
+
+-- src/walk.rt:8:1
+returns : tie.Need-returns
+unfolding squareOf
+returns c = rw (far c)
+
+pub squared-spec : {M : Type 1} → statement M
+squared-spec = tie.close (tie.spec sub-d mul-result returns)
