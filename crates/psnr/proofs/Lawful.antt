@@ -12,7 +12,8 @@ use Rattle.plane.specs.Limits.{mostDepth}
 use Rattle.plane.specs.Plane.{maxOf}
 use Rattle.plane.proofs.Depth.{max-grows}
 use Rattle.psnr.specs.Limits.{countLimit, totalLimit}
-use Rattle.psnr.specs.Record.{someTo, countSuits, maxSuits}
+use Rattle.psnr.specs.declared.Record.{Record}
+use Rattle.psnr.specs.Record.{isWhole, someTo, countSuits, maxSuits, errorSuits, lawful, joins}
 use Rattle.psnr.specs.Rows.{topSample}
 
 -- ---- some index below n
@@ -69,3 +70,16 @@ product-fits n max c m =
 
 pub product-room : (n max : ℕ) → countSuits n ≡ true → maxSuits max ≡ true → n * (max * max) < 2 ^ 64
 product-room n max c m = omega (arith, product-fits n max c m, total-fits)
+
+-- ---- a record that joins a series
+pub joins-lawful : (max : ℕ) (r : Record) → joins max r ≡ true → lawful r ≡ true
+unfolding joins
+joins-lawful max r e = and-left _ _ e
+
+pub lawful-count : (r : Record) → lawful r ≡ true → r .n ≤ countLimit
+unfolding lawful
+lawful-count r e = count-says (r .n) (and-left _ _ (and-left _ _ e)) .1
+
+pub lawful-whole : (r : Record) → lawful r ≡ true → isWhole (r .«sq_err») ≡ true
+unfolding lawful errorSuits
+lawful-whole r e = and-left _ _ (and-right (countSuits (r .n) && maxSuits (r .«sample_max»)) _ e)

@@ -1,3 +1,4 @@
 pub mod Squares
 pub mod Whole
 pub mod Lawful
+pub mod Fold

@@ -104,6 +104,10 @@ walkable {wide} {width = width} {height} {depth} c =
         record { width-most = c .width-most; first = row-there d (c .each .0) m; second = row-there d (c .each .1 .0) m };
     }
 
--- n fits a word, and the limit of records
+-- ---- how large n can be
+pub count-fits : sideLimit * sideLimit < 2 ^ 64
+unfolding sideLimit
+count-fits = lit< tt
+
 pub count-le : {width height : ℕ} → width ≤ sideLimit → height ≤ sideLimit → width * height ≤ sideLimit * sideLimit
 count-le w h = mul-le-mul w h

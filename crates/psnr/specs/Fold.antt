@@ -1,4 +1,4 @@
--- How a series is worked out, record by record. `proofs/Series.antt` shows that it gives the answer of Series.antt. A total above its
+-- How a series is worked out, record by record. `proofs/Fold.antt` shows that it gives the answer of Series.antt. A total above its
 -- limit is kept as one above the limit, and the walk goes on: a later bad record still gives 10. Definitions only.
 use mathlib.Core.Bool.{Bool, true, false, _&&_}
 use mathlib.Core.List.{List, [], _∷_}

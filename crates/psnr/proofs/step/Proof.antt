@@ -1,4 +1,7 @@
+use mathlib.Core.Path.{_≡_, sym, ap, _∙_}
 use borrow.Author.Needs.{needs}
+use Rattle.psnr.specs.declared.Run.{Run}
+use Rattle.psnr.specs.Fold.{stepOf}
 use Rattle.psnr.proofs.step.Statement.{statement}
 use Rattle.psnr.proofs.step.Tie as tie
 use Rattle.psnr.proofs.step.Reads as reads
@@ -27,15 +30,18 @@ enum-told-2 c = search needs
 
 -- src/lib.rt:158:1
 returns : tie.Need-returns
-returns c = ?
+unfolding stepOf
+returns c = c .add-record .ensures ∙ sym (ap (λ (z : Run). stepOf z (c .before .before .before .args .r)) (c .before .enum-told .given .1))
 
 -- src/lib.rt:158:1
 returns-2 : tie.Need-returns-2
-returns-2 c = ?
+unfolding stepOf
+returns-2 c = c .add-record2 .ensures ∙ sym (ap (λ (z : Run). stepOf z (c .before .before .before .before .args .r)) (c .before .before .s .given .1))
 
 -- src/lib.rt:158:1
 returns-3 : tie.Need-returns-3
-returns-3 c = ?
+unfolding stepOf
+returns-3 c = sym (ap (λ (z : Run). stepOf z (c .before .before .args .r)) (c .enum-told2 .given .1))
 
 pub step-spec : {M : Type 1} → statement M
 step-spec =

@@ -1,4 +1,5 @@
 use borrow.Author.Needs.{needs}
+use Rattle.psnr.specs.Record.{joins}
 use Rattle.psnr.proofs.judge.joins.Statement.{statement}
 use Rattle.psnr.proofs.judge.joins.Tie as tie
 use Rattle.psnr.proofs.judge.joins.Reads as reads
@@ -11,7 +12,8 @@ is-lawful-requires c κs = search needs
 
 -- src/judge.rt:81:1
 returns : tie.Need-returns
-returns c = ?
+unfolding joins
+returns c = rw (c .before .is-lawful .ensures)
 
 pub joins-spec : {M : Type 1} → statement M
 joins-spec = tie.close (tie.spec is-lawful-requires returns)
