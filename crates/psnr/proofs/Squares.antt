@@ -101,7 +101,7 @@ walkable {wide} {width = width} {height} {depth} c =
       width-most = c .width-most;
       height-most = c .height-most;
       rows = λ (y : ℕ) (m : y < height).
-        record { width-most = c .width-most; first = row-there d (c .each .0) m; second = row-there d (c .each .1 .0) m };
+          record { width-most = c .width-most; first = row-there d (c .each .0) m; second = row-there d (c .each .1 .0) m };
     }
 
 -- ---- how large n can be

@@ -75,7 +75,17 @@ fn squared_error(
         (planeOf (samplesOf wide (now (b8 .entry)) (now (b16 .entry))) «stride_b») width height depth ⌝ }
 {
     let no = plane::check(
-        a8, a16, b8, b16, wide, width, height, stride_a, stride_b, depth, 0,
+        a8,
+        a16,
+        b8,
+        b16,
+        wide,
+        width,
+        height,
+        stride_a,
+        stride_b,
+        depth,
+        0,
     );
     if no != 0 {
         return SquaredError::Refused(no);
@@ -107,7 +117,16 @@ pub fn squared_error8(
         width height depth ⌝ }
 {
     squared_error(
-        a, &[0u16; 0], b, &[0u16; 0], false, width, height, stride_a, stride_b, depth,
+        a,
+        &[0u16; 0],
+        b,
+        &[0u16; 0],
+        false,
+        width,
+        height,
+        stride_a,
+        stride_b,
+        depth,
     )
 }
 
@@ -125,7 +144,16 @@ pub fn squared_error16(
         width height depth ⌝ }
 {
     squared_error(
-        &[0u8; 0], a, &[0u8; 0], b, true, width, height, stride_a, stride_b, depth,
+        &[0u8; 0],
+        a,
+        &[0u8; 0],
+        b,
+        true,
+        width,
+        height,
+        stride_a,
+        stride_b,
+        depth,
     )
 }
 

@@ -31,8 +31,8 @@ row-error-requires c κs = c .before .before .before .before .before .before .pr
 more : (c : tie.After-row-error Inv-loop μ-loop) → let s = c .before .before .before .before .before .before .before in
     c .before .before .loop .sum + c .row-error .result
     ≡ errorOf (planeOf (samplesOf (s .args .wide) (now (s .args .a8)) (now (s .args .a16))) (s .args .stride-a))
-        (planeOf (samplesOf (s .args .wide) (now (s .args .b8)) (now (s .args .b16))) (s .args .stride-b))
-        (s .args .width) (c .before .before .loop .y + 1)
+    (planeOf (samplesOf (s .args .wide) (now (s .args .b8)) (now (s .args .b16))) (s .args .stride-b))
+    (s .args .width) (c .before .before .loop .y + 1)
 more c = rw (error-more, ← (c .before .before .loop .inv .1), c .row-error .ensures)
 
 -- src/walk.rt:60:9

@@ -68,8 +68,8 @@ grown c = c .before .before .before .before .loop .sum + c .squared .result
 
 more : (c : tie.After-squared Inv-loop μ-loop) → let s = c .before .before .before .before .before .before .before .before .before in
     grown c ≡ rowError (planeOf (samplesOf (s .args .wide) (now (s .args .a8)) (now (s .args .a16))) (s .args .stride-a))
-        (planeOf (samplesOf (s .args .wide) (now (s .args .b8)) (now (s .args .b16))) (s .args .stride-b))
-        (c .before .before .before .before .loop .x + 1) (s .args .y)
+    (planeOf (samplesOf (s .args .wide) (now (s .args .b8)) (now (s .args .b16))) (s .args .stride-b))
+    (c .before .before .before .before .loop .x + 1) (s .args .y)
 more c =
     rw (row-more, ← (c .before .before .before .before .loop .inv .1), c .squared .ensures, c .before .before .sample .ensures, c .before .sample2 .ensures)
 
