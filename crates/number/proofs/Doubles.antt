@@ -38,12 +38,12 @@ module _ (n m c w : ℕ) (e : n * 2 ^ c ≡ m * 2 ^ w) where
       (mul-right-comm n (2 ^ a) (2 ^ c) ∙ ap (λ (x : ℕ). x * 2 ^ a) e ∙ mul-assoc m (2 ^ w) (2 ^ a)
       ∙ ap (λ (x : ℕ). m * x) (sym (pow-add 2 w a) ∙ ap (λ (x : ℕ). 2 ^ x) q ∙ pow-add 2 b c) ∙ sym (mul-assoc m (2 ^ b) (2 ^ c)))
 
-  scale-from : (a j : ℕ) → 2 ^ a ≤ m → a + w ≡ j + c → 2 ^ j ≤ n
+  pub scale-from : (a j : ℕ) → 2 ^ a ≤ m → a + w ≡ j + c → 2 ^ j ≤ n
   scale-from a j h q =
       le-of-mul-le-mul-right {m = 2 ^ j} {n = n} {k = 2 ^ c}
       (rw (e, ← (pow-add 2 j c), ← q, pow-add) (mul-le-mul-right (2 ^ w) h)) (pow-pos c)
 
-  scale-upto : (a j : ℕ) → m < 2 ^ a → a + w ≡ j + c → n < 2 ^ j
+  pub scale-upto : (a j : ℕ) → m < 2 ^ a → a + w ≡ j + c → n < 2 ^ j
   scale-upto a j h q =
       lt-of-mul-lt-mul-right (2 ^ c) {m = n} {n = 2 ^ j}
       (rw (e, ← (pow-add 2 j c), ← q, pow-add) (mul-lt-mul-of-pos-right h (pow-pos w)))
@@ -159,7 +159,7 @@ module _ (k s : ℕ) (hk : k < 2046) (from : 2 ^ 52 ≤ s) (upto : s < 2 ^ 53) w
   in-range : s * 2 ^ k < 2 ^ (low binary64 + suc (emax binary64))
   in-range = lt-of-lt-of-le (shl-lt 53 k upto) (pow-mono {i = 53 + k} {j = low binary64 + suc (emax binary64)} (omega (arith, hk)))
 
-  units-fit : T (fits binary64 (units binary64 false s k))
+  pub units-fit : T (fits binary64 (units binary64 false s k))
   unfolding units
   units-fit =
       cond-fits binary64 (ltb (s * 2 ^ k) (2 ^ (low binary64 + suc (emax binary64)))) (odd 54 false s k (low binary64)) (inf false)

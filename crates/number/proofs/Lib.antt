@@ -1,4 +1,7 @@
 -- What the functions' proofs use and no one function owns, and the laws about the root.
 pub mod Whole
 pub mod Words
+pub mod Squares
 pub mod Doubles
+pub mod Nearest
+pub mod Worked

@@ -1,6 +1,6 @@
 -- Whole numbers: the whole root and the nearest one meet their tests, and nothing else does. Assumes nothing.
 use mathlib.Core.Path.{_≡_, refl, sym, ap, _∙_, subst}
-use mathlib.Core.Bool.{Bool, true, false, not, _&&_, and-false, cond}
+use mathlib.Core.Bool.{Bool, true, false, _&&_, cond}
 use Prim.Native.Nat.{ℕ, zero, suc, _+_, _-_, _*_, _/_, _%_, _^_, _≤_, _<_}
 use native.Mathlib.Nat.{add-assoc, add-comm, add-left-comm, mul-assoc, mul-comm, mul-left-comm, mul-add, add-mul, mul-le-mul, mul-lt-mul-of-pos-left, le-antisymm, pow-suc}
 use native.Mathlib.Decide.{decLt, decLe}
@@ -46,28 +46,6 @@ below-square s h =
 pub record Near (n s : ℕ) : Type 0 where
   pub below : s * (s - 1) < n
   pub above : n ≤ s * (s + 1)
-
--- s(s - 1) < n ≤ s(s + 1) is what the definition's test says
-pub near-test : (n s : ℕ) → 0 < s → Near n s → isNearest n s ≡ true
-unfolding isNearest
-near-test n s h c =
-    rw (lt-ltb ((2 * s - 1) * (2 * s - 1)) (4 * n) (omega (arith, below-square s h, c .below)), lt-ltb (4 * n) ((2 * s + 1) * (2 * s + 1)) (omega (arith, above-square s, c .above)))
-
-pub far-below : (n s : ℕ) → 0 < s → n ≤ s * (s - 1) → isNearest n s ≡ false
-unfolding isNearest
-far-below n s h l = rw (le-ltb ((2 * s - 1) * (2 * s - 1)) (4 * n) (omega (arith, below-square s h)))
-
-far-above : (n s : ℕ) → s * (s + 1) < n → isNearest n s ≡ false
-unfolding isNearest
-far-above n s l = rw (le-ltb (4 * n) ((2 * s + 1) * (2 * s + 1)) (omega (arith, above-square s)), and-false)
-
--- the second half of the code's test, where the first has passed
-pub far-or-near : (n s : ℕ) → 0 < s → s * (s - 1) < n → not (ltb (s * (s + 1)) n) ≡ isNearest n s
-far-or-near n s h l = go (decLt (s * (s + 1)) n)
-  where
-    go : Dec (s * (s + 1) < n) → not (ltb (s * (s + 1)) n) ≡ isNearest n s
-    go (yes m) = rw (lt-ltb _ _ m, far-above n s m)
-    go (no m) = let k : n ≤ s * (s + 1) = omega arith in rw (le-ltb (s * (s + 1)) n k, near-test n s h record { below = l; above = k })
 
 -- what a test that passed says
 pub near-says : (n s : ℕ) → 0 < s → isNearest n s ≡ true → Near n s
@@ -190,12 +168,18 @@ shifted m zero d = record { least = omega (arith, d); most = omega (arith, d) }
 shifted m (suc zero) d = record { least = omega (arith, d); most = omega (arith, d) }
 shifted m (suc (suc k)) d = absurd (omega (arith, d))
 
+-- in the code's words
+pub moved-up : (m odd : ℕ) → Digits m odd → (m * 2 ^ odd % 2 ^ 64 < 2 ^ 54) × (m * 2 ^ odd % 2 ^ 64 * 2 ^ 52 ≡ m * 2 ^ (52 + odd))
+moved-up m zero d = (omega (arith, d), omega (arith, d))
+moved-up m (suc zero) d = (omega (arith, d), omega (arith, d))
+moved-up m (suc (suc k)) d = absurd (omega (arith, d))
+
 pub record Answered (n s : ℕ) : Type 0 where
   pub is : s ≡ nearestRoot 53 n
   pub from : 2 ^ 52 ≤ s
   pub upto : s < 2 ^ 53
 
-near-from : (n s : ℕ) → Scaled n → Near n s → 2 ^ 52 ≤ s
+pub near-from : (n s : ℕ) → Scaled n → Near n s → 2 ^ 52 ≤ s
 near-from n s a c = go (decLt s (2 ^ 52))
   where
     go : Dec (s < 2 ^ 52) → 2 ^ 52 ≤ s
@@ -204,7 +188,7 @@ near-from n s a c = go (decLt s (2 ^ 52))
         let p : s * (s + 1) ≤ (2 ^ 52 - 1) * 2 ^ 52 = mul-le-mul {n₁ = s} {m₁ = s + 1} {n₂ = 2 ^ 52 - 1} {m₂ = 2 ^ 52} (omega arith) (omega arith) in
         absurd (omega (arith, a .least, c .above))
 
-near-upto : (n s : ℕ) → Scaled n → Near n s → s < 2 ^ 53
+pub near-upto : (n s : ℕ) → Scaled n → Near n s → s < 2 ^ 53
 near-upto n s a c = go (decLt s (2 ^ 53))
   where
     go : Dec (s < 2 ^ 53) → s < 2 ^ 53

@@ -12,7 +12,7 @@ pub fn nearest(m: u64, odd: u64) -> u64
     requires { ⌜ (2 ^ 52 ≤ m) × (m < 2 ^ 53) × (odd < 2) ⌝ }
     ensures { λ r. ⌜ (r ≡ nearestRoot 53 (m * 2 ^ (52 + odd))) × (2 ^ 52 ≤ r) × (r < 2 ^ 53) ⌝ }
 {
-    let n = wide::product(m, 0x10_0000_0000_0000 << odd);
+    let n = m << odd;
     let s = guess(m, odd);
     if is_nearest(n, s) {
         return s;
@@ -23,19 +23,23 @@ pub fn nearest(m: u64, odd: u64) -> u64
     if is_nearest(n, s - 1) {
         return s - 1;
     }
-    searched(n)
+    searched(wide::product(n, 0x10_0000_0000_0000))
 }
 
-// Whether s is the whole number nearest the root of n: s * (s - 1) < n <= s * (s + 1).
-fn is_nearest(n: Wide, s: u64) -> bool
-    requires { ⌜ (0 < s) × (s < 2 ^ 64 - 1) ⌝ }
-    ensures { λ r. ⌜ r ≡ isNearest (valueOf n) s ⌝ }
+// Whether s is the whole number nearest the root of n * 2^52: s * s - s < n * 2^52 <= s * s + s. The square is carried in two words,
+// high * 2^52 + low, from halves of 26 digits. Of n * 2^52 the low word is 0, so that what is left to compare are high words.
+fn is_nearest(n: u64, s: u64) -> bool
+    requires { ⌜ (n < 2 ^ 54) × (0 < s) × (s ≤ 2 ^ 53) ⌝ }
+    ensures { λ r. ⌜ r ≡ isNearest (n * 2 ^ 52) s ⌝ }
 {
-    if wide::less(wide::product(s, s - 1), n) {
-        !wide::less(wide::product(s, s + 1), n)
-    } else {
-        false
-    }
+    let a = s / 0x400_0000;
+    let b = s % 0x400_0000;
+    let c = a * b;
+    let high = a * a + c / 0x200_0000;
+    let low = c % 0x200_0000 * 0x800_0000 + b * b;
+    let below = high + (low + (0x20_0000_0000_0000 - s)) / 0x10_0000_0000_0000;
+    let above = high + (low + s) / 0x10_0000_0000_0000;
+    (below < n + 2) & (n <= above)
 }
 
 // A quick guess at the root of m * 2^(52 + odd): the root of m * 2^(odd - 52), from 1 up to 4, in doubles, by Newton's steps on
@@ -48,7 +52,7 @@ fn guess(m: u64, odd: u64) -> u64
     let x = f64::from_bits(bits);
     let h = 0.5 * x;
     let y = f64::from_bits(0x5fe6_eb50_c7b5_37a9 - bits / 2);
-    let y = newton(h, newton(h, newton(h, newton(h, y))));
+    let y = newton(h, newton(h, newton(h, y)));
     let s = x * y;
     digits_of(s + 0.5 * y * (x - s * s))
 }

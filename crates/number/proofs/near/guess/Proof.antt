@@ -32,9 +32,6 @@ newton-requires-2 c κs = search needs
 newton-requires-3 : tie.Need-newton-requires-3
 newton-requires-3 c κs = search needs
 
-newton-requires-4 : tie.Need-newton-requires-4
-newton-requires-4 c κs = search needs
-
 digits-of-requires : tie.Need-digits-of-requires
 digits-of-requires c κs = search needs
 
@@ -54,6 +51,5 @@ guess-spec =
     newton-requires
     newton-requires-2
     newton-requires-3
-    newton-requires-4
     digits-of-requires
     returns)

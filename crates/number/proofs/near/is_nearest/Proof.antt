@@ -1,56 +1,65 @@
 -- `number::near::is_nearest` meets its contract. Assumes nothing.
-use mathlib.Core.Path.{refl, ap, sym, _∙_}
-use mathlib.Core.Bool.{not}
-use Prim.Native.Nat.{ℕ}
 use native.Mathlib.Omega.{arith}
-use borrow.Author.Needs.{needs}
-use lib.Dec.{ltb}
-use Rattle.number.specs.Wide.{valueOf}
-use Rattle.number.proofs.Whole.{far-below, far-or-near}
-use Rattle.number.proofs.Words.{said-less, said-not}
+use Rattle.number.proofs.Squares.{Parts, parts, highOf, lowOf, square, high-test}
 use Rattle.number.proofs.near.is_nearest.Statement.{statement}
 use Rattle.number.proofs.near.is_nearest.Tie as tie
 
-sub-product : tie.Need-sub-product
-sub-product c = search needs
+by-parts : (c : tie.Start) → Parts (c .args .s)
+by-parts c = parts (c .args .s) (c .pre .2)
 
-product-requires : tie.Need-product-requires
-product-requires c κs = search needs
+mul-c : tie.Need-mul-c
+mul-c c = omega (arith, by-parts c)
 
-less-requires : tie.Need-less-requires
-less-requires c κs = search needs
+mul-high : tie.Need-mul-high
+mul-high c = omega (arith, by-parts c)
 
-add-product : tie.Need-add-product
-add-product c = omega (arith, c .before .before .before .pre)
+add-high : tie.Need-add-high
+add-high c = omega (arith, by-parts c)
 
-product-requires-2 : tie.Need-product-requires-2
-product-requires-2 c κs = search needs
+mul-low : tie.Need-mul-low
+mul-low c = omega (arith, by-parts c)
 
-less-requires-2 : tie.Need-less-requires-2
-less-requires-2 c κs = search needs
+mul-low-2 : tie.Need-mul-low-2
+mul-low-2 c = omega (arith, by-parts c)
+
+add-low : tie.Need-add-low
+add-low c = omega (arith, by-parts c)
+
+sub-below : tie.Need-sub-below
+sub-below c = omega arith
+
+add-below : tie.Need-add-below
+add-below c = omega (arith, by-parts c)
+
+add-below-2 : tie.Need-add-below-2
+add-below-2 c = omega (arith, by-parts c)
+
+add-above : tie.Need-add-above
+add-above c = omega (arith, by-parts c)
+
+add-above-2 : tie.Need-add-above-2
+add-above-2 c = omega (arith, by-parts c)
+
+add-result : tie.Need-add-result
+add-result c = omega arith
 
 returns : tie.Need-returns
-returns c =
-    let s = c .before .before .before .before .before in
-    let below = said-less (c .before .before .before .less .ensures) (c .before .before .before .before .product .ensures) refl (c .before .before .if1 .taken) in
-    ap not (c .less2 .ensures ∙ ap (λ (x : ℕ). ltb x (valueOf (s .args .n))) (c .before .product2 .ensures))
-    ∙ far-or-near (valueOf (s .args .n)) (s .args .s) (s .pre .0) below
-
-returns-2 : tie.Need-returns-2
-returns-2 c =
-    let s = c .before .before .before in
-    sym
-    (far-below (valueOf (s .args .n)) (s .args .s) (s .pre .0) (said-not (c .before .less .ensures) (c .before .before .product .ensures) refl (c .if1 .left)))
+returns c = high-test (c .args .n) (c .args .s) (highOf (c .args .s)) (lowOf (c .args .s)) (c .pre .1) (c .pre .2) (square (c .args .s))
 
 pub is-nearest-spec : {M : Type 1} → statement M
 is-nearest-spec =
     tie.close
     (tie.spec
-    sub-product
-    product-requires
-    less-requires
-    add-product
-    product-requires-2
-    less-requires-2
-    returns
-    returns-2)
+    mul-c
+    mul-high
+    add-high
+    mul-low
+    mul-low-2
+    add-low
+    sub-below
+    add-below
+    add-below-2
+    add-above
+    add-above-2
+    add-result
+    returns)
