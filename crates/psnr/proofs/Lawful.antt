@@ -2,7 +2,8 @@
 use mathlib.Core.Path.{_≡_, refl, sym, _∙_}
 use mathlib.Core.Bool.{Bool, true, false, _&&_, _||_, or-true}
 use Prim.Native.Nat.{ℕ, zero, suc, _+_, _*_, _^_, _≤_, _<_}
-use native.Mathlib.Nat.{mul-le-mul, lt-of-le-of-lt}
+use native.Mathlib.Nat.{mul-le-mul, lt-of-le-of-lt, not-suc-le-zero}
+use native.Mathlib.Decide.{decLt}
 use native.Mathlib.Numerals.{add-one}
 use native.Mathlib.Omega.{arith}
 use borrow.Author.Tests.{leb-true, eqb-true}
@@ -25,6 +26,16 @@ module _ (f : ℕ → Bool) where
   pub some-more : (i : ℕ) → someTo f (i + 1) ≡ (someTo f i || f i)
   unfolding someTo
   some-more i = rw add-one
+
+-- f holds at an index below n
+pub some-true : (f : ℕ → Bool) (n i : ℕ) → i < n → f i ≡ true → someTo f n ≡ true
+unfolding someTo
+some-true f zero i l e = absurd (not-suc-le-zero l)
+some-true f (suc n) i l e = go (some-true f n i) (decLt i n)
+  where
+    go : (i < n → f i ≡ true → someTo f n ≡ true) → Dec (i < n) → (someTo f n || f n) ≡ true
+    go below (yes m) = rw (below m e)
+    go below (no m) = let q : n ≡ i = omega arith in rw (q, e, or-true)
 
 -- what holds wherever f does, holds where f does at some index
 pub some-says : (f : ℕ → Bool) (P : Type 0) (n : ℕ) → ((i : ℕ) → i < n → f i ≡ true → P) → someTo f n ≡ true → P

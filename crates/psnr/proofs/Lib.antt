@@ -2,3 +2,4 @@ pub mod Squares
 pub mod Whole
 pub mod Lawful
 pub mod Fold
+pub mod Laws

@@ -39,20 +39,25 @@ pub square-le : (m a b : ℕ) → a ≤ m → b ≤ m → squareOf a b ≤ m * m
 unfolding squareOf
 square-le m a b la lb = let l : apart a b ≤ m = omega arith in mul-le-mul l l
 
+-- no visible sample of a plane is above m
+abbrev pub Small : ℕ → ℕ → ℕ → Plane → Type 0
+Small m width height p = (x y : ℕ) → x < width → y < height → sampleAt p x y ≤ m
+
+pub row-le : (m : ℕ) (a b : Plane) (width y : ℕ) → ((x : ℕ) → x < width → sampleAt a x y ≤ m) → ((x : ℕ) → x < width → sampleAt b x y ≤ m)
+    → rowError a b width y ≤ width * (m * m)
+unfolding rowError
+row-le m a b width y sa sb = sum-bound _ (m * m) width (λ (x : ℕ) (l : x < width). square-le m _ _ (sa x l) (sb x l))
+
+pub error-le : (m : ℕ) (a b : Plane) (width height : ℕ) → Small m width height a → Small m width height b
+    → errorOf a b width height ≤ height * (width * (m * m))
+unfolding errorOf
+error-le m a b width height sa sb =
+    sum-bound _ (width * (m * m)) height
+    (λ (y : ℕ) (l : y < height). row-le m a b width y (λ (x : ℕ) (k : x < width). sa x y k l) (λ (x : ℕ) (k : x < width). sb x y k l))
+
 -- the largest square
 abbrev top : ℕ
 top = topSample * topSample
-
-pub row-le : {width y : ℕ} {a b : Plane} → RowPair width a b y → (x : ℕ) → x ≤ width → rowError a b x y ≤ x * top
-unfolding rowError
-row-le p x l =
-    sum-bound _ top x
-    (λ (k : ℕ) (m : k < x). square-le topSample _ _ (p .first .small k (omega arith)) (p .second .small k (omega arith)))
-
-pub error-le : {width height : ℕ} {a b : Plane} → PlanePair width height a b → (y : ℕ) → y ≤ height → errorOf a b width y ≤ y * (width * top)
-unfolding errorOf
-error-le {width} p y l =
-    sum-bound _ (width * top) y (λ (k : ℕ) (m : k < y). row-le (p .rows k (omega arith)) width (omega arith))
 
 -- "At 8,192 by 8,192 and depth 12 it stays below 2^53", said of the limits, whatever they are
 pub limits-fit : sideLimit * (sideLimit * top) < totalLimit
@@ -69,12 +74,18 @@ unfolding totalLimit
 total-fits = lit< tt
 
 pub row-room : {width y : ℕ} {a b : Plane} → RowPair width a b y → (x : ℕ) → x ≤ width → rowError a b x y < 2 ^ 64
-row-room p x l = lt-of-le-of-lt (row-le p x l) (lt-of-le-of-lt (mul-le-mul-right top (le-trans l (p .width-most))) row-fits)
+row-room {y = y} {a} {b} p x l =
+    lt-of-le-of-lt
+    (row-le topSample a b x y (λ (k : ℕ) (m : k < x). p .first .small k (omega arith)) (λ (k : ℕ) (m : k < x). p .second .small k (omega arith)))
+    (lt-of-le-of-lt (mul-le-mul-right top (le-trans l (p .width-most))) row-fits)
 
 -- so that the double is exact
 pub error-below : {width height : ℕ} {a b : Plane} → PlanePair width height a b → (y : ℕ) → y ≤ height → errorOf a b width y < totalLimit
-error-below {width} p y l =
-    lt-of-le-of-lt (error-le p y l)
+error-below {width} {height} {a} {b} p y l =
+    lt-of-le-of-lt
+    (error-le topSample a b width y
+    (λ (x k : ℕ) (lx : x < width) (lk : k < y). p .rows k (omega arith) .first .small x lx)
+    (λ (x k : ℕ) (lx : x < width) (lk : k < y). p .rows k (omega arith) .second .small x lx))
     (lt-of-le-of-lt (mul-le-mul (le-trans l (p .height-most)) (mul-le-mul-right top (p .width-most))) limits-fit)
 
 pub error-room : {width height : ℕ} {a b : Plane} → PlanePair width height a b → (y : ℕ) → y ≤ height → errorOf a b width y < 2 ^ 64
