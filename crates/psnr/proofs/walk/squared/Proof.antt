@@ -1,8 +1,7 @@
 use mathlib.Core.Path.{_≡_}
 use mathlib.Core.Logic.{⊎-elim}
 use Prim.Native.Nat.{_-_, _^_, _≤_}
-use native.Mathlib.Nat.{mul-le-mul, lt-of-le-of-lt}
-use lib.Dec.{lit<}
+use native.Mathlib.Nat.{mul-le-mul}
 use Rattle.psnr.specs.Squared.{apart, squareOf}
 use native.Mathlib.Omega.{arith}
 use borrow.Author.Needs.{needs}
@@ -20,7 +19,7 @@ far c = ⊎-elim (λ w. omega arith) (λ w. omega arith) (c .before .if1 .came)
 
 -- src/walk.rt:12:5
 mul-result : tie.Need-mul-result
-mul-result c = let l : c .before .if1 .d ≤ 2 ^ 32 - 1 = omega arith in record { fits = lt-of-le-of-lt (mul-le-mul l l) (lit< tt) }
+mul-result c = let l : c .before .if1 .d ≤ 2 ^ 32 - 1 = omega arith in omega (arith, mul-le-mul l l)
 
 -- src/walk.rt:8:1
 returns : tie.Need-returns
