@@ -1,13 +1,13 @@
 // The whole number nearest a root, in whole numbers of two words.
 ghost use mathlib.Core.Path.{_≡_};
-ghost use Prim.Native.Nat.{_+_, _-_, _*_, _^_, _≤_, _<_};
+ghost use Prim.Native.Nat.{_+_, _-_, _*_, _/_, _^_, _≤_, _<_};
 ghost use Rattle.number.specs.Root.{isNearest, nearestRoot, wholeRoot};
 ghost use Rattle.number.specs.Wide.{valueOf};
 use crate::wide;
 use crate::wide::Wide;
 
-// The whole number nearest the root of m * 2^(52 + odd), which has 53 digits. A guess that passes the test is the answer; the guess
-// alone is one off for about one number in six, and should all three fail, the root is searched for.
+// The whole number nearest the root of m * 2^(52 + odd), which has 53 digits. Only what passes the test is answered: the guess, or,
+// since that is one off for about one number in seven, its neighbour on the root's side; should both fail, the root is searched for.
 pub fn nearest(m: u64, odd: u64) -> u64
     requires { ⌜ (2 ^ 52 ≤ m) × (m < 2 ^ 53) × (odd < 2) ⌝ }
     ensures { λ r. ⌜ (r ≡ nearestRoot 53 (m * 2 ^ (52 + odd))) × (2 ^ 52 ≤ r) × (r < 2 ^ 53) ⌝ }
@@ -17,29 +17,52 @@ pub fn nearest(m: u64, odd: u64) -> u64
     if is_nearest(n, s) {
         return s;
     }
-    if is_nearest(n, s + 1) {
-        return s + 1;
-    }
-    if is_nearest(n, s - 1) {
-        return s - 1;
+    let t = nearer(n, s);
+    if is_nearest(n, t) {
+        return t;
     }
     searched(wide::product(n, 0x10_0000_0000_0000))
 }
 
-// Whether s is the whole number nearest the root of n * 2^52: s * s - s < n * 2^52 <= s * s + s. The square is carried in two words,
-// high * 2^52 + low, from halves of 26 digits. Of n * 2^52 the low word is 0, so that what is left to compare are high words.
+// Whether s is the whole number nearest the root of n * 2^52: s * s - s < n * 2^52 <= s * s + s. Of n * 2^52 the low 52 digits are 0,
+// so that what stands above them is all there is to compare.
 fn is_nearest(n: u64, s: u64) -> bool
     requires { ⌜ (n < 2 ^ 54) × (0 < s) × (s ≤ 2 ^ 53) ⌝ }
     ensures { λ r. ⌜ r ≡ isNearest (n * 2 ^ 52) s ⌝ }
 {
+    let e = ends_of(s);
+    (e.below < n + 2) & (n <= e.above)
+}
+
+// The neighbour of s on the side of the root of n * 2^52, or s where that is nearest. There is no branch to foresee.
+fn nearer(n: u64, s: u64) -> u64
+    requires { ⌜ (n < 2 ^ 54) × (0 < s) × (s < 2 ^ 53) ⌝ }
+    ensures { λ r. ⌜ (s ≤ r + 1) × (r ≤ s + 1) ⌝ }
+{
+    let e = ends_of(s);
+    s + ((e.above < n) as u64) - ((n + 2 <= e.below) as u64)
+}
+
+// What stands above the low 52 digits of s * s - s + 2^53 and of s * s + s.
+struct Ends {
+    below: u64,
+    above: u64,
+}
+
+// The square is put together from halves of 26 digits: the upper half's own, twice the cross product, and the lower half's.
+fn ends_of(s: u64) -> Ends
+    requires { ⌜ s ≤ 2 ^ 53 ⌝ }
+    ensures { λ r. ⌜ (r .below ≡ (s * s + (2 ^ 53 - s)) / 2 ^ 52) × (r .above ≡ (s * s + s) / 2 ^ 52) ⌝ }
+{
     let a = s / 0x400_0000;
     let b = s % 0x400_0000;
-    let c = a * b;
-    let high = a * a + c / 0x200_0000;
-    let low = c % 0x200_0000 * 0x800_0000 + b * b;
-    let below = high + (low + (0x20_0000_0000_0000 - s)) / 0x10_0000_0000_0000;
-    let above = high + (low + s) / 0x10_0000_0000_0000;
-    (below < n + 2) & (n <= above)
+    let high = a * a;
+    let cross = 2 * (a * b);
+    let low = b * b;
+    Ends {
+        below: high + (cross + (low + (0x20_0000_0000_0000 - s)) / 0x400_0000) / 0x400_0000,
+        above: high + (cross + (low + s) / 0x400_0000) / 0x400_0000,
+    }
 }
 
 // A quick guess at the root of m * 2^(52 + odd): the root of m * 2^(odd - 52), from 1 up to 4, in doubles, by Newton's steps on

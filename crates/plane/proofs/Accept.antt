@@ -12,7 +12,7 @@ use Rattle.plane.specs.Plane.{Plane, maxOf, sampleAt, needed, every}
 use Rattle.plane.specs.Tests.{sideSuits, sidesSuit, sidesReach, strideSuits, longEnough, rowSuits, samplesSuit}
 use Rattle.plane.specs.Tests.{sizeTests, layoutTests, planeTests, planeRefusal}
 use Rattle.plane.specs.Lawful.{Lawful, Each, Accepted}
-use Rattle.plane.proofs.All.{all-at}
+use Rattle.plane.proofs.All.{all-at, none-at}
 use Rattle.plane.proofs.Depth.{depth-says}
 
 -- ---- each test
@@ -41,7 +41,7 @@ long-says width height p e = leb-true _ _ e
 pub samples-say : (depth width height : ℕ) (p : Plane) → samplesSuit depth width height p ≡ true
     → (x y : ℕ) → x < width → y < height → sampleAt p x y ≤ maxOf depth
 unfolding samplesSuit rowSuits
-samples-say depth width height p e x y lx ly = leb-true _ _ (all-at _ width (all-at _ height e y ly) x lx)
+samples-say depth width height p e x y lx ly = none-at _ _ width (all-at _ height e y ly) x lx
 
 -- ---- all of them
 each : (width height depth : ℕ) (planes : List Plane) → every (λ (p : Plane). strideSuits width (p .stride)) planes ≡ true

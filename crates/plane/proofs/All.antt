@@ -1,13 +1,16 @@
--- Laws of `allTo`. Assumes nothing.
+-- Laws of `allTo` and of `noneAbove`. Assumes nothing.
 use mathlib.Core.Path.{_≡_, refl}
 use mathlib.Core.Bool.{Bool, true, false, _&&_, and-false}
-use Prim.Native.Nat.{ℕ, zero, suc, _+_, _<_}
+use Prim.Native.Nat.{ℕ, zero, suc, _+_, _≤_, _<_}
 use native.Mathlib.Nat.{not-suc-le-zero}
 use native.Mathlib.Numerals.{add-one}
 use native.Mathlib.Decide.{decLt}
 use native.Mathlib.Omega.{arith}
+use borrow.Author.Tests.{leb-true, le-leb}
+use lib.Dec.{leb}
 use Rattle.refusal.proofs.Chain.{and-left, and-right}
 use Rattle.plane.specs.Plane.{allTo}
+use Rattle.plane.specs.Tests.{noneAbove}
 
 module _ (f : ℕ → Bool) where
   pub all-none : allTo f 0 ≡ true
@@ -46,3 +49,23 @@ pub all-ext : (f g : ℕ → Bool) (n : ℕ) → ((i : ℕ) → i < n → f i �
 unfolding allTo
 all-ext f g zero h = refl
 all-ext f g (suc n) h = rw (all-ext f g n (λ (i : ℕ) (l : i < n). h i (omega arith)), h n (omega arith))
+
+pub none-none : (max : ℕ) (f : ℕ → ℕ) → noneAbove max f 0 ≡ true
+unfolding noneAbove
+none-none max f = all-none _
+
+pub none-more : (max : ℕ) (f : ℕ → ℕ) (i : ℕ) → noneAbove max f (i + 1) ≡ (noneAbove max f i && leb (f i) max)
+unfolding noneAbove
+none-more max f i = all-more _ i
+
+pub none-at : (max : ℕ) (f : ℕ → ℕ) (n : ℕ) → noneAbove max f n ≡ true → (i : ℕ) → i < n → f i ≤ max
+unfolding noneAbove
+none-at max f n e i l = leb-true (f i) max (all-at _ n e i l)
+
+pub none-true : (max : ℕ) (f : ℕ → ℕ) (n : ℕ) → ((i : ℕ) → f i ≤ max) → noneAbove max f n ≡ true
+unfolding noneAbove
+none-true max f n h = all-true _ n (λ (i : ℕ). le-leb (f i) max (h i))
+
+pub none-ext : (max : ℕ) (f g : ℕ → ℕ) (n : ℕ) → ((i : ℕ) → i < n → f i ≡ g i) → noneAbove max f n ≡ noneAbove max g n
+unfolding noneAbove
+none-ext max f g n h = all-ext _ _ n (λ (i : ℕ) (l : i < n). rw (h i l))

@@ -1,11 +1,11 @@
 -- Laws of depths, and of sample_max. Assumes nothing.
 use mathlib.Core.Path.{_≡_}
-use mathlib.Core.Bool.{Bool, true, false, not, _&&_}
-use Prim.Native.Nat.{ℕ, _+_, _*_, _-_, _^_, _%_, _≤_, _<_}
+use mathlib.Core.Bool.{Bool, true, false, not}
+use Prim.Native.Nat.{ℕ, _+_, _*_, _^_, _%_, _≤_, _<_}
 use native.Mathlib.Nat.{one-mul, mod-eq-of-lt, pow-le-pow-right, lt-of-le-of-lt}
 use native.Mathlib.Omega.{arith}
 use borrow.Author.Tests.{leb-true, le-leb, lt-leb}
-use lib.Dec.{leb, lit<, lit≤}
+use lib.Dec.{leb, lit<}
 use lib.Pow.{pow-pos}
 use Rattle.refusal.proofs.Chain.{and-left, and-right}
 use Rattle.plane.specs.Limits.{leastDepth, mostDepth}
@@ -21,23 +21,23 @@ depth-says wide depth e =
 -- a depth of bytes, a depth of words, and one of neither
 pub byte-depth : (wide : Bool) (depth : ℕ) → leastDepth false ≤ depth → depth ≤ mostDepth false → not wide ≡ depthSuits wide depth
 unfolding depthSuits leastDepth mostDepth
-byte-depth false depth l m = rw (le-leb 1 depth l, le-leb depth 8 m)
-byte-depth true depth l m = rw (lt-leb 9 depth (omega arith))
+byte-depth false depth l m = rw (le-leb _ _ l, le-leb _ _ m)
+byte-depth true depth l m = rw (lt-leb (leastDepth true) depth (omega arith))
 
 pub word-depth : (wide : Bool) (depth : ℕ) → leastDepth true ≤ depth → depth ≤ mostDepth true → wide ≡ depthSuits wide depth
 unfolding depthSuits leastDepth mostDepth
-word-depth true depth l m = rw (le-leb 9 depth l, le-leb depth 12 m)
-word-depth false depth l m = rw (le-leb 1 depth (omega arith), lt-leb depth 8 (omega arith))
+word-depth true depth l m = rw (le-leb _ _ l, le-leb _ _ m)
+word-depth false depth l m = rw (le-leb (leastDepth false) depth (omega arith), lt-leb depth (mostDepth false) (omega arith))
 
 pub below-depths : (wide : Bool) (depth : ℕ) → depth < leastDepth false → false ≡ depthSuits wide depth
 unfolding depthSuits leastDepth mostDepth
-below-depths false depth l = rw (lt-leb 1 depth l)
-below-depths true depth l = rw (lt-leb 9 depth (omega arith))
+below-depths false depth l = rw (lt-leb _ _ l)
+below-depths true depth l = rw (lt-leb (leastDepth true) depth (omega arith))
 
 pub above-depths : (wide : Bool) (depth : ℕ) → mostDepth true < depth → false ≡ depthSuits wide depth
 unfolding depthSuits leastDepth mostDepth
-above-depths true depth l = rw (le-leb 9 depth (omega arith), lt-leb depth 12 l)
-above-depths false depth l = rw (le-leb 1 depth (omega arith), lt-leb depth 8 (omega arith))
+above-depths true depth l = rw (le-leb (leastDepth true) depth (omega arith), lt-leb _ _ l)
+above-depths false depth l = rw (le-leb (leastDepth false) depth (omega arith), lt-leb depth (mostDepth false) (omega arith))
 
 -- every depth is small enough for a shift of 32 bits
 pub depth-small : (wide : Bool) → mostDepth wide < 32
@@ -57,11 +57,12 @@ pub max-grows : {d e : ℕ} → d ≤ e → maxOf d ≤ maxOf e
 unfolding maxOf
 max-grows l = omega (arith, pow-le-pow-right {n = 2} (lit< tt) l)
 
--- sample_max fits a sample: of words 16 bits, of bytes 8
-pub words-fit : maxOf (mostDepth true) < 2 ^ 16
+-- sample_max of any depth, and of the depths of bytes
+pub max-small : (wide : Bool) {depth : ℕ} → depth ≤ mostDepth wide → maxOf depth < 2 ^ 12
 unfolding maxOf mostDepth
-words-fit = lit< tt
+max-small true l = omega (arith, max-grows l)
+max-small false l = omega (arith, max-grows l)
 
-pub bytes-fit : maxOf (mostDepth false) < 2 ^ 8
+pub byte-small : {depth : ℕ} → depth ≤ mostDepth false → maxOf depth < 2 ^ 8
 unfolding maxOf mostDepth
-bytes-fit = lit< tt
+byte-small l = omega (arith, max-grows l)

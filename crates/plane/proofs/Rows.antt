@@ -7,11 +7,11 @@ use native.Mathlib.Nat.{mul-le-mul-right, mul-comm, le-div-iff-mul-le, lt-of-not
 use native.Mathlib.Omega.{arith}
 use borrow.Author.Tests.{leb-true, leb-false, le-leb, lt-leb}
 use lib.Dec.{leb}
-use lib.ListN.{length, take, drop, getD, length-drop}
+use lib.ListN.{length, take, drop, length-drop}
 use lib.Seq.{length-take-le, getD-take, getD-drop}
-use Rattle.plane.specs.Plane.{Plane, planeOf, samplesOf, needed, maxOf}
+use Rattle.plane.specs.Plane.{Plane, planeOf, samplesOf, at, sampleAt, needed, maxOf}
 use Rattle.plane.specs.Tests.{longEnough, noneAbove, rowSuits, samplesSuit}
-use Rattle.plane.proofs.All.{all-ext, all-true}
+use Rattle.plane.proofs.All.{all-true, none-ext, none-true}
 
 -- each row of a plane that is long enough ends inside it
 pub row-inside : (width stride : ℕ) {height n y : ℕ} → needed width height stride ≤ n → y < height → y * stride + width ≤ n
@@ -22,6 +22,21 @@ row-inside width stride {height} {n} {y} long l =
 -- and so does each sample
 pub inside : {width height n x y : ℕ} (stride : ℕ) → needed width height stride ≤ n → x < width → y < height → y * stride + x < n
 inside {width} stride long lx ly = omega (arith, row-inside width stride long ly)
+
+-- ---- row y as a part of a slice, `&samples[start..start + width]` with start = y * stride
+abbrev pub part : List ℕ → ℕ → ℕ → ℕ → List ℕ
+part samples stride width y = take (y * stride + width - y * stride) (drop (y * stride) samples)
+
+module _ (samples : List ℕ) (stride width y : ℕ) where
+  pub part-length : y * stride + width ≤ length samples → length (part samples stride width y) ≡ width
+  part-length h =
+      let e : y * stride + width - y * stride ≡ width = omega arith in
+      rw e (length-take-le width (drop (y * stride) samples) (simp length-drop (omega arith)))
+
+  pub part-at : (x : ℕ) → x < width → at (part samples stride width y) x ≡ sampleAt (planeOf samples stride) x y
+  part-at x l =
+      let e : y * stride + width - y * stride ≡ width = omega arith in
+      rw (e, getD-take width (drop (y * stride) samples) x 0 l, getD-drop (y * stride) samples x 0)
 
 -- the samples of either width are as few as a slice can hold
 pub count-fits : (wide : Bool) (bytes words : List ℕ) → length bytes < 2 ^ 64 → length words < 2 ^ 64
@@ -53,23 +68,18 @@ module _ (width height : ℕ) (p : Plane) {n : ℕ} (e : n ≡ length (p .sample
       (λ (l : needed width height (p .stride) ≤ length (p .samples)). omega (arith, rows .1 (omega arith)))
 
 -- ---- test 6
--- a row's part of the samples, judged alone
 pub part-suits : (max width : ℕ) (samples : List ℕ) (stride y : ℕ) → y * stride + width ≤ length samples
-    → noneAbove max (take (y * stride + width - y * stride) (drop (y * stride) samples)) ≡ rowSuits max width (planeOf samples stride) y
-unfolding noneAbove rowSuits
+    → noneAbove max (at (part samples stride width y)) (length (part samples stride width y)) ≡ rowSuits max width (planeOf samples stride) y
+unfolding rowSuits
 part-suits max width samples stride y h =
-    let row = drop (y * stride) samples in
-    let e : y * stride + width - y * stride ≡ width = omega arith in
-    let l : length (take width row) ≡ width = length-take-le width row (simp length-drop (omega arith)) in
-    rw (e, l)
-    (all-ext _ _ width (λ (x : ℕ) (m : x < width). rw (getD-take width row x 0 m, getD-drop (y * stride) samples x 0)))
+    rw (part-length samples stride width y h) (none-ext max _ _ width (part-at samples stride width y))
 
 -- no byte is above a sample_max of 255, so that bytes need not be read
-pub bytes-suit : (depth width height stride : ℕ) (wide : Bool) (bytes words : List ℕ) {max : ℕ} → ((i : ℕ) → getD bytes i 0 ≤ 255)
+pub bytes-suit : (depth width height stride : ℕ) (wide : Bool) (bytes words : List ℕ) {max : ℕ} → ((i : ℕ) → at bytes i ≤ 255)
     → max ≡ maxOf depth → (not wide && leb 255 max) ≡ true
     → samplesSuit depth width height (planeOf (samplesOf wide bytes words) stride) ≡ true
 unfolding samplesSuit rowSuits
 bytes-suit depth width height stride true bytes words small e t = cc
 bytes-suit depth width height stride false bytes words {max} small e t =
     let top : 255 ≤ maxOf depth = omega (arith, leb-true 255 max t) in
-    all-true _ height (λ (y : ℕ). all-true _ width (λ (x : ℕ). le-leb _ _ (le-trans (small (y * stride + x)) top)))
+    all-true _ height (λ (y : ℕ). none-true _ _ width (λ (x : ℕ). le-trans (small (y * stride + x)) top))

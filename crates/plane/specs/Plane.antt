@@ -17,17 +17,17 @@ abbrev pub samplesOf : Bool → List ℕ → List ℕ → List ℕ
 samplesOf true bytes words = words
 samplesOf false bytes words = bytes
 
--- two planes of one width, each given as its bytes, its words and its stride
-abbrev pub pairOf : Bool → List ℕ → List ℕ → ℕ → List ℕ → List ℕ → ℕ → List Plane
-pairOf wide a8 a16 strideA b8 b16 strideB = planeOf (samplesOf wide a8 a16) strideA ∷ planeOf (samplesOf wide b8 b16) strideB ∷ []
-
 -- "sample_max is 2^depth - 1"
 unfoldable pub maxOf : ℕ → ℕ
 maxOf depth = 2 ^ depth - 1
 
+-- what stands at a place of a list
+abbrev pub at : List ℕ → ℕ → ℕ
+at samples i = getD samples i 0
+
 -- "Sample (x, y) stands at y × stride + x"
 abbrev pub sampleAt : Plane → ℕ → ℕ → ℕ
-sampleAt p x y = getD (p .samples) (y * p .stride + x) 0
+sampleAt p x y = at (p .samples) (y * p .stride + x)
 
 -- "A plane must reach stride × (height - 1) + width samples"
 abbrev pub needed : ℕ → ℕ → ℕ → ℕ

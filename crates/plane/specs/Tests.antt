@@ -1,9 +1,9 @@
 -- Document 01, "When the desk says no", 1 to 6: each test, true where the number is not given, and their list. Definitions only.
-use mathlib.Core.Bool.{Bool, true, false, _&&_}
+use mathlib.Core.Bool.{Bool, _&&_}
 use mathlib.Core.List.{List, [], _∷_, _++_}
-use Prim.Native.Nat.{ℕ}
+use Prim.Native.Nat.{ℕ, zero, suc, min}
 use lib.Dec.{leb}
-use lib.ListN.{length, getD}
+use lib.ListN.{length}
 use Rattle.refusal.specs.Numbers.{depthNo, sideNo, smallNo, strideNo, shortNo, sampleNo}
 use Rattle.refusal.specs.First.{firstBroken}
 use Rattle.plane.specs.Limits.{sideLimit, strideLimit, leastDepth, mostDepth}
@@ -32,9 +32,13 @@ strideSuits width stride = leb width stride && leb stride strideLimit
 unfoldable pub longEnough : ℕ → ℕ → Plane → Bool
 longEnough width height p = leb (needed width height (p .stride)) (length (p .samples))
 
+-- none of the first n values of f is above max
+unfoldable pub noneAbove : ℕ → (ℕ → ℕ) → ℕ → Bool
+noneAbove max f n = allTo (λ (i : ℕ). leb (f i) max) n
+
 -- no visible sample of row y is above max
 unfoldable pub rowSuits : ℕ → ℕ → Plane → ℕ → Bool
-rowSuits max width p y = allTo (λ (x : ℕ). leb (sampleAt p x y) max) width
+rowSuits max width p y = noneAbove max (λ (x : ℕ). sampleAt p x y) width
 
 -- 6: no visible sample is above sample_max
 unfoldable pub samplesSuit : ℕ → ℕ → ℕ → Plane → Bool
@@ -61,6 +65,8 @@ planeTests wide planes width height depth least = sizeTests wide width height de
 abbrev pub planeRefusal : Bool → List Plane → ℕ → ℕ → ℕ → ℕ → ℕ
 planeRefusal wide planes width height depth least = firstBroken (planeTests wide planes width height depth least)
 
--- no sample of a list is above max
-unfoldable pub noneAbove : ℕ → List ℕ → Bool
-noneAbove max samples = allTo (λ (x : ℕ). leb (getD samples x 0) max) (length samples)
+-- of two refusals the lower, where 0 is none
+abbrev pub lowerOf : ℕ → ℕ → ℕ
+lowerOf zero b = b
+lowerOf (suc a) zero = suc a
+lowerOf (suc a) (suc b) = min (suc a) (suc b)

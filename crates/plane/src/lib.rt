@@ -1,15 +1,15 @@
 // What a plane may be, after document 01: its limits, the tests 1 to 6 that a call makes before it reads, and the samples of a plane
-// of either width. A plane's samples come as two slices, bytes and words; `wide` says which of them holds the plane, the other is empty.
+// of either width. A plane's samples come as two slices, bytes and words: `wide` says which is the plane, and the other is not read.
 ghost use mathlib.Core.Path.{_≡_};
 ghost use mathlib.Core.Bool.{true, false};
 ghost use mathlib.Core.List.{[], _∷_};
 ghost use Prim.Native.Nat.{_+_, _*_, _<_, _≤_};
-ghost use lib.ListN.{length, getD};
+ghost use lib.ListN.{length};
 ghost use Rattle.refusal.specs.First.{firstBroken};
 ghost use Rattle.plane.specs.Limits.{mostDepth};
-ghost use Rattle.plane.specs.Plane.{planeOf, pairOf, samplesOf, maxOf, needed, allTo};
+ghost use Rattle.plane.specs.Plane.{planeOf, samplesOf, maxOf, at, needed, allTo};
 ghost use Rattle.plane.specs.Tests.{depthSuits, sidesSuit, sidesReach, strideSuits, longEnough};
-ghost use Rattle.plane.specs.Tests.{noneAbove, rowSuits, samplesSuit, sizeTests, layoutTests, planeRefusal};
+ghost use Rattle.plane.specs.Tests.{noneAbove, rowSuits, samplesSuit, sizeTests, layoutTests, lowerOf, planeRefusal};
 
 // The largest width and the largest height.
 pub const SIDE_LIMIT: usize = 8192;
@@ -62,7 +62,7 @@ pub fn stride_suits(width: usize, stride: usize) -> bool
 // The sample at place `i`.
 pub fn sample(bytes: &[u8], words: &[u16], wide: bool, i: usize) -> u32
     requires { ⌜ i < length (samplesOf wide (now bytes) (now words)) ⌝ }
-    ensures { λ r. ⌜ r ≡ getD (samplesOf wide (now (bytes .entry)) (now (words .entry))) i 0 ⌝ }
+    ensures { λ r. ⌜ r ≡ at (samplesOf wide (now (bytes .entry)) (now (words .entry))) i ⌝ }
 {
     if wide {
         words[i] as u32
@@ -99,7 +99,7 @@ pub fn long_enough(
 
 // Whether no sample of a row is above `max`. A row is walked to its end, whatever it holds: such a loop is vectorised.
 fn row_suits8(row: &[u8], max: u8) -> bool
-    ensures { λ r. ⌜ r ≡ noneAbove max (now (row .entry)) ⌝ }
+    ensures { λ r. ⌜ r ≡ noneAbove max (at (now (row .entry))) (length (now (row .entry))) ⌝ }
 {
     let mut ok = true;
     for x in 0..row.len() {
@@ -109,7 +109,7 @@ fn row_suits8(row: &[u8], max: u8) -> bool
 }
 
 fn row_suits16(row: &[u16], max: u16) -> bool
-    ensures { λ r. ⌜ r ≡ noneAbove max (now (row .entry)) ⌝ }
+    ensures { λ r. ⌜ r ≡ noneAbove max (at (now (row .entry))) (length (now (row .entry))) ⌝ }
 {
     let mut ok = true;
     for x in 0..row.len() {
@@ -199,42 +199,47 @@ pub fn size_refusal(wide: bool, width: usize, height: usize, depth: u32, least: 
     0
 }
 
-// The lowest of 4, 5 and 6 that applies to two planes, and 0 where none does.
-fn layout_refusal(
-    a8: &[u8],
-    a16: &[u16],
-    b8: &[u8],
-    b16: &[u16],
+// The lowest of 4, 5 and 6 that applies to one plane, and 0 where none does.
+pub fn layout_refusal(
+    bytes: &[u8],
+    words: &[u16],
     wide: bool,
     width: usize,
     height: usize,
-    stride_a: usize,
-    stride_b: usize,
+    stride: usize,
     depth: u32,
 ) -> u8
     requires { ⌜ depthSuits wide depth ≡ true ⌝ }
     requires { ⌜ 1 ≤ width ⌝ }
-    ensures { λ r. ⌜ r ≡ firstBroken (layoutTests (pairOf wide (now (a8 .entry)) (now (a16 .entry)) «stride_a»
-        (now (b8 .entry)) (now (b16 .entry)) «stride_b») width height depth) ⌝ }
+    ensures { λ r. ⌜ r ≡ firstBroken (layoutTests
+        (planeOf (samplesOf wide (now (bytes .entry)) (now (words .entry))) stride ∷ []) width height depth) ⌝ }
 {
-    if !(stride_suits(width, stride_a) & stride_suits(width, stride_b)) {
+    if !stride_suits(width, stride) {
         return refusal::STRIDE;
     }
-    let long_a = long_enough(a8, a16, wide, width, height, stride_a);
-    let long_b = long_enough(b8, b16, wide, width, height, stride_b);
-    if !(long_a & long_b) {
+    if !long_enough(bytes, words, wide, width, height, stride) {
         return refusal::SHORT;
     }
-    let suit_a = samples_suit(a8, a16, wide, width, height, stride_a, depth);
-    let suit_b = samples_suit(b8, b16, wide, width, height, stride_b, depth);
-    if !(suit_a & suit_b) {
+    if !samples_suit(bytes, words, wide, width, height, stride, depth) {
         return refusal::SAMPLE;
     }
     0
 }
 
-// The lowest of 1 to 6 that applies to two planes of either width, and 0 where none does. `least` is the least side of the call, 0
-// where 3 is not among its refusals.
+// Of two refusals the lower, where 0 is none.
+pub fn lower(a: u8, b: u8) -> u8
+    ensures { λ r. ⌜ r ≡ lowerOf a b ⌝ }
+{
+    if a == 0 {
+        return b;
+    }
+    if b == 0 {
+        return a;
+    }
+    if a <= b { a } else { b }
+}
+
+// The lowest of 1 to 6 that applies to two planes of either width, and 0 where none does.
 pub fn check(
     a8: &[u8],
     a16: &[u16],
@@ -248,28 +253,21 @@ pub fn check(
     depth: u32,
     least: usize,
 ) -> u8
-    ensures { λ r. ⌜ r ≡ planeRefusal wide (pairOf wide (now (a8 .entry)) (now (a16 .entry)) «stride_a»
-        (now (b8 .entry)) (now (b16 .entry)) «stride_b») width height depth least ⌝ }
+    ensures { λ r. ⌜ r ≡ planeRefusal wide
+        (planeOf (samplesOf wide (now (a8 .entry)) (now (a16 .entry))) «stride_a»
+        ∷ planeOf (samplesOf wide (now (b8 .entry)) (now (b16 .entry))) «stride_b» ∷ []) width height depth least ⌝ }
 {
     let no = size_refusal(wide, width, height, depth, least);
     if no != 0 {
         return no;
     }
-    layout_refusal(
-        a8,
-        a16,
-        b8,
-        b16,
-        wide,
-        width,
-        height,
-        stride_a,
-        stride_b,
-        depth,
-    )
+    let no_a = layout_refusal(a8, a16, wide, width, height, stride_a, depth);
+    let no_b = layout_refusal(b8, b16, wide, width, height, stride_b, depth);
+    lower(no_a, no_b)
 }
 
-// The same of bytes.
+// The lowest of 1 to 6 that applies to two planes of bytes, and 0 where none does. `least` is the least side of the call, 0 where 3 is
+// not among its refusals.
 pub fn check8(
     a: &[u8],
     b: &[u8],

@@ -5,7 +5,7 @@ use mathlib.Core.List.{List, [], _∷_, _++_}
 use Prim.Native.Nat.{ℕ, _≤_}
 use native.Mathlib.Omega.{arith}
 use borrow.Author.Tests.{not-true, not-false}
-use Rattle.refusal.specs.First.{unless, firstBroken}
+use Rattle.refusal.specs.First.{firstBroken}
 
 -- ---- two tests that both passed
 pub and-left : (a b : Bool) → (a && b) ≡ true → a ≡ true
@@ -23,15 +23,7 @@ fails {r} e h = sym e ∙ not-true r h
 pub holds : {r b : Bool} → r ≡ b → not r ≡ false → b ≡ true
 holds {r} e h = sym e ∙ not-false r h
 
--- ---- the same of two results under one `&`
-pub both-hold : {r s b d : Bool} → r ≡ b → s ≡ d → not (r && s) ≡ false → (b ≡ true) × (d ≡ true)
-both-hold {r} {s} e f h =
-    let t = not-false (r && s) h in (sym e ∙ and-left r s t, sym f ∙ and-right r s t)
-
-pub one-fails : {r s b d : Bool} → r ≡ b → s ≡ d → not (r && s) ≡ true → (b && d) ≡ false
-one-fails {r} {s} e f h = rw (← e, ← f) (not-true (r && s) h)
-
--- ---- a list of tests that goes on: its first part decides where it refuses, else the rest
+-- ---- lists of tests
 -- no test has the number 0, which says that none is broken
 abbrev pub Named : List (ℕ × Bool) → Type 0
 Named [] = Unit {0}
@@ -47,12 +39,21 @@ passed [] named e = tt
 passed ((n, true) ∷ later) named e = (refl, passed later (named .1) e)
 passed ((n, false) ∷ later) named e = absurd (omega (arith, named .0, e))
 
-pub go-on : (ts more : List (ℕ × Bool)) → Named ts → firstBroken ts ≡ 0 → firstBroken (ts ++ more) ≡ firstBroken more
-go-on [] more named e = refl
-go-on ((n, true) ∷ later) more named e = go-on later more (named .1) e
-go-on ((n, false) ∷ later) more named e = absurd (omega (arith, named .0, e))
+-- a call's tests go on after those of another call, which answered n
+rest : (ts more : List (ℕ × Bool)) → Named ts → firstBroken ts ≡ 0 → firstBroken (ts ++ more) ≡ firstBroken more
+rest [] more named e = refl
+rest ((n, true) ∷ later) more named e = rest later more (named .1) e
+rest ((n, false) ∷ later) more named e = absurd (omega (arith, named .0, e))
 
-pub stop : (ts more : List (ℕ × Bool)) → (firstBroken ts ≡ 0 → ⊥) → firstBroken (ts ++ more) ≡ firstBroken ts
-stop [] more h = absurd (h refl)
-stop ((n, true) ∷ later) more h = stop later more h
-stop ((n, false) ∷ later) more h = refl
+head : (ts more : List (ℕ × Bool)) → (firstBroken ts ≡ 0 → ⊥) → firstBroken ts ≡ firstBroken (ts ++ more)
+head [] more h = absurd (h refl)
+head ((n, true) ∷ later) more h = head later more h
+head ((n, false) ∷ later) more h = refl
+
+-- it refused: that is the answer
+pub stop : {n : ℕ} (ts more : List (ℕ × Bool)) → n ≡ firstBroken ts → (n ≡ 0 → ⊥) → n ≡ firstBroken (ts ++ more)
+stop ts more e h = e ∙ head ts more (λ z. h (e ∙ z))
+
+-- it did not: the answer is that of the other tests
+pub go-on : {n m : ℕ} (ts more : List (ℕ × Bool)) → Named ts → n ≡ firstBroken ts → n ≡ 0 → m ≡ firstBroken more → m ≡ firstBroken (ts ++ more)
+go-on ts more named e z f = f ∙ sym (rest ts more named (sym e ∙ z))

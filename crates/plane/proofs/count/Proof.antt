@@ -1,13 +1,10 @@
+-- `plane::count` meets its contract. Assumes nothing.
 use Rattle.plane.proofs.count.Statement.{statement}
 use Rattle.plane.proofs.count.Tie as tie
-use Rattle.plane.proofs.count.Reads as reads
-use Rattle.plane.proofs.count.Lts as lts
 
--- src/lib.rt:86:1
 returns : tie.Need-returns
 returns c = rw (c .if1 .taken)
 
--- src/lib.rt:86:1
 returns-2 : tie.Need-returns-2
 returns-2 c = rw (c .if1 .left)
 

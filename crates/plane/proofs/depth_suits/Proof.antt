@@ -1,27 +1,22 @@
+-- `plane::depth_suits` meets its contract: one law for each kind of depth. Assumes nothing.
 use native.Mathlib.Omega.{arith}
 use Rattle.plane.specs.Limits.{leastDepth, mostDepth}
 use Rattle.plane.proofs.Depth.{byte-depth, word-depth, below-depths, above-depths}
 use Rattle.plane.proofs.depth_suits.Statement.{statement}
 use Rattle.plane.proofs.depth_suits.Tie as tie
-use Rattle.plane.proofs.depth_suits.Reads as reads
-use Rattle.plane.proofs.depth_suits.Lts as lts
 
--- src/lib.rt:23:1
 returns : tie.Need-returns
 unfolding leastDepth mostDepth
 returns c = byte-depth _ _ (omega arith) (omega arith)
 
--- src/lib.rt:23:1
 returns-2 : tie.Need-returns-2
 unfolding leastDepth mostDepth
 returns-2 c = word-depth _ _ (omega arith) (omega arith)
 
--- src/lib.rt:23:1
 returns-3 : tie.Need-returns-3
 unfolding leastDepth mostDepth
 returns-3 c = below-depths _ _ (omega arith)
 
--- src/lib.rt:23:1
 returns-4 : tie.Need-returns-4
 unfolding leastDepth mostDepth
 returns-4 c = above-depths _ _ (omega arith)

@@ -1,46 +1,38 @@
+-- `plane::rows_suit` meets its contract. The loop's invariant: the flag is the test of the rows passed. Assumes nothing.
 use mathlib.Core.Path.{_≡_, sym}
-use Prim.Native.Nat.{ℕ, _≤_, _-_}
+use Prim.Native.Nat.{_≤_, _-_}
 use native.Mathlib.Omega.{arith}
 use borrow.Author.Needs.{needs}
-use denote.Ref.{now}
 use Rattle.plane.specs.Plane.{planeOf, samplesOf, allTo}
 use Rattle.plane.specs.Tests.{rowSuits}
 use Rattle.plane.proofs.All.{all-none, all-more}
 use Rattle.plane.proofs.Rows.{row-inside}
 use Rattle.plane.proofs.rows_suit.Statement.{statement}
 use Rattle.plane.proofs.rows_suit.Tie as tie
-use Rattle.plane.proofs.rows_suit.Reads as reads
-use Rattle.plane.proofs.rows_suit.Lts as lts
-use Rattle.plane.proofs.row_suits.Reads as row-suits-reads
 
 abbrev Inv-loop : tie.InvT-loop
-Inv-loop bytes words wide width height stride max ok₀ y₀ ok y = (y ≤ height) × (ok ≡ allTo (rowSuits max width (planeOf (samplesOf wide bytes words) stride)) y)
+Inv-loop bytes words wide width height stride max ok₀ y₀ ok y =
+    (y ≤ height) × (ok ≡ allTo (rowSuits max width (planeOf (samplesOf wide bytes words) stride)) y)
 
 abbrev μ-loop : tie.MeasureT-loop
 μ-loop bytes words wide width height stride max ok₀ y₀ ok y = height - y
 
--- src/lib.rt:151:5
 loop-holds : tie.Need-loop-holds Inv-loop μ-loop
 loop-holds c = (search needs, sym (all-none _))
 
--- src/lib.rt:152:19
 row-suits-requires : tie.Need-row-suits-requires Inv-loop μ-loop
 row-suits-requires c κs =
     let s = c .before .before .before .before in (row-inside (s .args .width) (s .args .stride) (s .pre .0) (c .loop-test .taken), s .pre .1)
 
--- src/lib.rt:151:9
 add-y : tie.Need-add-y Inv-loop μ-loop
 add-y c = search needs
 
--- src/lib.rt:151:5
 loop-less : tie.Need-loop-less Inv-loop μ-loop
 loop-less c = search needs
 
--- src/lib.rt:151:5
 loop-again : tie.Need-loop-again Inv-loop μ-loop
 loop-again c = (search needs, rw (all-more, ← (c .before .before .loop .inv .1), ← (c .row-suits .ensures)))
 
--- src/lib.rt:137:1
 returns : tie.Need-returns Inv-loop μ-loop
 returns c =
     let e : c .before .loop .y ≡ c .before .before .before .before .args .height = omega arith in rw e at (c .before .loop .inv .1)

@@ -1,34 +1,26 @@
+-- `plane::sample` meets its contract. Assumes nothing.
 use native.Mathlib.Omega.{arith}
 use Rattle.plane.proofs.sample.Statement.{statement}
 use Rattle.plane.proofs.sample.Tie as tie
-use Rattle.plane.proofs.sample.Reads as reads
-use Rattle.plane.proofs.sample.Lts as lts
 
--- src/lib.rt:79:9
 mul-result : tie.Need-mul-result
 mul-result c = let h = rw (c .if1 .taken) at (c .before .pre) in omega arith
 
--- src/lib.rt:79:9
 shared-slice-read-result : tie.Need-shared-slice-read-result
 shared-slice-read-result c = rw (c .before .if1 .taken) at (c .before .before .pre)
 
--- src/lib.rt:79:9
 cast-result : tie.Need-cast-result
 cast-result c = omega (arith, c .shared-slice-known .given (c .before .before .args .i))
 
--- src/lib.rt:81:9
 shared-slice-read-result-2 : tie.Need-shared-slice-read-result-2
 shared-slice-read-result-2 c = rw (c .before .if1 .left) at (c .before .before .pre)
 
--- src/lib.rt:81:9
 cast-result-2 : tie.Need-cast-result-2
 cast-result-2 c = omega (arith, c .shared-slice-known2 .given (c .before .before .args .i))
 
--- src/lib.rt:74:1
 returns : tie.Need-returns
 returns c = rw (c .before .if1 .taken)
 
--- src/lib.rt:74:1
 returns-2 : tie.Need-returns-2
 returns-2 c = rw (c .before .if1 .left)
 

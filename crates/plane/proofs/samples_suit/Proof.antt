@@ -1,24 +1,18 @@
+-- `plane::samples_suit` meets its contract, also where it reads nothing. Assumes nothing.
 use mathlib.Core.Path.{sym}
 use Prim.Native.Nat.{ℕ}
 use native.Mathlib.Omega.{arith}
-use borrow.Author.Needs.{needs}
 use denote.Ref.{now}
 use Rattle.plane.specs.Tests.{samplesSuit}
 use Rattle.plane.proofs.Depth.{depth-says, depth-small, max-grows}
 use Rattle.plane.proofs.Rows.{bytes-suit}
 use Rattle.plane.proofs.samples_suit.Statement.{statement}
 use Rattle.plane.proofs.samples_suit.Tie as tie
-use Rattle.plane.proofs.samples_suit.Reads as reads
-use Rattle.plane.proofs.samples_suit.Lts as lts
-use Rattle.plane.proofs.rows_suit.Reads as rows-suit-reads
-use Rattle.plane.proofs.sample_max.Reads as sample-max-reads
 
--- src/lib.rt:171:9
 sample-max-requires : tie.Need-sample-max-requires
 sample-max-requires c κs =
     let s = c .before .before in omega (arith, depth-says _ _ (s .pre .0), depth-small (s .args .wide))
 
--- src/lib.rt:173:9
 returns : tie.Need-returns
 returns c =
     let s = c .before .before .before .before in
@@ -28,12 +22,11 @@ returns c =
     (c .before .sample-max .ensures)
     (c .if1 .taken))
 
--- src/lib.rt:175:5
 rows-suit-requires : tie.Need-rows-suit-requires
 rows-suit-requires c κs =
-    let s = c .before .before .before .before in (s .pre .1, rw (c .before .sample-max .ensures) (max-grows (depth-says _ _ (s .pre .0) .1)))
+    let s = c .before .before .before .before in
+    (s .pre .1, rw (c .before .sample-max .ensures) (max-grows (depth-says _ _ (s .pre .0) .1)))
 
--- src/lib.rt:158:1
 returns-2 : tie.Need-returns-2
 unfolding samplesSuit
 returns-2 c = rw (← (c .before .before .sample-max .ensures)) (c .rows-suit .ensures)

@@ -1,12 +1,10 @@
+-- `plane::sides_suit` meets its contract, which is the code. Assumes nothing.
 use mathlib.Core.Path.{refl}
 use Rattle.plane.specs.Limits.{sideLimit}
 use Rattle.plane.specs.Tests.{sidesSuit}
 use Rattle.plane.proofs.sides_suit.Statement.{statement}
 use Rattle.plane.proofs.sides_suit.Tie as tie
-use Rattle.plane.proofs.sides_suit.Reads as reads
-use Rattle.plane.proofs.sides_suit.Lts as lts
 
--- src/lib.rt:42:1
 returns : tie.Need-returns
 unfolding sidesSuit sideLimit
 returns c = refl

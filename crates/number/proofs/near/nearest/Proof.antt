@@ -38,39 +38,24 @@ is-nearest-requires c κs = (moved (c .before) .0, omega arith, omega arith)
 returns : tie.Need-returns
 returns c = tested (c .before .before .before) _ (omega arith) (sym (c .before .is-nearest .ensures) ∙ c .if1 .taken)
 
-add-is-nearest : tie.Need-add-is-nearest
-add-is-nearest c = search needs
+nearer-requires : tie.Need-nearer-requires
+nearer-requires c κs = (moved (c .before .before .before) .0, omega arith, omega arith)
 
 is-nearest-requires-2 : tie.Need-is-nearest-requires-2
-is-nearest-requires-2 c κs = (moved (c .before .before .before) .0, omega arith, omega arith)
-
-add-result : tie.Need-add-result
-add-result c = search needs
+is-nearest-requires-2 c κs = (moved (c .before .before .before .before) .0, omega arith, omega arith)
 
 returns-2 : tie.Need-returns-2
-returns-2 c = tested (c .before .before .before .before .before) _ (omega arith) (sym (c .before .is-nearest2 .ensures) ∙ c .if2 .taken)
-
-sub-is-nearest : tie.Need-sub-is-nearest
-sub-is-nearest c = search needs
-
-is-nearest-requires-3 : tie.Need-is-nearest-requires-3
-is-nearest-requires-3 c κs = (moved (c .before .before .before .before .before) .0, omega arith, omega arith)
-
-sub-result : tie.Need-sub-result
-sub-result c = search needs
-
-returns-3 : tie.Need-returns-3
-returns-3 c = tested (c .before .before .before .before .before .before .before) _ (omega arith) (sym (c .before .is-nearest3 .ensures) ∙ c .if3 .taken)
+returns-2 c = tested (c .before .before .before .before .before .before) _ (omega arith) (sym (c .before .is-nearest2 .ensures) ∙ c .if2 .taken)
 
 product-requires : tie.Need-product-requires
 product-requires c κs = search needs
 
 searched-requires : tie.Need-searched-requires
-searched-requires c κs = rw (c .product .ensures ∙ moved (c .before .before .before .before .before .before .before .before) .1) (scaled-lt _ (scaled (c .before .before .before .before .before .before .before .before)))
+searched-requires c κs = rw (c .product .ensures ∙ moved (c .before .before .before .before .before .before .before) .1) (scaled-lt _ (scaled (c .before .before .before .before .before .before .before)))
 
-returns-4 : tie.Need-returns-4
-returns-4 c =
-    let s = c .before .before .before .before .before .before .before .before .before in
+returns-3 : tie.Need-returns-3
+returns-3 c =
+    let s = c .before .before .before .before .before .before .before .before in
     let d = defined _ (scaled s) in
     let e = c .searched .ensures ∙ ap (nearestRoot 53) (c .before .product .ensures ∙ moved s .1) in
     (e, rw e (d .from), rw e (d .upto))
@@ -83,14 +68,9 @@ nearest-spec =
     guess-requires
     is-nearest-requires
     returns
-    add-is-nearest
+    nearer-requires
     is-nearest-requires-2
-    add-result
     returns-2
-    sub-is-nearest
-    is-nearest-requires-3
-    sub-result
-    returns-3
     product-requires
     searched-requires
-    returns-4)
+    returns-3)

@@ -1,0 +1,75 @@
+-- Blocks of 64 as rows and columns. Assumes nothing.
+use mathlib.Core.Path.{_≡_, refl, sym, ap, ap₂, _∙_, subst}
+use mathlib.Core.List.{List, [], _∷_, _++_, append-assoc, append-nil}
+use Prim.Native.Nat.{ℕ, zero, suc, _+_, _-_, _*_, _≤_, _<_, zero-le}
+use native.Mathlib.Omega.{arith}
+use native.Mathlib.Numerals.{add-one}
+use lib.IntN.{ℤ, pos}
+use lib.ListN.{length, getD, set, take, drop, length-append, drop-of-length-le}
+use lib.Seq.{take-at, drop-at, take-length, drop-length, drop-drop}
+use borrow.Rule.Slice.PartMut.{putMid}
+use Rattle.dct.specs.Operation.{Small, Within}
+use Rattle.dct.specs.Block.{rows, column, row, line, places}
+use Rattle.dct.specs.Steps.{steps}
+use Rattle.dct.proofs.Trip.{length-run}
+
+-- eight stores at the front
+pub eight-set : (l : List ℤ) (a0 a1 a2 a3 a4 a5 a6 a7 : ℤ) → 8 ≤ length l
+    → set (set (set (set (set (set (set (set l 0 a0) 1 a1) 2 a2) 3 a3) 4 a4) 5 a5) 6 a6) 7 a7 ≡ (a0 ∷ a1 ∷ a2 ∷ a3 ∷ a4 ∷ a5 ∷ a6 ∷ a7 ∷ []) ++ drop 8 l
+eight-set [] a0 a1 a2 a3 a4 a5 a6 a7 h = absurd (omega arith)
+eight-set (x0 ∷ []) a0 a1 a2 a3 a4 a5 a6 a7 h = absurd (omega arith)
+eight-set (x0 ∷ x1 ∷ []) a0 a1 a2 a3 a4 a5 a6 a7 h = absurd (omega arith)
+eight-set (x0 ∷ x1 ∷ x2 ∷ []) a0 a1 a2 a3 a4 a5 a6 a7 h = absurd (omega arith)
+eight-set (x0 ∷ x1 ∷ x2 ∷ x3 ∷ []) a0 a1 a2 a3 a4 a5 a6 a7 h = absurd (omega arith)
+eight-set (x0 ∷ x1 ∷ x2 ∷ x3 ∷ x4 ∷ []) a0 a1 a2 a3 a4 a5 a6 a7 h = absurd (omega arith)
+eight-set (x0 ∷ x1 ∷ x2 ∷ x3 ∷ x4 ∷ x5 ∷ []) a0 a1 a2 a3 a4 a5 a6 a7 h = absurd (omega arith)
+eight-set (x0 ∷ x1 ∷ x2 ∷ x3 ∷ x4 ∷ x5 ∷ x6 ∷ []) a0 a1 a2 a3 a4 a5 a6 a7 h = absurd (omega arith)
+eight-set (x0 ∷ x1 ∷ x2 ∷ x3 ∷ x4 ∷ x5 ∷ x6 ∷ x7 ∷ l) a0 a1 a2 a3 a4 a5 a6 a7 h = refl
+
+-- ---- sizes
+
+pub small-at : (n : ℕ) (b : List ℤ) → Small n b → (k : ℕ) → Within n (getD b k (pos 0))
+small-at n [] h k = record { le = zero-le }
+small-at n (a ∷ b) h zero = h .0
+small-at n (a ∷ b) h (suc k) = small-at n b (h .1) k
+
+pub small-column : (n : ℕ) (b : List ℤ) → Small n b → (i : ℕ) → Small n (column i b)
+small-column n b h i =
+    let w = small-at n b h in (w i, (w (8 + i), (w (16 + i), (w (24 + i), (w (32 + i), (w (40 + i), (w (48 + i), (w (56 + i), tt))))))))
+
+pub small-row : (n : ℕ) (b : List ℤ) → Small n b → (i : ℕ) → Small n (row i b)
+small-row n b h i =
+    let w = small-at n b h in
+    (w (8 * i), (w (8 * i + 1), (w (8 * i + 2), (w (8 * i + 3), (w (8 * i + 4), (w (8 * i + 5), (w (8 * i + 6), (w (8 * i + 7), tt))))))))
+
+pub length-line : (x : List ℤ) → length (line x) ≡ 8
+unfolding line
+length-line x = length-run steps (places x)
+
+-- ---- rows, one more at a time
+
+pub length-rows : (f : ℕ → List ℤ) → ((k : ℕ) → length (f k) ≡ 8) → (n : ℕ) → length (rows f n) ≡ 8 * n
+length-rows f h zero = refl
+length-rows f h (suc n) = length-append (rows f n) (f n) ∙ omega (arith, length-rows f h n, h n)
+
+-- the part from a on is lent, and comes back with its first eight replaced
+mid : (a : ℕ) (r d out y : List ℤ) → out ≡ r ++ d → length r ≡ a
+    → putMid a (length out - a) out (y ++ drop 8 (take (length out - a) (drop a out))) ≡ r ++ (y ++ drop 8 d)
+mid a r d out y e l =
+    let len : length (r ++ d) - a ≡ length d = omega (arith, length-append r d) in
+    rw (e, take-at r d a l, drop-at r d a l, len, take-length d, drop-length d, append-nil (y ++ drop 8 d))
+
+pub rows-more : (f : ℕ → List ℤ) (i : ℕ) (out out₀ : List ℤ) → ((k : ℕ) → length (f k) ≡ 8) → out ≡ rows f i ++ drop (8 * i) out₀
+    → putMid (8 * i) (length out - 8 * i) out (f i ++ drop 8 (take (length out - 8 * i) (drop (8 * i) out))) ≡ rows f (i + 1) ++ drop (8 * (i + 1)) out₀
+rows-more f i out out₀ h e =
+    let q : 8 * i + 8 ≡ 8 * (i + 1) = omega arith in
+    mid (8 * i) (rows f i) (drop (8 * i) out₀) out (f i) e (length-rows f h i)
+    ∙ sym (append-assoc (rows f i) (f i) (drop 8 (drop (8 * i) out₀)))
+    ∙ ap₂ (λ (x y : List ℤ). x ++ y) (ap (rows f) (sym (add-one i)))
+    (drop-drop 8 (8 * i) out₀ ∙ ap (λ (k : ℕ). drop k out₀) q)
+
+pub rows-all : (f : ℕ → List ℤ) (i : ℕ) (out out₀ : List ℤ) → i ≤ 8 → 8 ≤ i → length out₀ ≡ 64 → out ≡ rows f i ++ drop (8 * i) out₀ → out ≡ rows f 8
+rows-all f i out out₀ l k h e =
+    let q : i ≡ 8 = omega arith in
+    e ∙ ap (λ (n : ℕ). rows f n ++ drop (8 * n) out₀) q
+    ∙ ap (λ (y : List ℤ). rows f 8 ++ y) (drop-of-length-le out₀ {i = 64} (omega arith)) ∙ append-nil (rows f 8)

@@ -1,0 +1,10 @@
+pub mod Size
+pub mod Ring
+pub mod Forms
+pub mod Trip
+pub mod Blocks
+pub mod Round
+pub mod Bound
+pub mod Range
+pub mod Calls
+pub mod Held

@@ -1,0 +1,27 @@
+use mathlib.Core.Path.{_∙_, ap}
+use mathlib.Core.List.{List, _++_}
+use lib.IntN.{ℤ}
+use lib.ListN.{drop}
+use borrow.Author.Needs.{needs}
+use Rattle.dct.proofs.block.cross.Statement.{statement}
+use Rattle.dct.proofs.block.cross.Tie as tie
+use Rattle.dct.proofs.block.cross.Reads as reads
+use Rattle.dct.proofs.block.cross.Lts as lts
+use Rattle.dct.proofs.block.column.Reads as column-reads
+use Rattle.dct.proofs.block.store.Reads as store-reads
+
+column-requires : tie.Need-column-requires
+column-requires c κs = search needs
+
+store-requires : tie.Need-store-requires
+store-requires c κs = search needs
+
+same-length : tie.Need-same-length
+same-length c = search needs
+
+returns : tie.Need-returns
+returns c =
+    c .before .store .ensures ∙ ap (λ (l : List ℤ). l ++ drop 8 (c .before .before .before .before .args .out .now)) (c .before .before .before .column .ensures)
+
+pub cross-spec : {M : Type 1} → statement M
+cross-spec = tie.close (tie.spec column-requires store-requires same-length returns)

@@ -1,0 +1,89 @@
+use mathlib.Core.Path.{_≡_, refl, _∙_, ap, sym}
+use mathlib.Core.List.{List, _++_}
+use Prim.Native.Nat.{ℕ, _≤_, _*_, _-_}
+use native.Mathlib.Omega.{arith}
+use lib.IntN.{ℤ}
+use lib.ListN.{length, drop, length-take, length-drop}
+use borrow.Rule.Slice.PartMut.{putMid, same-len-mid}
+use Rattle.dct.proofs.Blocks.{rows-more, rows-all}
+use Rattle.dct.specs.Block.{column, rows, across}
+use Rattle.dct.proofs.block.crossed.Statement.{statement}
+use Rattle.dct.proofs.block.crossed.Tie as tie
+use Rattle.dct.proofs.block.crossed.Reads as reads
+use Rattle.dct.proofs.block.crossed.Lts as lts
+use Rattle.dct.proofs.block.cross.Reads as cross-reads
+
+abbrev Inv-loop : tie.InvT-loop
+Inv-loop out₀ x i₀ out i = (i ≤ 8) × (length out ≡ length out₀) × (out ≡ rows (λ k. column k x) i ++ drop (8 * i) out₀)
+
+abbrev μ-loop : tie.MeasureT-loop
+μ-loop out₀ x i₀ out i = 8 - i
+
+loop-holds : tie.Need-loop-holds Inv-loop μ-loop
+loop-holds c = (omega arith, refl, refl)
+
+mul-at : tie.Need-mul-at Inv-loop μ-loop
+mul-at c = omega arith
+
+mul-cross : tie.Need-mul-cross Inv-loop μ-loop
+mul-cross c = omega arith
+
+sub-cross : tie.Need-sub-cross Inv-loop μ-loop
+sub-cross c = omega arith
+
+part-cross-start : tie.Need-part-cross-start Inv-loop μ-loop
+part-cross-start c = omega arith
+
+part-cross-end : tie.Need-part-cross-end Inv-loop μ-loop
+part-cross-end c = omega arith
+
+cross-requires : tie.Need-cross-requires Inv-loop μ-loop
+cross-requires c κs =
+    let s = c .before .before .before in
+    (omega arith, (s .pre .0, (simp (length-take, length-drop) (omega arith))))
+
+add-i : tie.Need-add-i Inv-loop μ-loop
+add-i c = omega arith
+
+loop-less : tie.Need-loop-less Inv-loop μ-loop
+loop-less c = omega arith
+
+loop-again : tie.Need-loop-again Inv-loop μ-loop
+loop-again c =
+    let s = c .before .before .before .before .before in
+    let l = c .before .before .before .before .loop in
+    let n = length (l .out) - 8 * l .i in (
+      omega arith,
+      same-len-mid (8 * l .i) n (l .out) (c .before .cross .last .0) (c .before .cross .kept .0) ∙ l .inv .1,
+      ap (λ (y : List ℤ). putMid (8 * l .i) n (l .out) y) (c .before .cross .ensures)
+          ∙ rows-more (λ k. column k (s .args .x .now)) (l .i) (l .out) (s .args .out .now) (λ k. refl) (l .inv .2),
+    )
+
+same-length : tie.Need-same-length Inv-loop μ-loop
+same-length c = c .before .loop .inv .1
+
+returns : tie.Need-returns Inv-loop μ-loop
+unfolding across
+returns c =
+    let s = c .before .before in
+    let l = c .before .loop in
+    rows-all (λ k. column k (s .args .x .now)) (l .i) (l .out) (s .args .out .now) (l .inv .0) (c .loop-test .left) (s .pre .1) (l .inv .2)
+
+pub crossed-spec : {M : Type 1} → statement M
+crossed-spec =
+    tie.close
+    (tie.spec
+    Inv-loop
+    μ-loop
+    loop-holds
+    mul-at
+    mul-cross
+    sub-cross
+    part-cross-start
+    part-cross-end
+    cross-requires
+    add-i
+    loop-less
+    loop-again
+    same-length
+    returns)

@@ -1,0 +1,57 @@
+-- Document 01, "The transform": one pass over eight numbers, and two passes over a block of 64, row by row. Definitions only.
+use mathlib.Core.List.{List, [], _∷_, _++_}
+use Prim.Native.Nat.{ℕ, zero, suc, _+_, _*_}
+use lib.IntN.{ℤ, pos}
+use lib.ListN.{getD}
+use Rattle.dct.specs.Steps.{run, steps, undoAll}
+
+abbrev pub eight : (ℕ → ℤ) → List ℤ
+eight g = g 0 ∷ g 1 ∷ g 2 ∷ g 3 ∷ g 4 ∷ g 5 ∷ g 6 ∷ g 7 ∷ []
+
+-- column i and row i
+abbrev pub column : ℕ → List ℤ → List ℤ
+column i b =
+    getD b i (pos 0) ∷ getD b (8 + i) (pos 0) ∷ getD b (16 + i) (pos 0) ∷ getD b (24 + i) (pos 0) ∷ getD b (32 + i) (pos 0) ∷ getD b (40 + i) (pos 0)
+    ∷ getD b (48 + i) (pos 0) ∷ getD b (56 + i) (pos 0) ∷ []
+
+abbrev pub row : ℕ → List ℤ → List ℤ
+row i b =
+    getD b (8 * i) (pos 0) ∷ getD b (8 * i + 1) (pos 0) ∷ getD b (8 * i + 2) (pos 0) ∷ getD b (8 * i + 3) (pos 0) ∷ getD b (8 * i + 4) (pos 0)
+    ∷ getD b (8 * i + 5) (pos 0) ∷ getD b (8 * i + 6) (pos 0) ∷ getD b (8 * i + 7) (pos 0) ∷ []
+
+-- t0 t4 t2 t6 t7 t3 t5 t1 take x0 to x7; and back
+abbrev pub places : List ℤ → List ℤ
+places x = let g : ℕ → ℤ = λ k. getD x k (pos 0) in g 0 ∷ g 7 ∷ g 2 ∷ g 5 ∷ g 1 ∷ g 6 ∷ g 3 ∷ g 4 ∷ []
+
+abbrev pub places⁻¹ : List ℤ → List ℤ
+places⁻¹ t = let g : ℕ → ℤ = λ k. getD t k (pos 0) in g 0 ∷ g 4 ∷ g 2 ∷ g 6 ∷ g 7 ∷ g 3 ∷ g 5 ∷ g 1 ∷ []
+
+-- one pass over eight numbers, and the same steps undone
+unfoldable pub line : List ℤ → List ℤ
+line x = run steps (places x)
+
+unfoldable pub line⁻¹ : List ℤ → List ℤ
+line⁻¹ t = places⁻¹ (run (undoAll steps) t)
+
+-- the first n rows, row i being f i
+abbrev pub rows : (ℕ → List ℤ) → ℕ → List ℤ
+rows f zero = []
+rows f (suc n) = rows f n ++ f n
+
+-- column i goes to row i, through the pass; twice
+unfoldable pub turn : List ℤ → List ℤ
+turn b = rows (λ i. line (column i b)) 8
+
+unfoldable pub transform : List ℤ → List ℤ
+transform b = turn (turn b)
+
+-- rows and columns exchanged
+unfoldable pub across : List ℤ → List ℤ
+across b = rows (λ i. column i b) 8
+
+-- row i goes to column i, through the pass undone; twice
+unfoldable pub turn⁻¹ : List ℤ → List ℤ
+turn⁻¹ b = across (rows (λ i. line⁻¹ (row i b)) 8)
+
+unfoldable pub transform⁻¹ : List ℤ → List ℤ
+transform⁻¹ b = turn⁻¹ (turn⁻¹ b)

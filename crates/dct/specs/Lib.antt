@@ -1,0 +1,6 @@
+pub mod Limits
+pub mod Steps
+pub mod Block
+pub mod Call
+pub mod Operation
+pub mod Numbers

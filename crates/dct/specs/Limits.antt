@@ -1,0 +1,18 @@
+-- Document 01, "The transform", its last lines: what the two calls take. Definitions only.
+use Prim.Native.Nat.{ℕ}
+
+-- places of a block, row by row
+abbrev pub blockSize : ℕ
+blockSize = 64
+
+-- forward takes -4,095 to 4,095
+abbrev pub forwardLimit : ℕ
+forwardLimit = 4095
+
+-- inverse takes -1,048,575 to 1,048,575
+abbrev pub inverseLimit : ℕ
+inverseLimit = 1048575
+
+-- for what forward takes, no coefficient's size is above this (proofs/Bound.antt, `coefficient-bound`)
+abbrev pub coefficientLimit : ℕ
+coefficientLimit = 32767

@@ -1,0 +1,89 @@
+-- The tests of several planes, taken apart: first those of what they share, then those of each plane, of which the lowest number counts.
+-- Assumes nothing.
+use mathlib.Core.Path.{_≡_, refl, sym, _∙_}
+use mathlib.Core.Bool.{Bool, true, false, _&&_, and-true}
+use mathlib.Core.List.{List, [], _∷_, _++_}
+use Prim.Native.Nat.{ℕ, zero, suc, min, _≤_}
+use Rattle.refusal.specs.Numbers.{strideNo, shortNo, sampleNo}
+use Rattle.refusal.specs.First.{firstBroken}
+use Rattle.refusal.proofs.Chain.{passed, go-on, stop}
+use Rattle.plane.specs.Plane.{Plane}
+use Rattle.plane.specs.Tests.{depthSuits, strideSuits, longEnough, samplesSuit}
+use Rattle.plane.specs.Tests.{sizeTests, layoutTests, planeTests, planeRefusal, lowerOf}
+use Rattle.plane.specs.Lawful.{Accepted}
+use Rattle.plane.proofs.Accept.{sides-say, size-named, plane-named, accepted}
+
+-- the lowest of 4, 5 and 6
+abbrev first : Bool → Bool → Bool → ℕ
+first stride long sample = firstBroken ((strideNo, stride) ∷ (shortNo, long) ∷ (sampleNo, sample) ∷ [])
+
+-- of two planes, or of one and several others
+both : (s l m t k n : Bool) → first (s && t) (l && k) (m && n) ≡ lowerOf (first s l m) (first t k n)
+both false l m false k n = refl
+both false l m true false n = refl
+both false l m true true false = refl
+both false l m true true true = refl
+both true false m false k n = refl
+both true true false false k n = refl
+both true true true false k n = refl
+both true false m true false n = refl
+both true false m true true false = refl
+both true false m true true true = refl
+both true true false true false n = refl
+both true true true true false n = refl
+both true true false true true false = refl
+both true true false true true true = refl
+both true true true true true n = refl
+
+pub one-more : (p q : Plane) (more : List Plane) (width height depth : ℕ) → firstBroken (layoutTests (p ∷ q ∷ more) width height depth)
+    ≡ lowerOf (firstBroken (layoutTests (p ∷ []) width height depth)) (firstBroken (layoutTests (q ∷ more) width height depth))
+unfolding layoutTests
+one-more p q more width height depth =
+    simp and-true (both (strideSuits width (p .stride)) (longEnough width height p) (samplesSuit depth width height p) _ _ _)
+
+-- ---- after `size_refusal`, which answered n
+module _ {n : ℕ} (wide : Bool) (width height depth least : ℕ) (e : n ≡ firstBroken (sizeTests wide width height depth least)) where
+  -- it refused: that is the answer
+  pub sizes-stop : (planes : List Plane) → (n ≡ 0 → ⊥) → n ≡ planeRefusal wide planes width height depth least
+  sizes-stop planes h = stop (sizeTests wide width height depth least) (layoutTests planes width height depth) e h
+
+  -- it did not: the answer is that of the tests of the planes
+  pub sizes-pass : {m : ℕ} (planes : List Plane) → n ≡ 0 → m ≡ firstBroken (layoutTests planes width height depth)
+      → m ≡ planeRefusal wide planes width height depth least
+  sizes-pass planes z f =
+      let named = size-named wide width height depth least in
+      go-on (sizeTests wide width height depth least) (layoutTests planes width height depth) named e z f
+
+  -- and these may count on so much
+  pub sizes-say : n ≡ 0 → (depthSuits wide depth ≡ true) × (1 ≤ width)
+  unfolding sizeTests
+  sizes-say z =
+      let t = passed (sizeTests wide width height depth least) (size-named wide width height depth least) (sym e ∙ z) in
+      (t .0, sides-say width height (t .1 .0) .0 .0)
+
+-- ---- after `check`, which answered n: a call whose own tests are `more`
+module _ {n : ℕ} (wide : Bool) (planes : List Plane) (width height depth least : ℕ) (e : n ≡ planeRefusal wide planes width height depth least) where
+  -- it refused: that is the answer
+  pub planes-stop : (more : List (ℕ × Bool)) → (n ≡ 0 → ⊥) → n ≡ firstBroken (planeTests wide planes width height depth least ++ more)
+  planes-stop more h = stop (planeTests wide planes width height depth least) more e h
+
+  -- it did not: the answer is that of the call's own tests
+  pub planes-pass : {m : ℕ} (more : List (ℕ × Bool)) → n ≡ 0 → m ≡ firstBroken more
+      → m ≡ firstBroken (planeTests wide planes width height depth least ++ more)
+  planes-pass more z f =
+      let named = plane-named wide planes width height depth least in
+      go-on (planeTests wide planes width height depth least) more named e z f
+
+  -- and the planes are lawful
+  pub planes-say : n ≡ 0 → Accepted wide planes width height depth least
+  planes-say z = accepted wide planes width height depth least (sym e ∙ z)
+
+-- ---- the lower of two
+pub lower-left : (a b : ℕ) → (a ≡ 0 → ⊥) → b ≡ 0 → a ≡ lowerOf a b
+lower-left zero b h e = absurd (h refl)
+lower-left (suc a) b h e = rw e
+
+pub lower-least : (a b : ℕ) → (a ≡ 0 → ⊥) → (b ≡ 0 → ⊥) → min a b ≡ lowerOf a b
+lower-least zero b h k = absurd (h refl)
+lower-least (suc a) zero h k = absurd (k refl)
+lower-least (suc a) (suc b) h k = refl

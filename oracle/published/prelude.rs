@@ -1,0 +1,7 @@
+#[derive(Debug, Clone, Copy, PartialEq)]
+pub enum ChromaSampling {
+    Cs420,
+    Cs422,
+    Cs444,
+    Cs400,
+}

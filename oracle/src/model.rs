@@ -1,0 +1,100 @@
+//! What document 01 says of roots and of planes, written a second time, with no regard to the product.
+
+/// The refusal of a root.
+pub const VALUE: u8 = 12;
+
+/// The root's bits, or None where it is refused.
+pub fn root(bits: u64) -> Option<u64> {
+    let x = f64::from_bits(bits);
+    if bits == 0 || (x > 0.0 && x.is_finite()) {
+        Some(x.sqrt().to_bits())
+    } else {
+        None
+    }
+}
+
+/// One plane of a case, described: visible samples have one value, padding and tail another, but for odd places.
+#[derive(Clone, Debug, PartialEq)]
+pub struct Plane {
+    pub stride: usize,
+    pub len: usize,
+    pub fill: u16,
+    pub padding: u16,
+    pub odd: Vec<(usize, u16)>,
+}
+
+/// A check of two planes. `least` is the smallest side that the call takes, 0 where it takes any.
+#[derive(Clone, Debug, PartialEq)]
+pub struct Check {
+    pub wide: bool,
+    pub depth: u32,
+    pub width: usize,
+    pub height: usize,
+    pub least: usize,
+    pub a: Plane,
+    pub b: Plane,
+}
+
+impl Plane {
+    /// The samples that a plane of these sides must reach, too many for a word perhaps.
+    pub fn needs(&self, width: usize, height: usize) -> u128 {
+        self.stride as u128 * (height as u128).saturating_sub(1) + width as u128
+    }
+
+    fn visible(&self, at: usize, width: usize, height: usize) -> bool {
+        self.stride > 0 && at / self.stride < height && at % self.stride < width
+    }
+
+    /// The samples of the plane in order, as the description has them.
+    pub fn samples(&self, width: usize, height: usize) -> Vec<u16> {
+        let mut list = vec![self.padding; self.len];
+        if self.fill != self.padding {
+            for at in (0..self.len).filter(|at| self.visible(*at, width, height)) {
+                list[at] = self.fill;
+            }
+        }
+        for (at, value) in self.odd.iter().filter(|(at, _)| *at < self.len) {
+            list[*at] = *value;
+        }
+        list
+    }
+
+    fn has_above(&self, max: u16, width: usize, height: usize) -> bool {
+        let list = self.samples(width, height);
+        (0..height).any(|y| (0..width).any(|x| list[y * self.stride + x] > max))
+    }
+}
+
+impl Check {
+    fn depth_suits(&self) -> bool {
+        let (low, high) = if self.wide { (9, 12) } else { (1, 8) };
+        low <= self.depth && self.depth <= high
+    }
+
+    pub fn planes(&self) -> [&Plane; 2] {
+        [&self.a, &self.b]
+    }
+
+    /// The lowest of tests 1 to 6 that applies, or 0.
+    pub fn refusal(&self) -> u8 {
+        let (width, height) = (self.width, self.height);
+        let side = |s: usize| s == 0 || s > 8_192;
+        let stride = |p: &&Plane| p.stride < width || p.stride > 16_384;
+        let short = |p: &&Plane| (p.len as u128) < p.needs(width, height);
+        if !self.depth_suits() {
+            1
+        } else if side(width) || side(height) {
+            2
+        } else if width < self.least || height < self.least {
+            3
+        } else if self.planes().iter().any(stride) {
+            4
+        } else if self.planes().iter().any(short) {
+            5
+        } else {
+            let max = (1u16 << self.depth) - 1;
+            let above = |p: &&Plane| p.has_above(max, width, height);
+            u8::from(self.planes().iter().any(above)) * 6
+        }
+    }
+}

@@ -1,0 +1,343 @@
+//! What a plane may be: the check of both widths, against the model.
+
+use crate::family::{run, Family, Run};
+use crate::model::{Check, Plane};
+use crate::random::Random;
+
+extern "C" {
+    fn fuavelino_check8(
+        a: *const u8,
+        a_len: usize,
+        b: *const u8,
+        b_len: usize,
+        width: usize,
+        height: usize,
+        stride_a: usize,
+        stride_b: usize,
+        depth: u32,
+        least: usize,
+    ) -> u8;
+    fn fuavelino_check16(
+        a: *const u16,
+        a_len: usize,
+        b: *const u16,
+        b_len: usize,
+        width: usize,
+        height: usize,
+        stride_a: usize,
+        stride_b: usize,
+        depth: u32,
+        least: usize,
+    ) -> u8;
+}
+
+/// Random planes hold no more samples than this.
+const ROOM: u128 = 40_000;
+
+pub fn compare(ask: Run) -> bool {
+    let cases = if ask.full { 5_000_000 } else { 250_000 };
+    let mut checks = Checks { cases, large: large(ask.full) };
+    run("plane", &mut checks, cases, ask)
+}
+
+struct Checks {
+    cases: u64,
+    large: Vec<Check>,
+}
+
+impl Family for Checks {
+    type Case = Check;
+
+    fn case(&self, number: u64, random: &mut Random) -> Check {
+        // the large ones last, since they take long to make small
+        match self.large.get((self.cases - 1 - number) as usize) {
+            Some(case) => case.clone(),
+            None => any(random),
+        }
+    }
+
+    fn judge(&mut self, c: &Check) -> Result<u8, String> {
+        let [a, b] = [&c.a, &c.b].map(|p| p.samples(c.width, c.height));
+        let (answer, kept) = if c.wide { ask16(c, &a, &b) } else { ask8(c, &a, &b) };
+        let wanted = c.refusal();
+        if !kept {
+            Err("a plane was altered".to_string())
+        } else if answer != wanted {
+            Err(format!("answered {}, not {}", answer, wanted))
+        } else {
+            Ok(answer)
+        }
+    }
+
+    fn smaller(&self, c: &Check) -> Vec<Check> {
+        let mut list = smaller_sides(c);
+        with(&mut list, c, |c| &mut c.width, less(c.width));
+        with(&mut list, c, |c| &mut c.height, less(c.height));
+        with(&mut list, c, |c| &mut c.least, less(c.least));
+        with(&mut list, c, |c| &mut c.depth, less(c.depth as usize).iter().map(|d| *d as u32).collect());
+        smaller_plane(&mut list, c, |c| &mut c.a, &c.a);
+        smaller_plane(&mut list, c, |c| &mut c.b, &c.b);
+        list
+    }
+
+    fn show(&self, c: &Check) -> String {
+        let name = if c.wide { "check16" } else { "check8" };
+        let (a, b) = (show(&c.a), show(&c.b));
+        format!(
+            "{} of {} by {}, depth {}, least {}\n    a: {}\n    b: {}",
+            name, c.width, c.height, c.depth, c.least, a, b
+        )
+    }
+
+    fn answers(&self) -> Vec<u8> {
+        (0..=6).collect()
+    }
+}
+
+fn show(p: &Plane) -> String {
+    let odd: Vec<String> = p.odd.iter().map(|(at, value)| format!(", [{}] = {}", at, value)).collect();
+    format!("stride {}, {} samples, visible {}, others {}{}", p.stride, p.len, p.fill, p.padding, odd.concat())
+}
+
+/// Asks, and says whether both planes are as they were. An empty slice's pointer is aligned and not null.
+fn ask8(c: &Check, a: &[u16], b: &[u16]) -> (u8, bool) {
+    let [x, y] = [a, b].map(|list| list.iter().map(|s| *s as u8).collect::<Vec<u8>>());
+    let (w, h, p, q) = (c.width, c.height, c.a.stride, c.b.stride);
+    let answer = unsafe { fuavelino_check8(x.as_ptr(), x.len(), y.as_ptr(), y.len(), w, h, p, q, c.depth, c.least) };
+    let kept = |now: &[u8], was: &[u16]| now.iter().map(|s| u16::from(*s)).eq(was.iter().copied());
+    (answer, kept(&x, a) && kept(&y, b))
+}
+
+fn ask16(c: &Check, a: &[u16], b: &[u16]) -> (u8, bool) {
+    let (x, y) = (a.to_vec(), b.to_vec());
+    let (w, h, p, q) = (c.width, c.height, c.a.stride, c.b.stride);
+    let answer = unsafe { fuavelino_check16(x.as_ptr(), x.len(), y.as_ptr(), y.len(), w, h, p, q, c.depth, c.least) };
+    (answer, x == a && y == b)
+}
+
+/// Smaller numbers to try in place of this one.
+fn less(n: usize) -> Vec<usize> {
+    let mut list = vec![0, 1, n / 2, n.saturating_sub(1)];
+    list.retain(|m| *m < n);
+    list
+}
+
+fn with<T>(list: &mut Vec<Check>, c: &Check, place: fn(&mut Check) -> &mut T, values: Vec<T>) {
+    for value in values {
+        let mut next = c.clone();
+        *place(&mut next) = value;
+        list.push(next);
+    }
+}
+
+/// Fewer rows or columns, all else moved along: the strides' and lengths' surplus, and the odd samples.
+fn smaller_sides(c: &Check) -> Vec<Check> {
+    let narrow = less(c.width).into_iter().map(|width| (width, c.height));
+    let low = less(c.height).into_iter().map(|height| (c.width, height));
+    narrow.chain(low).filter_map(|(width, height)| moved(c, width, height)).collect()
+}
+
+fn moved(c: &Check, width: usize, height: usize) -> Option<Check> {
+    let mut next = Check { width, height, ..c.clone() };
+    for (plane, was) in [(&mut next.a, &c.a), (&mut next.b, &c.b)] {
+        plane.stride = (was.stride + width).checked_sub(c.width)?;
+        let (old, new) = (was.needs(c.width, c.height), plane.needs(width, height));
+        plane.len = (was.len as u128 + new).checked_sub(old)? as usize;
+        for (at, _) in plane.odd.iter_mut() {
+            let (x, y) = (at.checked_rem(was.stride)?, *at / was.stride);
+            let x = if x < c.width { x.min(width.checked_sub(1)?) } else { x + width - c.width };
+            *at = y.min(height.checked_sub(1)?) * plane.stride + x;
+        }
+    }
+    Some(next)
+}
+
+fn smaller_plane(list: &mut Vec<Check>, c: &Check, place: fn(&mut Check) -> &mut Plane, p: &Plane) {
+    let mut planes = Vec::new();
+    for i in 0..p.odd.len() {
+        let mut odd = p.odd.clone();
+        let (at, value) = odd.remove(i);
+        planes.push(Plane { odd: odd.clone(), ..p.clone() });
+        for at in less(at) {
+            let odd = [&odd[..], &[(at, value)]].concat();
+            planes.push(Plane { odd, ..p.clone() });
+        }
+        for value in less(usize::from(value)) {
+            let odd = [&odd[..], &[(at, value as u16)]].concat();
+            planes.push(Plane { odd, ..p.clone() });
+        }
+    }
+    planes.extend(less(p.len).into_iter().map(|len| Plane { len, ..p.clone() }));
+    planes.extend(less(p.stride).into_iter().map(|stride| Plane { stride, ..p.clone() }));
+    planes.extend(less(usize::from(p.fill)).into_iter().map(|f| Plane { fill: f as u16, ..p.clone() }));
+    planes.extend(less(usize::from(p.padding)).into_iter().map(|f| Plane { padding: f as u16, ..p.clone() }));
+    with(list, c, place, planes);
+}
+
+/// The largest planes, sound and with the last sample too large.
+fn large(full: bool) -> Vec<Check> {
+    let mut list = Vec::new();
+    let strides: &[usize] = if full { &[8_192, 16_384] } else { &[8_192] };
+    for stride in strides {
+        for (wide, depth) in [(false, 7), (false, 8), (true, 12)] {
+            let plane = Plane { stride: *stride, len: stride * 8_191 + 8_192, fill: 0, padding: 0, odd: Vec::new() };
+            let sound = Check { wide, depth, width: 8_192, height: 8_192, least: 16, a: plane.clone(), b: plane };
+            let mut bad = sound.clone();
+            bad.b.odd.push((sound.b.len - 1, 1 << depth.min(7)));
+            bad.depth = depth.min(10);
+            list.extend([sound, bad]);
+        }
+    }
+    list
+}
+
+fn any(r: &mut Random) -> Check {
+    let mut c = sound(r);
+    for _ in 0..r.pick(&[0, 1, 1, 1, 1, 2, 2, 3]) {
+        match r.below(6) {
+            0 => c.depth = odd_depth(r),
+            1 => odd_side(r, &mut c),
+            2 => odd_stride(r, &mut c),
+            3 => odd_length(r, &mut c),
+            _ => odd_sample(r, &mut c),
+        }
+    }
+    c
+}
+
+/// A check that is accepted.
+fn sound(r: &mut Random) -> Check {
+    let wide = r.once_in(2);
+    let depth = if wide { r.within(9, 12) } else { r.within(1, 8) } as u32;
+    let least = r.pick(&[0, 0, 1, 8, 16]);
+    let (width, height) = sides(r, least);
+    let [a, b] = [(), ()].map(|()| sound_plane(r, width, height, depth, wide));
+    Check { wide, depth, width, height, least, a, b }
+}
+
+fn sides(r: &mut Random, least: usize) -> (usize, usize) {
+    let short = |r: &mut Random| r.pick(&[1, 1, 2, 3, 5, 8, 9, 15, 16, 17, 24]).max(least);
+    let long = |r: &mut Random| r.within(8_190, 8_192);
+    match r.below(60) {
+        0 if least < 2 => (r.within(1, 2), long(r)),
+        1 if least < 2 => (long(r), r.within(1, 2)),
+        _ => (short(r), short(r)),
+    }
+}
+
+fn sound_plane(r: &mut Random, width: usize, height: usize, depth: u32, wide: bool) -> Plane {
+    let stride = match r.below(20) {
+        0 if height == 1 => r.within(16_383, 16_384),
+        0..=9 => width,
+        _ => (width + r.below(5)).min(16_384),
+    };
+    let padding = if wide { r.next() as u16 } else { u16::from(r.next() as u8) };
+    let padding = r.pick(&[0, padding, if wide { u16::MAX } else { 255 }]);
+    let fill = r.below(1 << depth) as u16;
+    let fill = r.pick(&[0, (1 << depth) - 1, fill]);
+    let mut plane = Plane { stride, len: 0, fill, padding, odd: Vec::new() };
+    plane.len = plane.needs(width, height) as usize + r.pick(&[0, 0, 0, 1, 2, 7]);
+    plane
+}
+
+/// Depths about the limits, and ones that a narrower number would take for lawful ones.
+fn odd_depth(r: &mut Random) -> u32 {
+    let high = r.pick(&[1 << 8, 1 << 16, 1 << 31, u32::MAX - 15]);
+    let depth = r.below(21) as u32;
+    if r.once_in(4) {
+        high.wrapping_add(depth)
+    } else {
+        depth
+    }
+}
+
+/// Numbers about the limits of a side, and ones whose products with others wrap.
+fn odd_side(r: &mut Random, c: &mut Check) {
+    if r.once_in(6) {
+        c.least = r.pick(&[2, 9, 17, 8_192, 8_193, usize::MAX]);
+        return;
+    }
+    let below = c.least.saturating_sub(1);
+    let high: usize = r.pick(&[1 << 32, 1 << 63, 1 << 62, 1 << 51, 1 << 50]);
+    let near = [0, 0, 1, below, below, c.least, 8_191, 8_192, 8_193, 8_194, 16_384];
+    let far = [high, high + 1, high.wrapping_add(c.width), high.wrapping_add(c.height), usize::MAX, usize::MAX - 1];
+    let side = if r.once_in(3) { r.pick(&far) } else { r.pick(&near) };
+    let both = r.once_in(8);
+    if both || r.once_in(2) {
+        c.width = side;
+    }
+    if both || c.width != side {
+        c.height = side;
+    }
+    if r.once_in(2) {
+        refit(c);
+    }
+}
+
+fn odd_stride(r: &mut Random, c: &mut Check) {
+    let far = [1 << 32, (1 << 32) + c.width.min(99), 1 << 63, usize::MAX, usize::MAX / 2 + 2];
+    let near = [0, c.width.wrapping_sub(1), c.width.wrapping_sub(1), c.width, 16_383, 16_384, 16_385, 16_385, 16_386];
+    let stride = if r.once_in(4) { r.pick(&far) } else { r.pick(&near) };
+    one_of(r, c).stride = stride;
+    if r.once_in(2) {
+        refit(c);
+    }
+}
+
+fn odd_length(r: &mut Random, c: &mut Check) {
+    let (width, height) = (c.width, c.height);
+    let turn = r.next() as usize;
+    let plane = one_of(r, c);
+    let needs = plane.needs(width, height).min(ROOM) as usize;
+    let whole = needs.saturating_sub(width) + plane.stride.min(ROOM as usize);
+    let short = needs.saturating_sub(1);
+    let list = [short, short, needs, needs + 1, whole, needs / 2, 0, 1, width.min(needs)];
+    plane.len = list[turn % list.len()];
+}
+
+/// A sample at or above the largest, at each kind of place: seen, in padding, and past what is needed.
+fn odd_sample(r: &mut Random, c: &mut Check) {
+    let max = (1usize << c.depth.min(16)) - 1;
+    let top = if c.wide { 65_535 } else { 255 };
+    let value = r.below(top + 1);
+    let value = r.pick(&[max, max + 1, max + 1, max + 2, top, value]).min(top) as u16;
+    let (width, height) = (c.width.clamp(1, 8_192), c.height.clamp(1, 8_192));
+    let (x, y) = (r.below(width), r.below(height));
+    let kind = r.below(9);
+    let plane = one_of(r, c);
+    let (stride, len) = (plane.stride.min(16_385), plane.len);
+    let last = (height - 1) * stride;
+    let at = match kind {
+        0 => 0,
+        1 => last + width - 1,
+        2 => last + x,
+        3 => y * stride + width - 1,
+        4 => y * stride + x,
+        5 => y * stride,
+        6 => y * stride + width,
+        7 => (y + 1) * stride.max(1) - 1,
+        _ => len.saturating_sub(1),
+    };
+    plane.odd.push((at, value));
+}
+
+fn one_of<'a>(r: &mut Random, c: &'a mut Check) -> &'a mut Plane {
+    if r.once_in(2) {
+        &mut c.a
+    } else {
+        &mut c.b
+    }
+}
+
+/// Gives each plane the stride and length that the sides now ask for, where that is small enough.
+fn refit(c: &mut Check) {
+    let (width, height) = (c.width, c.height);
+    for plane in [&mut c.a, &mut c.b] {
+        if plane.stride < width && width < 8_194 {
+            plane.stride = width;
+        }
+        if plane.needs(width, height) <= ROOM {
+            plane.len = plane.needs(width, height) as usize;
+        }
+    }
+}

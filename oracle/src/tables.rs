@@ -1,0 +1,175 @@
+//! Writes the table that the program `vectors` replays, as Rattle source: tables [SEED]
+//!
+//! Roots are the processor's, refusals of planes are the model's.
+
+#![allow(dead_code)] // it uses a part of what it shares with the judge
+
+mod model;
+mod random;
+
+use model::{Check, Plane};
+use random::Random;
+
+/// The program's planes hold this many samples; a sample set at this place is none.
+const ROOM: usize = 4_096;
+
+fn main() {
+    let seed = std::env::args().nth(1).map_or(1, |word| word.parse().expect("the seed is a number"));
+    let (roots, refused): (Vec<u64>, Vec<u64>) = asked(seed).iter().partition(|bits| model::root(**bits).is_some());
+    let pairs = roots.iter().flat_map(|bits| [*bits, model::root(*bits).unwrap()]);
+    println!("// Made by `tools/vectors {}`, which asks the oracle. Do not edit: change oracle/src/tables.rs and make it anew.", seed);
+    println!();
+    println!("// A number, then its root, in turn.");
+    list("ROOTS", "f64", pairs.map(number).collect());
+    println!("// Finite numbers that have no root.");
+    list("ROOTLESS", "f64", refused.iter().map(|bits| number(*bits)).collect());
+    let checks = checks();
+    assert!(checks.iter().all(|c| c.a.len <= ROOM && c.b.len <= ROOM));
+    println!("// Checks of two planes, 14 numbers each: words (1) or bytes (0), depth, width, height, least side; then of each");
+    println!("// plane its stride, its length, and place and value of one sample (the others are 0; at place 4096 none is set);");
+    println!("// then the answer.");
+    list("CHECKS", "usize", checks.iter().flat_map(row).map(|n| n.to_string()).collect());
+}
+
+fn list(name: &str, kind: &str, words: Vec<String>) {
+    println!("pub const {}: [{}; {}] = [{}];\n", name, kind, words.len(), words.join(", "));
+}
+
+/// The shortest decimal that reads back as this double.
+fn number(bits: u64) -> String {
+    let text = format!("{:e}", f64::from_bits(bits));
+    if text.contains('.') {
+        text
+    } else {
+        text.replace('e', ".0e")
+    }
+}
+
+fn row(c: &Check) -> Vec<usize> {
+    let mut list = vec![usize::from(c.wide), c.depth as usize, c.width, c.height, c.least];
+    for plane in c.planes() {
+        let (at, value) = plane.odd.first().copied().unwrap_or((ROOM, 0));
+        list.extend([plane.stride, plane.len, at, usize::from(value)]);
+    }
+    list.push(usize::from(c.refusal()));
+    list
+}
+
+/// Finite numbers to ask a root of: ends of every kind, squares and halfway squares with neighbours, and random ones.
+fn asked(seed: u64) -> Vec<u64> {
+    let ends = [0, 1, 2, 3, (1 << 52) - 1, 1 << 52, (1 << 52) + 1, 0x7FEF_FFFF_FFFF_FFFF, 0x7FEF_FFFF_FFFF_FFFE];
+    let sign = 1 << 63;
+    let mut list = ends.to_vec();
+    list.extend(list.clone().iter().map(|bits| bits | sign));
+    list.extend([1.0f64, 2.0, 3.0, 4.0, 0.25, 0.5, 1e300, 1e-300, -1.0, -4.0].map(f64::to_bits));
+    for i in 0..26 {
+        list.push(1 << (2 * i));
+        list.push((1023 - 26 + 3 * i) << 52);
+    }
+    let mut r = Random::of(seed, "roots", 0);
+    for _ in 0..16 {
+        let k = u128::from(r.bits(53));
+        let square = ((k * k) as f64).to_bits();
+        let halfway = (2 * (k | 1 << 52) + 1) as f64;
+        list.extend([square - 1, square, square + 1, (halfway * halfway).to_bits(), r.next() >> 1, r.bits(52)]);
+    }
+    list.extend([r.next() | sign, r.next() | sign]);
+    list.retain(|bits| f64::from_bits(*bits).is_finite());
+    list
+}
+
+/// Rows on both sides of each limit that small planes can show, then rows where several tests apply at once.
+fn checks() -> Vec<Check> {
+    let mut list = Vec::new();
+    for wide in [false, true] {
+        depths(&mut list, wide);
+        sides(&mut list, wide);
+        layouts(&mut list, wide);
+        samples(&mut list, wide);
+        several(&mut list, wide);
+    }
+    list
+}
+
+fn sound(wide: bool, width: usize, height: usize) -> Check {
+    let plane = Plane { stride: width, len: width * height, fill: 0, padding: 0, odd: Vec::new() };
+    Check { wide, depth: if wide { 10 } else { 7 }, width, height, least: 0, a: plane.clone(), b: plane }
+}
+
+fn depths(list: &mut Vec<Check>, wide: bool) {
+    let last: &[u32] = if wide { &[8, 9, 12, 13, 256 + 10] } else { &[0, 1, 8, 9, 256 + 7] };
+    list.extend(last.iter().map(|depth| Check { depth: *depth, ..sound(wide, 3, 2) }));
+}
+
+fn sides(list: &mut Vec<Check>, wide: bool) {
+    list.push(sound(wide, 1, 1));
+    list.push(Check { width: 0, ..sound(wide, 3, 2) });
+    list.push(Check { height: 0, ..sound(wide, 3, 2) });
+    for side in [8_192, 8_193, (1 << 32) + 1] {
+        let mut c = Check { width: side, ..sound(wide, 1, 1) };
+        c.a.stride = side;
+        c.b.stride = side;
+        list.push(c);
+        list.push(Check { height: side, ..sound(wide, 1, 1) });
+    }
+    for least in [8, 16] {
+        for (less, low) in [(1, 0), (0, 1), (0, 0)] {
+            list.push(Check { least, ..sound(wide, least - less, least - low) });
+        }
+    }
+}
+
+/// Strides and lengths; the last row's padding need not be there.
+fn layouts(list: &mut Vec<Check>, wide: bool) {
+    for stride in [2, 3, 4, 16_384, 16_385, (1 << 32) + 3] {
+        let mut c = sound(wide, 3, 1);
+        c.a.stride = stride;
+        list.push(c);
+        let mut c = sound(wide, 3, 1);
+        c.b.stride = stride;
+        list.push(c);
+    }
+    for len in [0, 12, 13, 14] {
+        let mut c = sound(wide, 3, 3);
+        c.a.stride = 5;
+        c.a.len = len;
+        list.push(c.clone());
+        std::mem::swap(&mut c.a, &mut c.b);
+        list.push(c);
+    }
+}
+
+/// The largest sample and one above it: first, last, in the last row, in padding, and past what is needed.
+fn samples(list: &mut Vec<Check>, wide: bool) {
+    for (at, above) in [(0, false), (0, true), (12, true), (10, true), (3, true), (9, true), (13, true), (12, false)] {
+        let mut c = sound(wide, 3, 3);
+        c.a.stride = 5;
+        c.a.len = 14;
+        let max = (1 << c.depth) - 1;
+        c.a.odd.push((at, max + u16::from(above)));
+        list.push(c.clone());
+        std::mem::swap(&mut c.a, &mut c.b);
+        list.push(c);
+    }
+}
+
+fn several(list: &mut Vec<Check>, wide: bool) {
+    let mut all = Check { depth: 0, width: 0, least: 8, ..sound(wide, 3, 3) };
+    all.a.odd.push((0, 255));
+    all.a.stride = 2;
+    all.b.len = 3;
+    list.push(all.clone());
+    all.depth = if wide { 9 } else { 1 };
+    all.a.odd[0].1 = 1 << all.depth;
+    list.push(all.clone());
+    all.width = 3;
+    list.push(all.clone());
+    all.least = 3;
+    list.push(all.clone());
+    all.a.stride = 3;
+    list.push(all.clone());
+    all.b.len = 9;
+    list.push(all.clone());
+    all.a.odd.clear();
+    list.push(all);
+}
