@@ -71,7 +71,10 @@ pub fn is_lawful(r: Record) -> bool
 {
     let n = r.n;
     let max = r.sample_max;
-    if !(count_suits(n) & max_suits(max)) {
+    if !count_suits(n) {
+        return false;
+    }
+    if !max_suits(max) {
         return false;
     }
     error_suits(n * ((max as u64) * (max as u64)), r.sq_err)

@@ -1,3 +1,4 @@
+-- `psnr::add_record` meets its contract. Assumes nothing.
 use mathlib.Core.Path.{_≡_, sym, subst}
 use mathlib.Core.Bool.{true, false, and-false}
 use Prim.Native.Nat.{ℕ, _≤_, _<_, _+_, _*_}
@@ -14,10 +15,6 @@ use Rattle.psnr.specs.Fold.{added, addOf}
 use Rattle.psnr.proofs.Lawful.{joins-lawful, lawful-whole}
 use Rattle.psnr.proofs.add_record.Statement.{statement}
 use Rattle.psnr.proofs.add_record.Tie as tie
-use Rattle.psnr.proofs.add_record.Reads as reads
-use Rattle.psnr.proofs.add_record.Lts as lts
-use Rattle.psnr.proofs.judge.capped_sum.Reads as capped-sum-reads
-use Rattle.psnr.proofs.judge.joins.Reads as joins-reads
 
 module _ (s : Sums) (r : Record) where
   full : recordLimit ≤ s .records → Spoiled ≡ addOf s r
@@ -32,45 +29,35 @@ module _ (s : Sums) (r : Record) where
   unfolding addOf
   good l e = rw (lt-ltb (s .records) recordLimit l, e)
 
--- src/lib.rt:137:9
 returns : tie.Need-returns
 unfolding recordLimit
 returns c = full _ _ (c .if1 .taken)
 
--- src/lib.rt:139:9
 joins-requires : tie.Need-joins-requires
 joins-requires c κs = search needs
 
--- src/lib.rt:140:9
 returns-2 : tie.Need-returns-2
 returns-2 c = bad _ _ (fails (c .before .joins .ensures) (c .if2 .taken))
 
--- src/lib.rt:143:18
 add-t5 : tie.Need-add-t5
 add-t5 c = search needs
 
--- src/lib.rt:144:43
 float-to-int-capped-sum : tie.Need-float-to-int-capped-sum
 float-to-int-capped-sum c =
     subst T (sym (lawful-whole _ (joins-lawful _ _ (holds (c .before .before .before .joins .ensures) (c .before .before .if2 .left))))) tt
 
--- src/lib.rt:144:60
 add-capped-sum : tie.Need-add-capped-sum
 add-capped-sum c = search needs
 
--- src/lib.rt:144:16
 capped-sum-requires : tie.Need-capped-sum-requires
 capped-sum-requires c κs = search needs
 
--- src/lib.rt:145:40
 mul-capped-sum : tie.Need-mul-capped-sum
 mul-capped-sum c = search needs
 
--- src/lib.rt:145:12
 capped-sum-requires-2 : tie.Need-capped-sum-requires-2
 capped-sum-requires-2 c κs = search needs
 
--- src/lib.rt:133:1
 returns-3 : tie.Need-returns-3
 unfolding recordLimit countLimit totalLimit
 returns-3 c =

@@ -1,3 +1,4 @@
+-- `psnr::finish` meets its contract. Assumes nothing.
 use mathlib.Core.Path.{_≡_, refl, sym, ap, _∙_}
 use mathlib.Core.Bool.{true, false}
 use Prim.Native.Nat.{ℕ, zero, suc, _≤_, _<_}
@@ -16,9 +17,6 @@ use Rattle.psnr.specs.Series.{totalOf, summed}
 use Rattle.psnr.specs.Fold.{finishOf}
 use Rattle.psnr.proofs.finish.Statement.{statement}
 use Rattle.psnr.proofs.finish.Tie as tie
-use Rattle.psnr.proofs.finish.Reads as reads
-use Rattle.psnr.proofs.finish.Lts as lts
-use Rattle.number.proofs.exact.Reads as exact-reads
 
 -- the answer for sums that no record spoiled: above the limit, and up to it
 module _ (s : Run) (t : Sums) (is : s ≡ Sound t) where
@@ -38,45 +36,36 @@ some-summed : (e n max : ℕ) → (e ≡ 0 → ⊥) → Differs (totalOf e n max
 some-summed zero n max z = absurd (z (omega arith))
 some-summed (suc e) n max z = refl
 
--- src/lib.rt:181:23
 enum-told : tie.Need-enum-told
 enum-told c = search needs
 
--- src/lib.rt:182:20
 enum-known-s : tie.Need-enum-known-s
 enum-known-s c = search needs
 
--- src/lib.rt:184:17
 returns : tie.Need-returns
 unfolding totalLimit
 returns c = too-much _ _ (c .before .before .before .s .given .1) (c .if1 .taken)
 
--- src/lib.rt:187:25
 exact-requires : tie.Need-exact-requires
 exact-requires c κs = search needs
 
--- src/lib.rt:197:25
 enum-told-2 : tie.Need-enum-told-2
 enum-told-2 c = search needs
 
--- src/lib.rt:177:1
 returns-2 : tie.Need-returns-2
 unfolding finishOf
 returns-2 c = sym (ap finishOf (c .enum-told .given .1))
 
--- src/lib.rt:177:1
 returns-3 : tie.Need-returns-3
 unfolding totalLimit
 returns-3 c =
     rw (c .before .before .exact .ensures) (none-summed _ _ _ (c .if2 .taken) ∙ sym (fits _ _ (c .before .before .before .before .before .before .s .given .1) (omega arith)))
 
--- src/lib.rt:177:1
 returns-4 : tie.Need-returns-4
 unfolding totalLimit
 returns-4 c =
     rw (c .before .before .exact .ensures) (some-summed _ _ _ (c .if2 .left) ∙ sym (fits _ _ (c .before .before .before .before .before .before .s .given .1) (omega arith)))
 
--- src/lib.rt:177:1
 returns-5 : tie.Need-returns-5
 unfolding finishOf
 returns-5 c = sym (ap finishOf (c .enum-told2 .given .1))

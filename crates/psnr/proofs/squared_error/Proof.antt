@@ -1,3 +1,4 @@
+-- `psnr::squared_error` meets its contract. Assumes nothing.
 use mathlib.Core.Path.{_≡_, refl, sym, _∙_}
 use mathlib.Core.List.{[], _∷_}
 use Prim.Native.Nat.{ℕ, zero, suc, _≤_, _^_}
@@ -17,12 +18,6 @@ use Rattle.psnr.specs.Squared.{compared, squaredErrorOf}
 use Rattle.psnr.proofs.Squares.{walkable, error-below, count-le, count-fits}
 use Rattle.psnr.proofs.squared_error.Statement.{statement}
 use Rattle.psnr.proofs.squared_error.Tie as tie
-use Rattle.psnr.proofs.squared_error.Reads as reads
-use Rattle.psnr.proofs.squared_error.Lts as lts
-use Rattle.number.proofs.exact.Reads as exact-reads
-use Rattle.plane.proofs.check.Reads as check-reads
-use Rattle.plane.proofs.sample_max.Reads as sample-max-reads
-use Rattle.psnr.proofs.walk.error_sum.Reads as error-sum-reads
 
 -- the answer by its cases
 refused : (k e : ℕ) (r : Record) → (k ≡ 0 → ⊥) → Refused k ≡ compared k e r
@@ -53,41 +48,33 @@ taken : (c : tie.Else1) → let s = c .before .before .before .before .before .b
     Accepted (s .args .wide) (first s ∷ second s ∷ []) (s .args .width) (s .args .height) (s .args .depth) 0
 taken c = accepted _ _ _ _ _ _ (none c)
 
--- src/lib.rt:77:9
 check-requires : tie.Need-check-requires
 check-requires c κs = search needs
 
--- src/lib.rt:81:9
 returns : tie.Need-returns
 unfolding squaredErrorOf
 returns c = rw (← (c .before .check .ensures)) (refused _ _ _ (c .if1 .taken))
 
--- src/lib.rt:83:9
 error-sum-requires : tie.Need-error-sum-requires
 error-sum-requires c κs = walkable (taken c)
 
--- src/lib.rt:85:17
 exact-requires : tie.Need-exact-requires
 unfolding totalLimit
 exact-requires c κs = rw (c .error-sum .ensures) (le-of-lt (error-below (walkable (taken (c .before))) _ (le-refl _)))
 
--- src/lib.rt:86:13
 mul-t16 : tie.Need-mul-t16
 mul-t16 c =
     let a = taken (c .before .before) in record { fits = lt-of-le-of-lt (count-le (a .width-most) (a .height-most)) count-fits }
 
--- src/lib.rt:87:21
 sample-max-requires : tie.Need-sample-max-requires
 sample-max-requires c κs = let s = c .before .before .before .before .before .before .before .before in omega (arith, taken (c .before .before) .depth-most, depth-small (s .args .wide))
 
--- src/lib.rt:62:1
 returns-2 : tie.Need-returns-2
 unfolding squaredErrorOf
 returns-2 c =
     rw (none (c .before .before .before .before), c .before .before .exact .ensures, c .before .sample-max .ensures, ← (c .before .before .before .error-sum .ensures))
     (identical _ _ (c .if2 .taken))
 
--- src/lib.rt:62:1
 returns-3 : tie.Need-returns-3
 unfolding squaredErrorOf
 returns-3 c =

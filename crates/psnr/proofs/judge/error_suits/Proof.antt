@@ -1,3 +1,4 @@
+-- `psnr::judge::error_suits` meets its contract. Assumes nothing.
 use borrow.Author.Needs.{needs}
 use mathlib.Core.Path.{sym, subst}
 use lib.Dec.{T}
@@ -5,24 +6,17 @@ use Rattle.refusal.proofs.Chain.{fails, holds}
 use Rattle.psnr.specs.Record.{errorSuits}
 use Rattle.psnr.proofs.judge.error_suits.Statement.{statement}
 use Rattle.psnr.proofs.judge.error_suits.Tie as tie
-use Rattle.psnr.proofs.judge.error_suits.Reads as reads
-use Rattle.psnr.proofs.judge.error_suits.Lts as lts
-use Rattle.psnr.proofs.judge.is_whole.Reads as is-whole-reads
 
--- src/judge.rt:44:9
 is-whole-requires : tie.Need-is-whole-requires
 is-whole-requires c κs = search needs
 
--- src/judge.rt:45:9
 returns : tie.Need-returns
 unfolding errorSuits
 returns c = rw (fails (c .before .is-whole .ensures) (c .if1 .taken))
 
--- src/judge.rt:47:6
 float-to-int-result : tie.Need-float-to-int-result
 float-to-int-result c = subst T (sym (holds (c .before .before .is-whole .ensures) (c .before .if1 .left))) tt
 
--- src/judge.rt:41:1
 returns-2 : tie.Need-returns-2
 unfolding errorSuits
 returns-2 c = rw (holds (c .before .before .is-whole .ensures) (c .before .if1 .left))

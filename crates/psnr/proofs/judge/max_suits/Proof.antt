@@ -1,3 +1,4 @@
+-- `psnr::judge::max_suits` meets its contract. Assumes nothing.
 use mathlib.Core.Path.{_≡_, sym}
 use mathlib.Core.Bool.{true}
 use Prim.Native.Nat.{ℕ, _+_, _-_, _≤_}
@@ -10,9 +11,6 @@ use Rattle.psnr.specs.Record.{someTo, maxSuits}
 use Rattle.psnr.proofs.Lawful.{some-none, some-more}
 use Rattle.psnr.proofs.judge.max_suits.Statement.{statement}
 use Rattle.psnr.proofs.judge.max_suits.Tie as tie
-use Rattle.psnr.proofs.judge.max_suits.Reads as reads
-use Rattle.psnr.proofs.judge.max_suits.Lts as lts
-use Rattle.plane.proofs.sample_max.Reads as sample-max-reads
 
 abbrev Inv-loop : tie.InvT-loop
 Inv-loop max ok₀ i₀ ok i = (i ≤ 12) × (ok ≡ someTo (λ (k : ℕ). eqb max (maxOf (k + 1))) i)
@@ -20,31 +18,24 @@ Inv-loop max ok₀ i₀ ok i = (i ≤ 12) × (ok ≡ someTo (λ (k : ℕ). eqb m
 abbrev μ-loop : tie.MeasureT-loop
 μ-loop max ok₀ i₀ ok i = 12 - i
 
--- src/judge.rt:62:5
 loop-holds : tie.Need-loop-holds Inv-loop μ-loop
 loop-holds c = (search needs, sym (some-none _))
 
--- src/judge.rt:63:45
 add-sample-max : tie.Need-add-sample-max Inv-loop μ-loop
 add-sample-max c = search needs
 
--- src/judge.rt:63:27
 sample-max-requires : tie.Need-sample-max-requires Inv-loop μ-loop
 sample-max-requires c κs = search needs
 
--- src/judge.rt:62:9
 add-i : tie.Need-add-i Inv-loop μ-loop
 add-i c = search needs
 
--- src/judge.rt:62:5
 loop-less : tie.Need-loop-less Inv-loop μ-loop
 loop-less c = search needs
 
--- src/judge.rt:62:5
 loop-again : tie.Need-loop-again Inv-loop μ-loop
 loop-again c = (search needs, rw (some-more, ← (c .before .before .loop .inv .1), c .sample-max .ensures))
 
--- src/judge.rt:58:1
 returns : tie.Need-returns Inv-loop μ-loop
 unfolding maxSuits mostDepth
 returns c = let e : c .before .loop .i ≡ 12 = omega arith in rw e at (c .before .loop .inv .1)

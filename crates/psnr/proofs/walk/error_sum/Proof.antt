@@ -1,3 +1,4 @@
+-- `psnr::walk::error_sum` meets its contract. Assumes nothing.
 use mathlib.Core.Path.{_≡_, sym}
 use Prim.Native.Nat.{ℕ, _+_, _-_, _≤_}
 use native.Mathlib.Omega.{arith}
@@ -8,9 +9,6 @@ use Rattle.psnr.specs.Squared.{errorOf}
 use Rattle.psnr.proofs.Squares.{error-none, error-more, error-room}
 use Rattle.psnr.proofs.walk.error_sum.Statement.{statement}
 use Rattle.psnr.proofs.walk.error_sum.Tie as tie
-use Rattle.psnr.proofs.walk.error_sum.Reads as reads
-use Rattle.psnr.proofs.walk.error_sum.Lts as lts
-use Rattle.psnr.proofs.walk.row_error.Reads as row-error-reads
 
 abbrev Inv-loop : tie.InvT-loop
 Inv-loop a8 a16 b8 b16 wide width height stride-a stride-b sum₀ y₀ sum y =
@@ -19,11 +17,9 @@ Inv-loop a8 a16 b8 b16 wide width height stride-a stride-b sum₀ y₀ sum y =
 abbrev μ-loop : tie.MeasureT-loop
 μ-loop a8 a16 b8 b16 wide width height stride-a stride-b sum₀ y₀ sum y = height - y
 
--- src/walk.rt:59:5
 loop-holds : tie.Need-loop-holds Inv-loop μ-loop
 loop-holds c = (omega arith, sym (error-none _ _ _))
 
--- src/walk.rt:60:16
 row-error-requires : tie.Need-row-error-requires Inv-loop μ-loop
 row-error-requires c κs = c .before .before .before .before .before .before .pre .rows _ (omega arith)
 
@@ -35,23 +31,18 @@ more : (c : tie.After-row-error Inv-loop μ-loop) → let s = c .before .before 
     (s .args .width) (c .before .before .loop .y + 1)
 more c = rw (error-more, ← (c .before .before .loop .inv .1), c .row-error .ensures)
 
--- src/walk.rt:60:9
 add-sum : tie.Need-add-sum Inv-loop μ-loop
 add-sum c = rw (more c) (record { fits = error-room (c .before .before .before .before .before .before .before .pre) _ (omega arith) })
 
--- src/walk.rt:59:9
 add-y : tie.Need-add-y Inv-loop μ-loop
 add-y c = search needs
 
--- src/walk.rt:59:5
 loop-less : tie.Need-loop-less Inv-loop μ-loop
 loop-less c = search needs
 
--- src/walk.rt:59:5
 loop-again : tie.Need-loop-again Inv-loop μ-loop
 loop-again c = (search needs, more c)
 
--- src/walk.rt:42:1
 returns : tie.Need-returns Inv-loop μ-loop
 returns c = let e : c .before .loop .y ≡ c .before .before .before .before .before .before .args .height = omega arith in rw e at (c .before .loop .inv .1)
 

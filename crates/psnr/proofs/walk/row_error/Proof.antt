@@ -1,3 +1,4 @@
+-- `psnr::walk::row_error` meets its contract. Assumes nothing.
 use mathlib.Core.Path.{_≡_, sym}
 use Prim.Native.Nat.{ℕ, _+_, _≤_, _-_}
 use native.Mathlib.Omega.{arith}
@@ -9,10 +10,6 @@ use Rattle.psnr.specs.Squared.{rowError}
 use Rattle.psnr.proofs.Squares.{row-none, row-more, row-room}
 use Rattle.psnr.proofs.walk.row_error.Statement.{statement}
 use Rattle.psnr.proofs.walk.row_error.Tie as tie
-use Rattle.psnr.proofs.walk.row_error.Reads as reads
-use Rattle.psnr.proofs.walk.row_error.Lts as lts
-use Rattle.plane.proofs.sample.Reads as sample-reads
-use Rattle.psnr.proofs.walk.squared.Reads as squared-reads
 
 abbrev Inv-loop : tie.InvT-loop
 Inv-loop a8 a16 b8 b16 wide width stride-a stride-b y sum₀ x₀ sum x =
@@ -21,47 +18,38 @@ Inv-loop a8 a16 b8 b16 wide width stride-a stride-b y sum₀ x₀ sum x =
 abbrev μ-loop : tie.MeasureT-loop
 μ-loop a8 a16 b8 b16 wide width stride-a stride-b y sum₀ x₀ sum x = width - x
 
--- src/walk.rt:33:5
 loop-holds : tie.Need-loop-holds Inv-loop μ-loop
 loop-holds c = (omega arith, sym (row-none _ _ _))
 
--- src/walk.rt:34:46
 mul-sample : tie.Need-mul-sample Inv-loop μ-loop
 mul-sample c =
     let s = c .before .before .before .before .before .before in
     omega (arith, s .pre .first .long, count-fits (s .args .wide) (now (s .args .a8)) (now (s .args .a16)) (omega arith) (omega arith))
 
--- src/walk.rt:34:46
 add-sample : tie.Need-add-sample Inv-loop μ-loop
 add-sample c =
     let s = c .before .before .before .before .before .before in
     omega (arith, s .pre .first .long, count-fits (s .args .wide) (now (s .args .a8)) (now (s .args .a16)) (omega arith) (omega arith))
 
--- src/walk.rt:34:13
 sample-requires : tie.Need-sample-requires Inv-loop μ-loop
 sample-requires c κs = omega (arith, c .before .before .before .before .before .before .pre .first .long)
 
--- src/walk.rt:35:46
 mul-sample-2 : tie.Need-mul-sample-2 Inv-loop μ-loop
 mul-sample-2 c =
     let s = c .before .before .before .before .before .before .before in
     omega (arith, s .pre .second .long, count-fits (s .args .wide) (now (s .args .b8)) (now (s .args .b16)) (omega arith) (omega arith))
 
--- src/walk.rt:35:46
 add-sample-2 : tie.Need-add-sample-2 Inv-loop μ-loop
 add-sample-2 c =
     let s = c .before .before .before .before .before .before .before in
     omega (arith, s .pre .second .long, count-fits (s .args .wide) (now (s .args .b8)) (now (s .args .b16)) (omega arith) (omega arith))
 
--- src/walk.rt:35:13
 sample-requires-2 : tie.Need-sample-requires-2 Inv-loop μ-loop
 sample-requires-2 c κs = omega (arith, c .before .before .before .before .before .before .before .pre .second .long)
 
--- src/walk.rt:36:16
 squared-requires : tie.Need-squared-requires Inv-loop μ-loop
 squared-requires c κs = search needs
 
--- src/walk.rt:36:9
 -- the sum with one sample more
 abbrev grown : tie.After-squared Inv-loop μ-loop → ℕ
 grown c = c .before .before .before .before .loop .sum + c .squared .result
@@ -76,19 +64,15 @@ more c =
 add-sum : tie.Need-add-sum Inv-loop μ-loop
 add-sum c = rw (more c) (record { fits = row-room (c .before .before .before .before .before .before .before .before .before .pre) _ (omega arith) })
 
--- src/walk.rt:33:9
 add-x : tie.Need-add-x Inv-loop μ-loop
 add-x c = search needs
 
--- src/walk.rt:33:5
 loop-less : tie.Need-loop-less Inv-loop μ-loop
 loop-less c = search needs
 
--- src/walk.rt:33:5
 loop-again : tie.Need-loop-again Inv-loop μ-loop
 loop-again c = (search needs, more c)
 
--- src/walk.rt:16:1
 returns : tie.Need-returns Inv-loop μ-loop
 returns c = let e : c .before .loop .x ≡ c .before .before .before .before .before .before .args .width = omega arith in rw e at (c .before .loop .inv .1)
 

@@ -1,3 +1,4 @@
+-- `psnr::walk::squared` meets its contract. Assumes nothing.
 use mathlib.Core.Path.{_≡_}
 use mathlib.Core.Logic.{⊎-elim}
 use Prim.Native.Nat.{_-_, _^_, _≤_}
@@ -7,21 +8,16 @@ use native.Mathlib.Omega.{arith}
 use borrow.Author.Needs.{needs}
 use Rattle.psnr.proofs.walk.squared.Statement.{statement}
 use Rattle.psnr.proofs.walk.squared.Tie as tie
-use Rattle.psnr.proofs.walk.squared.Reads as reads
-use Rattle.psnr.proofs.walk.squared.Lts as lts
 
--- src/walk.rt:11:24
 sub-d : tie.Need-sub-d
 sub-d c = search needs
 
 far : (c : tie.After-row-known) → c .before .if1 .d ≡ apart (c .before .before .args .a) (c .before .before .args .b)
 far c = ⊎-elim (λ w. omega arith) (λ w. omega arith) (c .before .if1 .came)
 
--- src/walk.rt:12:5
 mul-result : tie.Need-mul-result
 mul-result c = let l : c .before .if1 .d ≤ 2 ^ 32 - 1 = omega arith in omega (arith, mul-le-mul l l)
 
--- src/walk.rt:8:1
 returns : tie.Need-returns
 unfolding squareOf
 returns c = rw (far c)
