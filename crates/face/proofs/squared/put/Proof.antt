@@ -1,32 +1,26 @@
+-- `face::squared::put` meets its contract. Assumes nothing.
+use mathlib.Core.Path.{refl}
 use borrow.Author.Needs.{needs}
 use Rattle.face.proofs.squared.put.Statement.{statement}
 use Rattle.face.proofs.squared.put.Tie as tie
-use Rattle.face.proofs.squared.put.Reads as reads
-use Rattle.face.proofs.squared.put.Lts as lts
 
--- src/squared.rt:29:31
 enum-known-answer : tie.Need-enum-known-answer
 enum-known-answer c = search needs
 
--- src/squared.rt:35:33
 enum-known-answer-2 : tie.Need-enum-known-answer-2
 enum-known-answer-2 c = search needs
 
--- src/squared.rt:41:31
 enum-known-answer-3 : tie.Need-enum-known-answer-3
 enum-known-answer-3 c = search needs
 
--- src/squared.rt:23:1
 returns : tie.Need-returns
-returns c = ?
+returns c = rw (c .before .answer .given .1) (refl, refl)
 
--- src/squared.rt:23:1
 returns-2 : tie.Need-returns-2
-returns-2 c = ?
+returns-2 c = rw (c .before .answer2 .given .1) (refl, refl)
 
--- src/squared.rt:23:1
 returns-3 : tie.Need-returns-3
-returns-3 c = ?
+returns-3 c = rw (c .before .answer3 .given .1) (refl, refl)
 
 pub put-spec : {M : Type 1} → statement M
 put-spec =
