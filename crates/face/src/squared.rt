@@ -23,7 +23,8 @@ pub struct Series {
 fn put(answer: SquaredError, sq_err: &mut f64, n: &mut u64, sample_max: &mut u32) -> u8
     ensures { λ r. ⌜ r ≡ errorNumber answer ⌝ }
     ensures { λ _. ⌜ record { «sq_err» = now («sq_err» .exit); n = now (n .exit); «sample_max» = now («sample_max» .exit) }
-        ≡ errorWritten answer (record { «sq_err» = now («sq_err» .entry); n = now (n .entry); «sample_max» = now («sample_max» .entry) }) ⌝ }
+        ≡ errorWritten answer
+        (record { «sq_err» = now («sq_err» .entry); n = now (n .entry); «sample_max» = now («sample_max» .entry) }) ⌝ }
 {
     match answer {
         SquaredError::Differs(r) => {

@@ -26,10 +26,12 @@ use prog.Wp.{Heap, Out, Env, exits as exitsᴼ, afterSeq, afterBlock, afterTurn,
 use ghost.Atoms.{Atoms, sem}
 use contract.Monad.{Fun, fact}
 use contract.Running.{givenOf, tables, tablesOf}
-use types.Kit.{Given, Item, Seq, Sq, Post as KPost, post, prop, runs, anyQ, atRet, ‵, raw, _⊛_, some, later, _$_, _∵_, !, qed, by, move, keep, drop, use0, use1, split, join, pick, rewrite, fsplit, fjoin, suffices, frame, await, done}
+use types.Kit.{Given, Item, Seq, Sq, Post as KPost, post, prop, runs, anyQ, atRet, ‵, raw, _⊛_, some, later, _$_, _∵_, !, qed}
+use types.Kit.{by, move, keep, drop, use0, use1, split, join, pick, rewrite, fsplit, fjoin, suffices, frame, await, done}
 use types.Share.{arr-parts}
 use types.Part.{whole, sub, look-in}
-use types.Run.{Opd, look, look-raw, store, init, forget, stop, hop, fld, from, load, lit, no-more, and-then, of-opd, bin, assigns, assigns-last, land, first, skips, jumps, blocks, branches, returns, enter, alloc1, alloc0, params1, pass1, pass0, free1, free0, exec, Below, again, loops}
+use types.Run.{Opd, look, look-raw, store, init, forget, stop, hop, fld, from, load, lit, no-more, and-then, of-opd, bin, assigns, assigns-last}
+use types.Run.{land, first, skips, jumps, blocks, branches, returns, enter, alloc1, alloc0, params1, pass1, pass0, free1, free0, exec, Below, again, loops}
 use sound.WpLaws.{FmC, fmOf, WpFn-mono}
 use denote.RattleType.{owns}
 use denote.Laws.{Is, shows}
@@ -241,14 +243,16 @@ module _ {M : Type 1} (𝓤 : URA M) (H : Heap 𝓤) (A : Atoms 𝓤) (W : Given
           rewrite ! 4 (λ (p : ℕ). ‵ (fat fullShare tyPtr l₇ 0 (vptr b p))) (sym (place-is bytes o (s .i))) refl $
           -- the slice is looked into, the record is read, and the slice is shut
           move ! (1 ∷ 0 ∷ []) $
-          looks-slice ! tt T.the-row (Is T.the-row) (shows 𝓤 H A T.the-row) vals (LL.tells T.the-type T′.the-laws) (LL.copy T.the-type T′.the-copy 𝓤 H A W) ys b o (λ q′. elem-out ! T.the-row (Is T.the-row) (shows 𝓤 H A T.the-row) vals (LL.tells T.the-type T′.the-laws) q′ ys (s .i) none b o (below less) (λ g.
+          looks-slice ! tt T.the-row (Is T.the-row) (shows 𝓤 H A T.the-row) vals (LL.tells T.the-type T′.the-laws) (LL.copy T.the-type T′.the-copy 𝓤 H A W) ys b o (λ q′.
+          elem-out ! T.the-row (Is T.the-row) (shows 𝓤 H A T.the-row) vals (LL.tells T.the-type T′.the-laws) q′ ys (s .i) none b o (below less) (λ g.
           -- [records[i]; what it owns; the others; what shuts; the fractured borrow; _8 (5); …; _7 (7); …; _4 (13); …]
           assigns ! (of-opd ! (load ! (from ! (hop ! (look ! 7 refl) (stop !))) (look-raw ! 0 refl))) (from ! (stop !)) (init ! 5 refl (LL.lawful T.the-type T′.the-laws 𝓤 H A W .typed elem _ g .0)) $
           assigns ! (of-opd ! (load ! (from ! (stop !)) (look ! 5 refl))) (from ! (stop !)) (init ! 13 refl (LL.lawful T.the-type T′.the-laws 𝓤 H A W .typed elem _ g .0)) $
           elem-back ! T.the-row q′ ys (s .i) none (vals elem) b o (below less) $ shuts-slice ! tt T.the-row q′ ys b o $
           -- the call, with what `step` asks at the head: _2 (15), _4 (11)
           use0 W (raw (Step 𝓤 H A mem run .pre (to-step 𝓤 H A mem run (s .a) (s .u) elem (val elem)))) (goes-step 𝓤 H A mem run W (s .a) (s .u) elem (val elem) (s .is) g) $
-          calls-at ! (fmOf 𝓤 H (W .laws) 𝓣) (Step 𝓤 H A mem run) known-step (to-step 𝓤 H A mem run (s .a) (s .u) elem (val elem)) (and-then ! (load ! (from ! (stop !)) (look ! 15 refl)) (and-then ! (load ! (from ! (stop !)) (look ! 11 refl)) (no-more !))) (λ u′.
+          calls-at ! (fmOf 𝓤 H (W .laws) 𝓣) (Step 𝓤 H A mem run) known-step (to-step 𝓤 H A mem run (s .a) (s .u) elem (val elem))
+          (and-then ! (load ! (from ! (stop !)) (look ! 15 refl)) (and-then ! (load ! (from ! (stop !)) (look ! 11 refl)) (no-more !))) (λ u′.
           use1 W (later (some (λ (a′ : Run). (‵ ftrue ⊛ ‵ (S.the-row .own a′ (u′ ∷ []))) ⊛ raw (ensured 𝓤 H A step.ended (step.clauses 𝓤 H A mem run) tt (s .a, (elem, tt)) tt a′)))) (id⊢ 𝓤 _) $ await ! tt $ pick ! (λ a′.
           split ! $ move ! (1 ∷ []) $ use1 W (raw (fact 𝓤 (a′ ≡ stepOf (s .a) elem))) (stepped 𝓤 H A mem run (s .a) elem a′) $ heard ! (a′ ≡ stepOf (s .a) elem) (λ e. split ! $ drop ! $
           peeks ! S.the-row (Is S.the-row) (shows 𝓤 H A S.the-row) a′ (u′ ∷ []) (λ ia. drop ! $
@@ -312,7 +316,8 @@ module _ {M : Type 1} (𝓤 : URA M) (H : Heap 𝓤) (A : Atoms 𝓤) (W : Given
         keep ! (0 ∷ 3 ∷ 6 ∷ 7 ∷ 8 ∷ 9 ∷ 10 ∷ 11 ∷ 12 ∷ 13 ∷ 14 ∷ 15 ∷ 16 ∷ 17 ∷ 18 ∷ 19 ∷ 20 ∷ 21 ∷ 22 ∷ 23 ∷ []) $
         looped l₀ l₁ l₂ l₃ l₄ l₅ l₆ l₇ l₈ (record { i = 0; a = a; u = u; is = ia; le = zero-le; folded = fold-all a ys e }))))))))))))))
 
-module _ {M : Type 1} (𝓤 : URA M) (H : Heap 𝓤) (A : Atoms 𝓤) (W : Given 𝓤 H A) (mem : Memory → SProp 𝓤) (run : Routine → Fun 𝓤) (𝓣 : Tables 𝓤 H) (known-start : Triple 𝓤 (𝓣 .C #psnr·start) (Start 𝓤 H A mem run)) (known-step : Triple 𝓤 (𝓣 .C #psnr·step) (Step 𝓤 H A mem run))
+module _ {M : Type 1} (𝓤 : URA M) (H : Heap 𝓤) (A : Atoms 𝓤) (W : Given 𝓤 H A) (mem : Memory → SProp 𝓤) (run : Routine → Fun 𝓤) (𝓣 : Tables 𝓤 H)
+    (known-start : Triple 𝓤 (𝓣 .C #psnr·start) (Start 𝓤 H A mem run)) (known-step : Triple 𝓤 (𝓣 .C #psnr·step) (Step 𝓤 H A mem run))
     (known-finish : Triple 𝓤 (𝓣 .C #psnr·finish) (Finish 𝓤 H A mem run)) where
   series-walks : Walks 𝓤 H A series.ended stayed (WpFn 𝓤 H (𝓣 .C) (𝓣 .Λ) code.function) (series.clauses 𝓤 H A mem run)
   series-walks = walked 𝓤 H A series.ended stayed (series.clauses 𝓤 H A mem run) (WpFn 𝓤 H (𝓣 .C) (𝓣 .Λ) code.function) (λ κs. (slice-vals, tt)) (λ κs. (shr-slice-tells (named 0) (κs .0) T.the-row, tt))
