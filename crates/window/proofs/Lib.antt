@@ -1,0 +1,5 @@
+pub mod KernelSays
+pub mod Windows
+pub mod Separable
+pub mod Five
+pub mod Held
