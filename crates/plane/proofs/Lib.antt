@@ -1,4 +1,5 @@
 pub mod All
+pub mod Sums
 pub mod Depth
 pub mod Rows
 pub mod Accept

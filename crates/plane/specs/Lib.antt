@@ -1,5 +1,6 @@
 pub mod Limits
 pub mod Plane
+pub mod Sums
 pub mod Tests
 pub mod Lawful
 pub mod Sums

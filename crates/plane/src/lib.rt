@@ -233,8 +233,9 @@ fn layout_refusal(
     0
 }
 
-// The lowest of 1 to 6 that applies to two planes of either width, and 0 where none does.
-fn check(
+// The lowest of 1 to 6 that applies to two planes of either width, and 0 where none does. `least` is the least side of the call, 0
+// where 3 is not among its refusals.
+pub fn check(
     a8: &[u8],
     a16: &[u16],
     b8: &[u8],
@@ -268,8 +269,7 @@ fn check(
     )
 }
 
-// The lowest of 1 to 6 that applies to two planes of bytes, and 0 where none does. `least` is the least side of the call, 0 where 3 is
-// not among its refusals.
+// The same of bytes.
 pub fn check8(
     a: &[u8],
     b: &[u8],
