@@ -3,4 +3,3 @@ pub mod Plane
 pub mod Sums
 pub mod Tests
 pub mod Lawful
-pub mod Sums

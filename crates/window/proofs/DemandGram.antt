@@ -1,0 +1,2 @@
+-- x
+use mathlib.Core.Path.{_≡_, refl, sym, ap, _∙_}

@@ -1,0 +1,2 @@
+pub mod Cauchy
+pub mod DemandGram
