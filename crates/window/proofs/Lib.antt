@@ -1,2 +1,2 @@
 pub mod Cauchy
-pub mod DemandGram
+pub mod DemandMoments

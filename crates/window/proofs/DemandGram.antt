@@ -1,2 +1,0 @@
--- x
-use mathlib.Core.Path.{_≡_, refl, sym, ap, _∙_}
