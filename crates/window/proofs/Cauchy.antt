@@ -1,6 +1,6 @@
 -- Cauchy and Schwarz, of six whole numbers: the moments w, x, y, xx, xy, yy of two families of values under one weight. What they
 -- need of these numbers is `Gram`, which holds of one weighted value and is kept by sums. Assumes nothing.
-use mathlib.Core.Path.{_≡_, refl, sym, ap, _∙_}
+use mathlib.Core.Path.{_≡_, ap}
 use Prim.Native.Nat.{ℕ, zero, suc, _+_, _-_, _*_, _≤_, _<_}
 use native.Mathlib.Nat.{add-assoc, add-comm, add-left-comm, mul-assoc, mul-comm, mul-left-comm, mul-add, add-mul, mul-zero, zero-mul, add-zero, zero-add}
 use native.Mathlib.Nat.{one-mul, mul-suc, mul-sub, mul-le-mul-left, le-of-mul-le-mul-left}
@@ -8,7 +8,7 @@ use native.Mathlib.Decide.{decLe}
 use native.Mathlib.Omega.{arith}
 use borrow.Author.Tests.{lt-ltb, le-ltb}
 use lib.Dec.{le→leb}
-use lib.IntN.{ℤ, pos, negsuc, _-ℤ_, _*ℤ_}
+use lib.IntN.{pos, negsuc, _-ℤ_, _*ℤ_}
 use lib.Signed.{_≤ℤ_, leZ-yes}
 use Rattle.plane.specs.Sums.{sumTo}
 

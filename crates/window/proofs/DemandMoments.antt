@@ -1,18 +1,17 @@
 -- Moments: what a kernel place shows, how large a moment can be, and that the six moments at a centre have the form of Cauchy and
 -- Schwarz. Assumes nothing.
-use mathlib.Core.Path.{_≡_, refl, sym, ap, _∙_}
-use mathlib.Core.Bool.{true}
+use mathlib.Core.Path.{_≡_, sym, _∙_, subst⁻¹, fun-ext}
 use mathlib.Core.List.{List}
 use Prim.Native.Nat.{ℕ, _+_, _-_, _*_, _/_, _≤_, _<_}
 use native.Mathlib.Nat.{add-sub-cancel, mul-zero, mul-one, mul-comm, mul-assoc, mul-le-mul-left, le-trans, le-of-eq}
 use native.Mathlib.Decide.{decLt}
 use native.Mathlib.Omega.{arith}
-use borrow.Author.Tests.{lt-ltb, le-ltb, leb-true}
+use borrow.Author.Tests.{lt-ltb, le-ltb}
 use lib.ListN.{length}
 use Rattle.plane.specs.Sums.{sumTo}
-use Rattle.plane.proofs.Sums.{sum-le, sum-ext, sum-mul, sum-term}
+use Rattle.plane.proofs.Sums.{sum-le, sum-mul, sum-term}
 use Rattle.window.specs.Kernel.{tap}
-use Rattle.window.specs.Moments.{inside, seenAt, momentAt, muxAt, muyAt, x2At, xyAt, y2At, wAt}
+use Rattle.window.specs.Moments.{inside, seenAt, momentAt}
 use Rattle.window.proofs.Cauchy.{Gram, gram-point, gram-none, gram-sum}
 
 -- ---- what a place shows
@@ -51,6 +50,11 @@ seen-of ker width height x y = go (side-of (length ker / 2) height y) (side-of (
 
 -- ---- moments
 
+-- the six numbers that F makes of two views, as those of Cauchy and Schwarz
+abbrev pub GramOf : (a b : ℕ → ℕ → ℕ) → ((ℕ → ℕ → ℕ) → ℕ) → Type 0
+GramOf a b F =
+    Gram (F (λ (r c : ℕ). 1)) (F a) (F b) (F (λ (r c : ℕ). a r c * a r c)) (F (λ (r c : ℕ). a r c * b r c)) (F (λ (r c : ℕ). b r c * b r c))
+
 module _ (ker : List ℕ) (width height : ℕ) where
   -- a bound of what is seen
   seen-le : (v : ℕ → ℕ → ℕ) (B : ℕ) → ((r c : ℕ) → r < height → c < width → v r c ≤ B) → (x y : ℕ) → seenAt ker width height v x y ≤ B
@@ -86,14 +90,14 @@ module _ (ker : List ℕ) (width height : ℕ) where
       let e : seenAt ker width height v (x + length ker / 2) (y + length ker / 2) ≡ v y x = side-middle _ _ _ y m ∙ side-middle _ _ _ x l in
       le-trans (rw e at (sum-term (λ (j : ℕ). tap ker (length ker / 2) * tap ker j * seenAt ker width height v (x + j) (y + length ker / 2)) _ _ n)) (sum-term _ _ _ n)
 
-  pub moment-gram : (a b : ℕ → ℕ → ℕ) (x y : ℕ)
-      → Gram (wAt ker width height a b x y) (muxAt ker width height a b x y) (muyAt ker width height a b x y) (x2At ker width height a b x y)
-      (xyAt ker width height a b x y) (y2At ker width height a b x y)
+  -- one place after another
+  pub moment-gram : (a b : ℕ → ℕ → ℕ) (x y : ℕ) → GramOf a b (λ (v : ℕ → ℕ → ℕ). momentAt ker width height v x y)
   unfolding momentAt
   moment-gram a b x y = gram-sum _ _ _ _ _ _ (λ i. gram-sum _ _ _ _ _ _ (λ j. place (tap ker i * tap ker j) (seen-of ker width height (x + j) (y + i))) _) _
     where
-      place : (t : ℕ) {x y : ℕ} → Seen ker width height x y → Gram (t * seenAt ker width height (λ (r c : ℕ). 1) x y)
-          (t * seenAt ker width height a x y) (t * seenAt ker width height b x y) (t * seenAt ker width height (λ (r c : ℕ). a r c * a r c) x y)
-          (t * seenAt ker width height (λ (r c : ℕ). a r c * b r c) x y) (t * seenAt ker width height (λ (r c : ℕ). b r c * b r c) x y)
-      place t (at r c l m e) = rw (e (λ (r c : ℕ). 1), e a, e b, e (λ (r c : ℕ). a r c * a r c), e (λ (r c : ℕ). a r c * b r c), e (λ (r c : ℕ). b r c * b r c), mul-one) (gram-point t (a r c) (b r c))
-      place t (out e) = rw (e (λ (r c : ℕ). 1), e a, e b, e (λ (r c : ℕ). a r c * a r c), e (λ (r c : ℕ). a r c * b r c), e (λ (r c : ℕ). b r c * b r c), mul-zero) gram-none
+      same : (t : ℕ) {F G : (ℕ → ℕ → ℕ) → ℕ} → ((v : ℕ → ℕ → ℕ) → F v ≡ G v) → GramOf a b (λ (v : ℕ → ℕ → ℕ). t * G v) → GramOf a b (λ (v : ℕ → ℕ → ℕ). t * F v)
+      same t e g = subst⁻¹ (λ (F : (ℕ → ℕ → ℕ) → ℕ). GramOf a b (λ (v : ℕ → ℕ → ℕ). t * F v)) (fun-ext e) g
+
+      place : (t : ℕ) {x y : ℕ} → Seen ker width height x y → GramOf a b (λ (v : ℕ → ℕ → ℕ). t * seenAt ker width height v x y)
+      place t (at r c l m e) = same t e (rw mul-one (gram-point t (a r c) (b r c)))
+      place t (out e) = same t e (rw mul-zero gram-none)

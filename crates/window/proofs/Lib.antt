@@ -1,2 +1,3 @@
 pub mod Cauchy
 pub mod DemandMoments
+pub mod Demand
