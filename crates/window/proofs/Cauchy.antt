@@ -61,8 +61,7 @@ pub gram-point : (c s t : ℕ) → Gram c (c * s) (c * t) (c * (s * s)) (c * (s 
 gram-point c s t =
     record {
       positive = λ p q r p' q' r'.
-          rw (form-point c s t p q r p' q' r', form-point c s t p q r p q r, form-point c s t p' q' r' p' q' r')
-          (weighed-twice c (p + q * s + r * t) (p' + q' * s + r' * t));
+          simp (form-point c s t) (weighed-twice c (p + q * s + r * t) (p' + q' * s + r' * t));
     }
 
 -- no value at all
@@ -76,8 +75,7 @@ gram-sum w x y xx xy yy h zero = gram-none
 gram-sum w x y xx xy yy h (suc n) =
     record {
       positive = λ p q r p' q' r'.
-          rw (form-add _ _ _ _ _ _ _ _ _ _ _ _ p q r p' q' r', form-add _ _ _ _ _ _ _ _ _ _ _ _ p q r p q r, form-add _ _ _ _ _ _ _ _ _ _ _ _ p' q' r' p' q' r')
-          (omega (arith, h n .positive p q r p' q' r', gram-sum w x y xx xy yy h n .positive p q r p' q' r'));
+          simp form-add (omega (arith, h n .positive p q r p' q' r', gram-sum w x y xx xy yy h n .positive p q r p' q' r'));
     }
 
 -- ---- differences of whole numbers, as integers
@@ -101,7 +99,7 @@ difference-square m n = go (decLe n m)
 
 -- ---- from the form to the inequalities
 
--- what holds for every choice of q and r holds for the best
+-- what holds for every q and r holds at f and d, and where f is 0 at 1 and e + 1
 square-le : (d e f : ℕ) → ((q r : ℕ) → q * r * d + q * r * d ≤ q * q * e + r * r * f) → d * d ≤ e * f
 square-le zero e zero h = omega arith
 square-le (suc d) e zero h = let k = e + 1 in absurd (omega (arith, simp (one-mul, mul-zero, mul-suc) at (h 1 k)))
@@ -118,31 +116,42 @@ spread k m n = rw (mul-add, mul-sub k m n, mul-sub k n m)
 less : (k : ℕ) {m n : ℕ} → n ≤ m → k * (m - n) + k * n ≡ k * m
 less k {m} {n} l = omega (arith, mul-sub k m n, mul-le-mul-left k l)
 
--- w times each side
+-- a factor that each side has
 fewer : (w l m n : ℕ) → 0 < w → w * l + w * l ≤ w * m + w * n → l + l ≤ m + n
 fewer w l m n h g = le-of-mul-le-mul-left {k = w} (rw (mul-add w l l, mul-add w m n) g) h
 
 module _ (w x y xx xy yy : ℕ) (some : 0 < w) (gram : Gram w x y xx xy yy) where
-  -- The form at what stands w-fold above its mean: q times w s - x, less r times w t - y, squared
-  opposed : (q r : ℕ)
-      → q * q * (x * x) + r * r * (y * y) + (q * r * (w * xy) + q * r * (w * xy)) ≤ q * q * (w * xx) + r * r * (w * yy) + (q * r * (x * y) + q * r * (x * y))
-  unfolding form
-  opposed q r =
-      let across : form w x y xx xy yy (r * y) (q * w) 0 (q * x) 0 (r * w) ≡ w * (q * q * (x * x) + r * r * (y * y) + q * r * (w * xy) + q * r * (x * y)) = simp sorted in
-      let first : form w x y xx xy yy (r * y) (q * w) 0 (r * y) (q * w) 0 ≡ w * (q * q * (w * xx) + r * r * (y * y) + (q * r * (x * y) + q * r * (x * y))) = simp sorted in
-      let second : form w x y xx xy yy (q * x) 0 (r * w) (q * x) 0 (r * w) ≡ w * (q * q * (x * x) + r * r * (w * yy) + (q * r * (x * y) + q * r * (x * y))) = simp sorted in
-      omega (arith, fewer w _ _ _ some (rw (across, first, second) at (gram .positive (r * y) (q * w) 0 (q * x) 0 (r * w))))
+  module _ (q r : ℕ) where
+    -- the terms of (q (w s - x) - r (w t - y))² and of (q (w s - x) + r (w t - y))², summed over the weighted values s and t and divided by w
+    abbrev squares : ℕ
+    squares = q * q * (w * xx) + r * r * (w * yy)
 
-  -- the same with r times w t - y added
-  alike : (q r : ℕ)
-      → q * q * (x * x) + r * r * (y * y) + (q * r * (x * y) + q * r * (x * y)) ≤ q * q * (w * xx) + r * r * (w * yy) + (q * r * (w * xy) + q * r * (w * xy))
-  unfolding form
-  alike q r =
-      let mean = q * q * (x * x) + r * r * (y * y) + (q * r * (x * y) + q * r * (x * y)) in
-      let across : form w x y xx xy yy 0 (q * w) (r * w) (q * x + r * y) 0 0 ≡ w * mean = simp sorted in
-      let first : form w x y xx xy yy 0 (q * w) (r * w) 0 (q * w) (r * w) ≡ w * (q * q * (w * xx) + r * r * (w * yy) + (q * r * (w * xy) + q * r * (w * xy))) = simp sorted in
-      let second : form w x y xx xy yy (q * x + r * y) 0 0 (q * x + r * y) 0 0 ≡ w * mean = simp sorted in
-      omega (arith, fewer w _ _ _ some (rw (across, first, second) at (gram .positive 0 (q * w) (r * w) (q * x + r * y) 0 0)))
+    abbrev means : ℕ
+    means = q * q * (x * x) + r * r * (y * y)
+
+    abbrev mixed : ℕ
+    mixed = q * r * (w * xy) + q * r * (w * xy)
+
+    abbrev product : ℕ
+    product = q * r * (x * y) + q * r * (x * y)
+
+    -- the first is not negative
+    opposed : means + mixed ≤ squares + product
+    unfolding form
+    opposed =
+        let across : form w x y xx xy yy (r * y) (q * w) 0 (q * x) 0 (r * w) ≡ w * (means + q * r * (w * xy) + q * r * (x * y)) = simp sorted in
+        let first : form w x y xx xy yy (r * y) (q * w) 0 (r * y) (q * w) 0 ≡ w * (q * q * (w * xx) + r * r * (y * y) + product) = simp sorted in
+        let second : form w x y xx xy yy (q * x) 0 (r * w) (q * x) 0 (r * w) ≡ w * (q * q * (x * x) + r * r * (w * yy) + product) = simp sorted in
+        omega (arith, fewer w _ _ _ some (rw (across, first, second) at (gram .positive (r * y) (q * w) 0 (q * x) 0 (r * w))))
+
+    -- nor is the second
+    alike : means + product ≤ squares + mixed
+    unfolding form
+    alike =
+        let across : form w x y xx xy yy 0 (q * w) (r * w) (q * x + r * y) 0 0 ≡ w * (means + product) = simp sorted in
+        let first : form w x y xx xy yy 0 (q * w) (r * w) 0 (q * w) (r * w) ≡ w * (squares + mixed) = simp sorted in
+        let second : form w x y xx xy yy (q * x + r * y) 0 0 (q * x + r * y) 0 0 ≡ w * (means + product) = simp sorted in
+        omega (arith, fewer w _ _ _ some (rw (across, first, second) at (gram .positive 0 (q * w) (r * w) (q * x + r * y) 0 0)))
 
   pub first-le : x * x ≤ w * xx
   first-le = omega (arith, alike 1 0)
