@@ -69,3 +69,15 @@ module _ (f g : ℕ → ℕ) where
   unfolding sumTo
   sum-ext zero h = refl
   sum-ext (suc n) h = omega (arith, sum-ext n (λ k l. h k (omega arith)), h n (omega arith))
+
+  -- two sums as one
+  pub sum-add : (n : ℕ) → sumTo (λ (k : ℕ). f k + g k) n ≡ sumTo f n + sumTo g n
+  unfolding sumTo
+  sum-add zero = refl
+  sum-add (suc n) = omega (arith, sum-add n)
+
+-- a double sum, its two counts exchanged
+pub sum-swap : (f : ℕ → ℕ → ℕ) (m n : ℕ) → sumTo (λ (i : ℕ). sumTo (f i) n) m ≡ sumTo (λ (j : ℕ). sumTo (λ (i : ℕ). f i j) m) n
+unfolding sumTo
+sum-swap f zero n = sym (sum-zero _ n (λ k l. refl))
+sum-swap f (suc m) n = rw (sum-swap f m n) (sym (sum-add _ (f m) n))
