@@ -3,56 +3,30 @@
 use mathlib.Core.Path.{_≡_, refl}
 use mathlib.Core.Bool.{Bool, true, false}
 use mathlib.Core.List.{List, [], _∷_}
-use Prim.Native.Nat.{ℕ, _*_, _/_, _%_, _^_, _≤_, _<_}
-use native.Mathlib.Nat.{mul-comm, mul-one, mul-le-mul, le-trans, le-refl, lt-of-le-of-lt, pow-le-pow-right, one-le-mul}
+use Prim.Native.Nat.{ℕ, _*_, _/_, _^_, _≤_, _<_}
+use native.Mathlib.Nat.{mul-comm, mul-assoc, mul-one, mul-le-mul, le-trans, le-refl, lt-of-le-of-lt, pow-le-pow-right, one-le-mul}
 use native.Mathlib.Omega.{arith}
-use borrow.Author.Tests.{leb-true, eqb-true}
 use lib.Dec.{lit<, lit≤}
 use lib.IntN.{pos, _-ℤ_, _*ℤ_}
 use lib.ListN.{length}
 use lib.Signed.{_≤ℤ_}
-use Rattle.refusal.proofs.Chain.{and-left, and-right}
 use Rattle.plane.specs.Limits.{mostDepth}
-use Rattle.plane.specs.Plane.{Plane, maxOf, sampleAt, allTo}
+use Rattle.plane.specs.Plane.{Plane, maxOf}
 use Rattle.plane.specs.Lawful.{Accepted}
-use Rattle.plane.specs.Sums.{sumTo}
 use Rattle.plane.proofs.Depth.{max-grows}
-use Rattle.window.specs.Kernel.{tap, mostTaps, lentTotal, fixedKernel, fixedTotal, oddCount, tapsSuit, sumsTo, mirrored, middled, lawful}
+use Rattle.window.specs.Kernel.{lentTotal, fixedKernel, fixedTotal, lawful}
 use Rattle.window.specs.Moments.{momentAt, muxAt, muyAt, x2At, xyAt, y2At, wAt}
+use Rattle.window.specs.Columns.{viewOf, mostSample}
+use Rattle.window.proofs.KernelSays.{kernel-says, lent-total, fixed-lawful}
+use Rattle.window.proofs.Separable.{weights}
 use Rattle.window.proofs.Cauchy.{first-le, second-le, signed-le}
-use Rattle.window.proofs.DemandMoments.{moment-le, moment-middle, moment-gram}
-
--- ---- what a lawful kernel has
-
-module _ (total : ℕ) (ker : List ℕ) (ok : lawful total ker ≡ true) where
-  kernel-half : length ker / 2 < length ker
-  unfolding lawful oddCount
-  kernel-half =
-      let odd : length ker % 2 ≡ 1 = eqb-true _ _ (and-left _ _ (and-left _ _ ok)) in omega arith
-
-  kernel-sum : sumTo (tap ker) (length ker) ≡ total
-  unfolding lawful sumsTo
-  kernel-sum = eqb-true _ _ (and-left _ _ (and-right (tapsSuit total ker) _ (and-right (oddCount ker) _ ok)))
-
-  kernel-middle : 1 ≤ tap ker (length ker / 2)
-  unfolding lawful middled
-  kernel-middle =
-      leb-true _ _ (and-right (mirrored ker) _ (and-right (sumsTo total ker) _ (and-right (tapsSuit total ker) _ (and-right (oddCount ker) _ ok))))
-
--- MS-SSIM's own is lawful at its own total
-pub fixed-lawful : lawful fixedTotal fixedKernel ≡ true
-unfolding lawful oddCount tapsSuit sumsTo mirrored middled fixedTotal mostTaps allTo sumTo
-fixed-lawful = refl
+use Rattle.window.proofs.DemandMoments.{moment-le, weight-some, moment-gram}
 
 -- ---- the laws
 
 -- no sample of a view is above B, at the places inside the plane
 abbrev pub Bounded : ℕ → ℕ → ℕ → (ℕ → ℕ → ℕ) → Type 0
 Bounded B width height v = (r c : ℕ) → r < height → c < width → v r c ≤ B
-
--- the largest sample for which the sums are shown to fit: none of the five scales has a larger one (`scale-small`)
-unfoldable pub mostSummed : ℕ
-mostSummed = 2 ^ 20
 
 module _ (ker : List ℕ) (width height : ℕ) (a b : ℕ → ℕ → ℕ) (x y : ℕ) where
   abbrev mux : ℕ
@@ -76,8 +50,10 @@ module _ (ker : List ℕ) (width height : ℕ) (a b : ℕ → ℕ → ℕ) (x y 
   -- at a centre inside the plane the weight is at least 1
   pub weight-least : (total : ℕ) → lawful total ker ≡ true → x < width → y < height → 1 ≤ w
   weight-least total ok l m =
-      let middle = kernel-middle total ker ok in
-      le-trans (one-le-mul (one-le-mul middle middle) (le-refl 1)) (moment-middle ker width height (λ (r c : ℕ). 1) x y (kernel-half total ker ok) l m)
+      let says = kernel-says total ker ok in
+      let half : length ker / 2 < length ker = omega (arith, says .odd) in
+      rw (← weights ker width height a b x y)
+      (one-le-mul (weight-some ker half (says .middle) height y m) (weight-some ker half (says .middle) width x l))
 
   -- with no sample above B, no sum is above the square of the kernel's total times what is summed
   pub record Most (total B : ℕ) : Type 0 where
@@ -100,7 +76,8 @@ module _ (ker : List ℕ) (width height : ℕ) (a b : ℕ → ℕ → ℕ) (x y 
       }
     where
       most : (v : ℕ → ℕ → ℕ) (C : ℕ) → Bounded C width height v → momentAt ker width height v x y ≤ total * total * C
-      most v C bounded = moment-le ker width height total (kernel-sum total ker ok) v C bounded x y
+      most v C bounded =
+          rw (mul-comm (total * total) C, ← mul-assoc C total total) (rw (kernel-says total ker ok .sum) at (moment-le ker width height v C bounded x y))
 
   -- no sum leaves 64 signed bits
   pub record Fit : Type 0 where
@@ -111,12 +88,12 @@ module _ (ker : List ℕ) (width height : ℕ) (a b : ℕ → ℕ → ℕ) (x y 
     pub y2-fits : y2 < 2 ^ 63
     pub w-fits : w < 2 ^ 63
 
-  pub sums-fit : (total B : ℕ) → lawful total ker ≡ true → total ≤ fixedTotal → B ≤ mostSummed → Bounded B width height a → Bounded B width height b → Fit
-  unfolding mostSummed fixedTotal
+  pub sums-fit : (total B : ℕ) → lawful total ker ≡ true → total ≤ fixedTotal → B ≤ mostSample → Bounded B width height a → Bounded B width height b → Fit
+  unfolding mostSample fixedTotal
   sums-fit total B ok t s h k =
       let most = sums-most total B ok h k in
-      let small : B ≤ mostSummed * mostSummed = le-trans s (lit≤ tt) in
-      let square : B * B ≤ mostSummed * mostSummed = mul-le-mul s s in
+      let small : B ≤ mostSample * mostSample = le-trans s (lit≤ tt) in
+      let square : B * B ≤ mostSample * mostSample = mul-le-mul s s in
       record {
         mux-fits = fits B small (most .mux-most);
         muy-fits = fits B small (most .muy-most);
@@ -126,7 +103,7 @@ module _ (ker : List ℕ) (width height : ℕ) (a b : ℕ → ℕ → ℕ) (x y 
         w-fits = fits 1 (lit≤ tt) (rw mul-one (most .w-most));
       }
     where
-      fits : (C : ℕ) {s : ℕ} → C ≤ mostSummed * mostSummed → s ≤ total * total * C → s < 2 ^ 63
+      fits : (C : ℕ) {s : ℕ} → C ≤ mostSample * mostSample → s ≤ total * total * C → s < 2 ^ 63
       fits C c l = lt-of-le-of-lt (le-trans l (mul-le-mul (mul-le-mul t t) c)) (lit< tt)
 
   -- exchanging the views exchanges mux with muy and x2 with y2, and keeps xy and w
@@ -165,7 +142,7 @@ module _ (ker : List ℕ) (width height : ℕ) (a b : ℕ → ℕ → ℕ) (x y 
     pub exchanged : Exchanged
     pub schwarz : Schwarz
 
-  demanded : (total B : ℕ) → lawful total ker ≡ true → total ≤ fixedTotal → B ≤ mostSummed → Bounded B width height a → Bounded B width height b
+  demanded : (total B : ℕ) → lawful total ker ≡ true → total ≤ fixedTotal → B ≤ mostSample → Bounded B width height a → Bounded B width height b
       → x < width → y < height → Demanded total B
   demanded total B ok t s h k l m =
       record {
@@ -187,13 +164,13 @@ unfoldable pub scaleMax : ℕ → ℕ → ℕ
 scaleMax depth k = maxOf depth * 4 ^ k
 
 -- planes of either width stay below what fits, and so do the five scales
-pub plane-small : (wide : Bool) (depth : ℕ) → depth ≤ mostDepth wide → maxOf depth ≤ mostSummed
-unfolding mostDepth maxOf mostSummed
+pub plane-small : (wide : Bool) (depth : ℕ) → depth ≤ mostDepth wide → maxOf depth ≤ mostSample
+unfolding mostDepth maxOf mostSample
 plane-small true depth l = le-trans (max-grows l) (lit≤ tt)
 plane-small false depth l = le-trans (max-grows l) (lit≤ tt)
 
-pub scale-small : (depth k : ℕ) → depth ≤ mostDepth true → k < scales → scaleMax depth k ≤ mostSummed
-unfolding scaleMax scales mostSummed mostDepth maxOf
+pub scale-small : (depth k : ℕ) → depth ≤ mostDepth true → k < scales → scaleMax depth k ≤ mostSample
+unfolding scaleMax scales mostSample mostDepth maxOf
 scale-small depth k d l =
     let m : k ≤ 4 = omega arith in
     let s : maxOf depth * 4 ^ k ≤ maxOf 12 * 4 ^ 4 = mul-le-mul (max-grows d) (pow-le-pow-right {n = 4} (lit< tt) m) in
@@ -202,10 +179,9 @@ scale-small depth k d l =
 -- a lent kernel, over two accepted planes of either width
 pub lent-sums : (wide : Bool) (p q : Plane) (width height depth least : ℕ) → Accepted wide (p ∷ q ∷ []) width height depth least
     → (ker : List ℕ) → lawful lentTotal ker ≡ true → (x y : ℕ) → x < width → y < height
-    → Demanded ker width height (λ (r c : ℕ). sampleAt p c r) (λ (r c : ℕ). sampleAt q c r) x y lentTotal (maxOf depth)
-unfolding lentTotal fixedTotal
+    → Demanded ker width height (viewOf p) (viewOf q) x y lentTotal (maxOf depth)
 lent-sums wide p q width height depth least c ker ok x y l m =
-    demanded ker width height _ _ x y lentTotal (maxOf depth) ok (lit≤ tt) (plane-small wide depth (c .depth-most))
+    demanded ker width height _ _ x y lentTotal (maxOf depth) ok lent-total (plane-small wide depth (c .depth-most))
     (λ row col i j. c .each .0 .small col row j i)
     (λ row col i j. c .each .1 .0 .small col row j i)
     l
