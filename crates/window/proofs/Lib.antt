@@ -3,3 +3,6 @@ pub mod Windows
 pub mod Separable
 pub mod Five
 pub mod Held
+pub mod Cauchy
+pub mod DemandMoments
+pub mod Demand
