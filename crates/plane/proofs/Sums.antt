@@ -41,6 +41,10 @@ module _ (f : ℕ → ℕ) where
   pub sum-mono : (a b : ℕ) → a ≤ b → sumTo f a ≤ sumTo f b
   sum-mono a b l = let e : a + (b - a) ≡ b = omega arith in rw e at (sum-grows a (b - a))
 
+  -- no term is above the sum
+  pub sum-term : (n k : ℕ) → k < n → f k ≤ sumTo f n
+  sum-term n k l = omega (arith, sum-more k, sum-mono (k + 1) n (omega arith))
+
   -- a factor that every term has
   pub sum-mul : (c n : ℕ) → sumTo (λ (k : ℕ). c * f k) n ≡ c * sumTo f n
   unfolding sumTo
@@ -65,3 +69,15 @@ module _ (f g : ℕ → ℕ) where
   unfolding sumTo
   sum-ext zero h = refl
   sum-ext (suc n) h = omega (arith, sum-ext n (λ k l. h k (omega arith)), h n (omega arith))
+
+  -- two sums as one
+  pub sum-add : (n : ℕ) → sumTo (λ (k : ℕ). f k + g k) n ≡ sumTo f n + sumTo g n
+  unfolding sumTo
+  sum-add zero = refl
+  sum-add (suc n) = omega (arith, sum-add n)
+
+-- a double sum, its two counts exchanged
+pub sum-swap : (f : ℕ → ℕ → ℕ) (m n : ℕ) → sumTo (λ (i : ℕ). sumTo (f i) n) m ≡ sumTo (λ (j : ℕ). sumTo (λ (i : ℕ). f i j) m) n
+unfolding sumTo
+sum-swap f zero n = sym (sum-zero _ n (λ k l. refl))
+sum-swap f (suc m) n = rw (sum-swap f m n) (sym (sum-add _ (f m) n))
