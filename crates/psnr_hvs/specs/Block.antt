@@ -57,9 +57,12 @@ ratio b = cond (lt zero64 (gvar b)) (varSum b ⊘ gvar b) (gvar b)
 abbrev pub first : ℕ → ℕ → Bool
 first i j = eqb i 0 && eqb j 0
 
--- the coefficients' squares, weighed, one after another
+-- the square of a coefficient, weighed, added to s
+abbrev pub weigh : List (List Float) → List ℤ → Float → ℕ → ℕ → Float
+weigh mask d s i j = cond (first i j) s (s ⊕ double (cell d i j *ℤ cell d i j) ⊗ entry mask i j)
+
 unfoldable pub energy : List (List Float) → List ℤ → Float
-energy mask d = overSquare 8 (λ (s : Float) (i j : ℕ). cond (first i j) s (s ⊕ double (cell d i j *ℤ cell d i j) ⊗ entry mask i j)) zero64
+energy mask d = overSquare 8 (weigh mask d) zero64
 
 -- .sqrt(): our root, and not-a-number where that is refused
 abbrev pub rootOr : Rooted → Float
@@ -88,17 +91,19 @@ abbrev pub shown : Float → Float → Float
 shown err hidden = cond (lt err hidden) zero64 (err ⊖ hidden)
 
 -- err at a place: `whole` says that nothing of it is masked
-abbrev pub errOf : Bool → Float → Float → Float → Float
+unfoldable pub errOf : Bool → Float → Float → Float → Float
 errOf whole err m mask = cond whole err (shown err (m ⊘ mask))
 
 -- (err × csf).powi(2), with the square one multiplication
 unfoldable pub term : Bool → Float → Float → Float → Float → Float
 term whole err m mask csf = errOf whole err m mask ⊗ csf ⊗ (errOf whole err m mask ⊗ csf)
 
--- result, and then each place's term
+-- the term of a place, added to s
+abbrev pub addTerm : List (List Float) → List (List Float) → Float → List ℤ → List ℤ → Float → ℕ → ℕ → Float
+addTerm csf mask m d1 d2 s i j = s ⊕ term (first i j) (distance (cell d1 i j) (cell d2 i j)) m (entry mask i j) (entry csf i j)
+
 unfoldable pub errors : List (List Float) → List (List Float) → Float → List ℤ → List ℤ → Float → Float
-errors csf mask m d1 d2 result =
-    overSquare 8 (λ (s : Float) (i j : ℕ). s ⊕ term (first i j) (distance (cell d1 i j) (cell d2 i j)) m (entry mask i j) (entry csf i j)) result
+errors csf mask m d1 d2 result = overSquare 8 (addTerm csf mask m d1 d2) result
 
 -- result, and then one block of each plane
 unfoldable pub withBlock : List (List Float) → List (List Float) → List ℤ → List ℤ → Float → Float

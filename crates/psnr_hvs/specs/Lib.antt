@@ -3,3 +3,4 @@ pub mod Rounded
 pub mod Tables
 pub mod Block
 pub mod Score
+pub mod Legible

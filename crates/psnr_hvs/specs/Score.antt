@@ -28,8 +28,11 @@ abbrev pub blocksPerSide : ℕ → ℕ
 blocksPerSide side = (side - blockSide) / step + 1
 
 -- the block whose first sample is (x, y), row by row
+abbrev pub sampleIn : Plane → ℕ → ℕ → ℕ → ℤ
+sampleIn p x y k = pos (sampleAt p (x + k % 8) (y + k / 8))
+
 unfoldable pub blockAt : Plane → ℕ → ℕ → List ℤ
-blockAt p x y = listTo (λ (k : ℕ). pos (sampleAt p (x + k % 8) (y + k / 8))) 64
+blockAt p x y = listTo (sampleIn p x y) 64
 
 -- result, and then n blocks of a row of blocks that begins at row y
 unfoldable pub alongRow : List (List Float) → List (List Float) → Plane → Plane → ℕ → Float → ℕ → Float

@@ -2,10 +2,10 @@
 -- v uses CSF_CR420." Each figure as the bits of the double nearest to it, with the decimals of its row above it. Definitions only.
 use mathlib.Core.List.{List, [], _∷_}
 use Prim.Native.Nat.{ℕ}
-use lib.Ieee.{Float, binary64, ofBits}
+use lib.Ieee.{Float, nan, binary64, ofBits}
 use lib.ListN.{getD}
 use Rattle.psnr_hvs.specs.Fold.{listTo}
-use Rattle.psnr_hvs.specs.Rounded.{_⊗_, zero64}
+use Rattle.psnr_hvs.specs.Rounded.{_⊗_}
 use Rattle.psnr_hvs.specs.declared.Kind.{Kind}
 use Rattle.psnr_hvs.specs.declared.Kind.the-variants.{Luma, Cb, Cr}
 
@@ -81,7 +81,7 @@ csfOf Cr = csfCr420
 
 -- what stands in row i and column j of a table
 abbrev pub entry : List (List Float) → ℕ → ℕ → Float
-entry table i j = getD (getD table i []) j zero64
+entry table i j = getD (getD table i []) j nan
 
 -- 0.3885746225901003, CSF_MULTIPLIER
 abbrev pub multiplier : Float
@@ -93,7 +93,7 @@ maskOf c = c ⊗ multiplier ⊗ (c ⊗ multiplier)
 
 -- the masks of a table, row by row
 abbrev pub maskRow : List Float → List Float
-maskRow row = listTo (λ (j : ℕ). maskOf (getD row j zero64)) 8
+maskRow row = listTo (λ (j : ℕ). maskOf (getD row j nan)) 8
 
 unfoldable pub masksOf : List (List Float) → List (List Float)
 masksOf csf = listTo (λ (i : ℕ). maskRow (getD csf i [])) 8

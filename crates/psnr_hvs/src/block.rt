@@ -5,12 +5,13 @@ ghost use mathlib.Core.Bool.{Bool};
 ghost use mathlib.Core.Path.{_≡_};
 ghost use Prim.Native.Nat.{_+_, _<_, _≤_};
 ghost use lib.ListN.{length};
-ghost use Rattle.plane.specs.Plane.{planeOf, samplesOf, needed};
+ghost use Rattle.plane.specs.Plane.{planeOf, samplesOf};
 ghost use Rattle.dct.specs.Limits.{blockSize, forwardLimit, coefficientLimit};
 ghost use Rattle.dct.specs.Operation.{Within, Small};
 ghost use Rattle.psnr_hvs.specs.Block as Block;
 ghost use Rattle.psnr_hvs.specs.Block.{distance};
 ghost use Rattle.psnr_hvs.specs.Score.{blockAt};
+ghost use Rattle.psnr_hvs.specs.Legible.{Legible};
 
 // The block whose first sample is (x, y), to `out`.
 fn load(
@@ -26,7 +27,7 @@ fn load(
 )
     requires { ⌜ length (now out) ≡ blockSize ⌝ }
     requires { ⌜ (x + 8 ≤ width) × (y + 8 ≤ height) ⌝ }
-    requires { ⌜ needed width height stride ≤ length (samplesOf wide (now bytes) (now words)) ⌝ }
+    requires { ⌜ Legible width height (planeOf (samplesOf wide (now bytes) (now words)) stride) ⌝ }
     ensures { λ _. ⌜ now (out .exit) ≡ blockAt (planeOf (samplesOf wide (now (bytes .entry)) (now (words .entry))) stride) x y ⌝ }
 {
     for k in 0..64 {
@@ -79,6 +80,8 @@ fn larger(m1: f64, m2: f64) -> f64
 // The mask of two blocks p1 and p2, of which d1 and d2 are the coefficients.
 fn mask_of_both(p1: &[i32], p2: &[i32], d1: &[i32], d2: &[i32], mask: &[[f64; 8]; 8]) -> f64
     requires { ⌜ (length (now p1) ≡ blockSize) × (length (now p2) ≡ blockSize) ⌝ }
+    requires { ⌜ Small forwardLimit (now p1) ⌝ }
+    requires { ⌜ Small forwardLimit (now p2) ⌝ }
     requires { ⌜ (length (now d1) ≡ blockSize) × (length (now d2) ≡ blockSize) ⌝ }
     requires { ⌜ Small coefficientLimit (now d1) ⌝ }
     requires { ⌜ Small coefficientLimit (now d2) ⌝ }
@@ -100,19 +103,22 @@ fn apart(a: i32, b: i32) -> f64
     if d < 0 { (-d) as f64 } else { d as f64 }
 }
 
-// The squared error of one place; `whole` says that nothing of it is masked.
+// What the mask leaves of an error; `whole` says that nothing of it is masked.
+fn err_at(whole: bool, err: f64, m: f64, mask: f64) -> f64
+    ensures { λ r. ⌜ r ≡ Block.errOf whole err m mask ⌝ }
+{
+    if whole {
+        return err;
+    }
+    let hidden = m / mask;
+    if err < hidden { 0.0 } else { err - hidden }
+}
+
+// The squared error of one place.
 fn term(whole: bool, err: f64, m: f64, mask: f64, csf: f64) -> f64
     ensures { λ r. ⌜ r ≡ Block.term whole err m mask csf ⌝ }
 {
-    let hidden = m / mask;
-    let e = if whole {
-        err
-    } else if err < hidden {
-        0.0
-    } else {
-        err - hidden
-    };
-    let q = e * csf;
+    let q = err_at(whole, err, m, mask) * csf;
     q * q
 }
 
@@ -157,4 +163,35 @@ fn with_block(
     dct::transform(p2, &mut d2);
     let m = mask_of_both(p1, p2, &d1, &d2, mask);
     errors(result, &d1, &d2, m, mask, csf)
+}
+
+// The blocks of both planes whose first sample is (x, y), added to `result`.
+pub fn block_at(
+    result: f64,
+    a8: &[u8],
+    a16: &[u16],
+    b8: &[u8],
+    b16: &[u16],
+    wide: bool,
+    x: usize,
+    y: usize,
+    stride_a: usize,
+    stride_b: usize,
+    width: usize,
+    height: usize,
+    mask: &[[f64; 8]; 8],
+    csf: &[[f64; 8]; 8],
+) -> f64
+    requires { ⌜ (x + 8 ≤ width) × (y + 8 ≤ height) ⌝ }
+    requires { ⌜ Legible width height (planeOf (samplesOf wide (now a8) (now a16)) «stride_a») ⌝ }
+    requires { ⌜ Legible width height (planeOf (samplesOf wide (now b8) (now b16)) «stride_b») ⌝ }
+    ensures { λ r. ⌜ r ≡ Block.withBlock (now (csf .entry)) (now (mask .entry))
+        (blockAt (planeOf (samplesOf wide (now (a8 .entry)) (now (a16 .entry))) «stride_a») x y)
+        (blockAt (planeOf (samplesOf wide (now (b8 .entry)) (now (b16 .entry))) «stride_b») x y) result ⌝ }
+{
+    let mut p1 = [0i32; 64];
+    let mut p2 = [0i32; 64];
+    load(a8, a16, wide, x, y, stride_a, width, height, &mut p1);
+    load(b8, b16, wide, x, y, stride_b, width, height, &mut p2);
+    with_block(result, &p1, &p2, mask, csf)
 }

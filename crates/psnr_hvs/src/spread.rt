@@ -2,13 +2,16 @@
 ghost use mathlib.Core.Path.{_≡_};
 ghost use Prim.Native.Nat.{_+_, _<_, _≤_};
 ghost use lib.ListN.{length};
+ghost use Rattle.dct.specs.Limits.{blockSize, forwardLimit};
+ghost use Rattle.dct.specs.Operation.{Small};
 ghost use Rattle.psnr_hvs.specs.Rounded.{double};
 ghost use Rattle.psnr_hvs.specs.Block as Block;
 ghost use Rattle.psnr_hvs.specs.Block.{cell, spread, sumOver};
 
 // The sum of the whole block.
 fn sum_all(b: &[i32]) -> f64
-    requires { ⌜ length (now b) ≡ 64 ⌝ }
+    requires { ⌜ length (now b) ≡ blockSize ⌝ }
+    requires { ⌜ Small forwardLimit (now b) ⌝ }
     ensures { λ r. ⌜ r ≡ sumOver 0 0 8 (λ i j. double (cell (now (b .entry)) i j)) ⌝ }
 {
     let mut s = 0.0;
@@ -20,7 +23,8 @@ fn sum_all(b: &[i32]) -> f64
 
 // The sum of a quarter.
 fn sum_quarter(b: &[i32], top: usize, left: usize) -> f64
-    requires { ⌜ length (now b) ≡ 64 ⌝ }
+    requires { ⌜ length (now b) ≡ blockSize ⌝ }
+    requires { ⌜ Small forwardLimit (now b) ⌝ }
     requires { ⌜ (top ≤ 4) × (left ≤ 4) ⌝ }
     ensures { λ r. ⌜ r ≡ sumOver top left 4 (λ i j. double (cell (now (b .entry)) i j)) ⌝ }
 {
@@ -33,7 +37,8 @@ fn sum_quarter(b: &[i32], top: usize, left: usize) -> f64
 
 // The sum of the squared distances from m, of the whole block.
 fn spread_all(b: &[i32], m: f64) -> f64
-    requires { ⌜ length (now b) ≡ 64 ⌝ }
+    requires { ⌜ length (now b) ≡ blockSize ⌝ }
+    requires { ⌜ Small forwardLimit (now b) ⌝ }
     ensures { λ r. ⌜ r ≡ sumOver 0 0 8 (spread (now (b .entry)) m) ⌝ }
 {
     let mut s = 0.0;
@@ -46,7 +51,8 @@ fn spread_all(b: &[i32], m: f64) -> f64
 
 // The same of a quarter.
 fn spread_quarter(b: &[i32], m: f64, top: usize, left: usize) -> f64
-    requires { ⌜ length (now b) ≡ 64 ⌝ }
+    requires { ⌜ length (now b) ≡ blockSize ⌝ }
+    requires { ⌜ Small forwardLimit (now b) ⌝ }
     requires { ⌜ (top ≤ 4) × (left ≤ 4) ⌝ }
     ensures { λ r. ⌜ r ≡ sumOver top left 4 (spread (now (b .entry)) m) ⌝ }
 {
@@ -60,7 +66,8 @@ fn spread_quarter(b: &[i32], m: f64, top: usize, left: usize) -> f64
 
 // The variance of the whole block.
 fn gvar(b: &[i32]) -> f64
-    requires { ⌜ length (now b) ≡ 64 ⌝ }
+    requires { ⌜ length (now b) ≡ blockSize ⌝ }
+    requires { ⌜ Small forwardLimit (now b) ⌝ }
     ensures { λ r. ⌜ r ≡ Block.gvar (now (b .entry)) ⌝ }
 {
     let m = sum_all(b) / 64.0;
@@ -69,7 +76,8 @@ fn gvar(b: &[i32]) -> f64
 
 // The variance of a quarter.
 fn var(b: &[i32], top: usize, left: usize) -> f64
-    requires { ⌜ length (now b) ≡ 64 ⌝ }
+    requires { ⌜ length (now b) ≡ blockSize ⌝ }
+    requires { ⌜ Small forwardLimit (now b) ⌝ }
     requires { ⌜ (top ≤ 4) × (left ≤ 4) ⌝ }
     ensures { λ r. ⌜ r ≡ Block.var (now (b .entry)) top left ⌝ }
 {
@@ -79,7 +87,8 @@ fn var(b: &[i32], top: usize, left: usize) -> f64
 
 // The variances of the quarters in all, beside that of the block.
 pub fn ratio(b: &[i32]) -> f64
-    requires { ⌜ length (now b) ≡ 64 ⌝ }
+    requires { ⌜ length (now b) ≡ blockSize ⌝ }
+    requires { ⌜ Small forwardLimit (now b) ⌝ }
     ensures { λ r. ⌜ r ≡ Block.ratio (now (b .entry)) ⌝ }
 {
     let g = gvar(b);

@@ -1,35 +1,30 @@
--- `apart` takes the size of a difference. Assumes nothing.
-use mathlib.Core.Path.{_≡_, refl, sym, ap, _∙_}
-use Prim.Native.Nat.{ℕ, _+_, _-_, _*_, _/_, _%_, _≤_, _<_}
-use native.Mathlib.Omega.{arith}
-use lib.ListN.{length, getD}
 use borrow.Author.Needs.{needs}
 use Rattle.psnr_hvs.proofs.block.apart.Statement.{statement}
 use Rattle.psnr_hvs.proofs.block.apart.Tie as tie
 use Rattle.psnr_hvs.proofs.block.apart.Reads as reads
 use Rattle.psnr_hvs.proofs.block.apart.Lts as lts
 
--- src/block.rt:99:13
+-- src/block.rt:102:13
 sub-d : tie.Need-sub-d
 sub-d c = ?
 
--- src/block.rt:100:17
+-- src/block.rt:103:17
 sub-result : tie.Need-sub-result
 sub-result c = ?
 
--- src/block.rt:100:16
+-- src/block.rt:103:16
 int-to-float-result : tie.Need-int-to-float-result
 int-to-float-result c = search needs
 
--- src/block.rt:100:37
+-- src/block.rt:103:37
 int-to-float-result-2 : tie.Need-int-to-float-result-2
 int-to-float-result-2 c = search needs
 
--- src/block.rt:94:1
+-- src/block.rt:97:1
 returns : tie.Need-returns
 returns c = ?
 
--- src/block.rt:94:1
+-- src/block.rt:97:1
 returns-2 : tie.Need-returns-2
 returns-2 c = ?
 

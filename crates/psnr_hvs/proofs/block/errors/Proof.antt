@@ -1,9 +1,3 @@
--- `errors` adds the terms. Assumes nothing.
-use borrow.Author.Needs.{needs}
-use mathlib.Core.Path.{_≡_, refl, sym, ap, _∙_}
-use Prim.Native.Nat.{ℕ, _+_, _-_, _*_, _/_, _%_, _≤_, _<_}
-use native.Mathlib.Omega.{arith}
-use lib.ListN.{length, getD}
 use Rattle.psnr_hvs.proofs.block.errors.Statement.{statement}
 use Rattle.psnr_hvs.proofs.block.errors.Tie as tie
 use Rattle.psnr_hvs.proofs.block.errors.Reads as reads
@@ -12,84 +6,84 @@ use Rattle.psnr_hvs.proofs.block.apart.Reads as apart-reads
 use Rattle.psnr_hvs.proofs.block.term.Reads as term-reads
 
 abbrev Inv-loop : tie.InvT-loop
-Inv-loop result d1 d2 m mask csf s₀ k₀ s k = (k ≤ 64)
+Inv-loop result d1 d2 m mask csf s₀ k₀ s k = ?
 
 abbrev μ-loop : tie.MeasureT-loop
-μ-loop result d1 d2 m mask csf s₀ k₀ s k = 64 - k
+μ-loop result d1 d2 m mask csf s₀ k₀ s k = ?
 
--- src/block.rt:134:5
+-- src/block.rt:140:5
 loop-holds : tie.Need-loop-holds Inv-loop μ-loop
-loop-holds c = search needs
+loop-holds c = ?
 
--- src/block.rt:135:25
+-- src/block.rt:141:25
 mul-apart : tie.Need-mul-apart Inv-loop μ-loop
-mul-apart c = search needs
+mul-apart c = ?
 
--- src/block.rt:135:25
+-- src/block.rt:141:25
 shared-slice-copy-out-apart : tie.Need-shared-slice-copy-out-apart Inv-loop μ-loop
-shared-slice-copy-out-apart c = search needs
+shared-slice-copy-out-apart c = ?
 
--- src/block.rt:135:32
+-- src/block.rt:141:32
 mul-apart-2 : tie.Need-mul-apart-2 Inv-loop μ-loop
-mul-apart-2 c = search needs
+mul-apart-2 c = ?
 
--- src/block.rt:135:32
+-- src/block.rt:141:32
 shared-slice-copy-out-apart-2 : tie.Need-shared-slice-copy-out-apart-2 Inv-loop μ-loop
-shared-slice-copy-out-apart-2 c = search needs
+shared-slice-copy-out-apart-2 c = ?
 
--- src/block.rt:135:13
+-- src/block.rt:141:13
 apart-requires : tie.Need-apart-requires Inv-loop μ-loop
 apart-requires c κs = ?
 
--- src/block.rt:136:38
+-- src/block.rt:142:38
 mul-term : tie.Need-mul-term Inv-loop μ-loop
-mul-term c = search needs
+mul-term c = ?
 
--- src/block.rt:136:38
+-- src/block.rt:142:38
 mul-term-2 : tie.Need-mul-term-2 Inv-loop μ-loop
-mul-term-2 c = search needs
+mul-term-2 c = ?
 
--- src/block.rt:136:38
+-- src/block.rt:142:38
 index-1-term : tie.Need-index-1-term Inv-loop μ-loop
-index-1-term c = search needs
+index-1-term c = ?
 
--- src/block.rt:136:38
+-- src/block.rt:142:38
 index-2-term : tie.Need-index-2-term Inv-loop μ-loop
-index-2-term c = search needs
+index-2-term c = ?
 
--- src/block.rt:136:58
+-- src/block.rt:142:58
 mul-term-3 : tie.Need-mul-term-3 Inv-loop μ-loop
-mul-term-3 c = search needs
+mul-term-3 c = ?
 
--- src/block.rt:136:58
+-- src/block.rt:142:58
 mul-term-4 : tie.Need-mul-term-4 Inv-loop μ-loop
-mul-term-4 c = search needs
+mul-term-4 c = ?
 
--- src/block.rt:136:58
+-- src/block.rt:142:58
 index-1-term-2 : tie.Need-index-1-term-2 Inv-loop μ-loop
-index-1-term-2 c = search needs
+index-1-term-2 c = ?
 
--- src/block.rt:136:58
+-- src/block.rt:142:58
 index-2-term-2 : tie.Need-index-2-term-2 Inv-loop μ-loop
-index-2-term-2 c = search needs
+index-2-term-2 c = ?
 
--- src/block.rt:136:17
+-- src/block.rt:142:17
 term-requires : tie.Need-term-requires Inv-loop μ-loop
-term-requires c κs = search needs
+term-requires c κs = ?
 
--- src/block.rt:134:9
+-- src/block.rt:140:9
 add-k : tie.Need-add-k Inv-loop μ-loop
-add-k c = search needs
+add-k c = ?
 
--- src/block.rt:134:5
+-- src/block.rt:140:5
 loop-less : tie.Need-loop-less Inv-loop μ-loop
-loop-less c = search needs
+loop-less c = ?
 
--- src/block.rt:134:5
+-- src/block.rt:140:5
 loop-again : tie.Need-loop-again Inv-loop μ-loop
 loop-again c = ?
 
--- src/block.rt:120:1
+-- src/block.rt:126:1
 returns : tie.Need-returns Inv-loop μ-loop
 returns c = ?
 

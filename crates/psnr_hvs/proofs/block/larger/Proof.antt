@@ -1,19 +1,13 @@
--- `larger` goes by its test. Assumes nothing.
-use borrow.Author.Needs.{needs}
-use mathlib.Core.Path.{_≡_, refl, sym, ap, _∙_}
-use Prim.Native.Nat.{ℕ, _+_, _-_, _*_, _/_, _%_, _≤_, _<_}
-use native.Mathlib.Omega.{arith}
-use lib.ListN.{length, getD}
 use Rattle.psnr_hvs.proofs.block.larger.Statement.{statement}
 use Rattle.psnr_hvs.proofs.block.larger.Tie as tie
 use Rattle.psnr_hvs.proofs.block.larger.Reads as reads
 use Rattle.psnr_hvs.proofs.block.larger.Lts as lts
 
--- src/block.rt:73:1
+-- src/block.rt:74:1
 returns : tie.Need-returns
 returns c = ?
 
--- src/block.rt:73:1
+-- src/block.rt:74:1
 returns-2 : tie.Need-returns-2
 returns-2 c = ?
 

@@ -1,5 +1,3 @@
--- `csf_of` answers the table of each kind: the decimals give the bits. Assumes nothing.
-use mathlib.Core.Path.{refl}
 use borrow.Author.Needs.{needs}
 use Rattle.psnr_hvs.proofs.tables.csf_of.Statement.{statement}
 use Rattle.psnr_hvs.proofs.tables.csf_of.Tie as tie

@@ -1,47 +1,41 @@
--- `mask_row` fills a row. Assumes nothing.
-use borrow.Author.Needs.{needs}
-use mathlib.Core.Path.{_≡_, refl, sym, ap, _∙_}
-use Prim.Native.Nat.{ℕ, _+_, _-_, _*_, _/_, _%_, _≤_, _<_}
-use native.Mathlib.Omega.{arith}
-use lib.ListN.{length, getD}
 use Rattle.psnr_hvs.proofs.tables.mask_row.Statement.{statement}
 use Rattle.psnr_hvs.proofs.tables.mask_row.Tie as tie
 use Rattle.psnr_hvs.proofs.tables.mask_row.Reads as reads
 use Rattle.psnr_hvs.proofs.tables.mask_row.Lts as lts
 
 abbrev Inv-loop : tie.InvT-loop
-Inv-loop row m₀ j₀ m j = (j ≤ 8) × (length m ≡ 8)
+Inv-loop row m₀ j₀ m j = ?
 
 abbrev μ-loop : tie.MeasureT-loop
-μ-loop row m₀ j₀ m j = 8 - j
+μ-loop row m₀ j₀ m j = ?
 
 -- src/tables.rt:57:5
 loop-holds : tie.Need-loop-holds Inv-loop μ-loop
-loop-holds c = search needs
+loop-holds c = ?
 
 -- src/tables.rt:58:17
 mul-c : tie.Need-mul-c Inv-loop μ-loop
-mul-c c = search needs
+mul-c c = ?
 
 -- src/tables.rt:58:17
 array-read-c : tie.Need-array-read-c Inv-loop μ-loop
-array-read-c c = search needs
+array-read-c c = ?
 
 -- src/tables.rt:59:9
 mul-m : tie.Need-mul-m Inv-loop μ-loop
-mul-m c = search needs
+mul-m c = ?
 
 -- src/tables.rt:59:9
 array-write-m : tie.Need-array-write-m Inv-loop μ-loop
-array-write-m c = search needs
+array-write-m c = ?
 
 -- src/tables.rt:57:9
 add-j : tie.Need-add-j Inv-loop μ-loop
-add-j c = search needs
+add-j c = ?
 
 -- src/tables.rt:57:5
 loop-less : tie.Need-loop-less Inv-loop μ-loop
-loop-less c = search needs
+loop-less c = ?
 
 -- src/tables.rt:57:5
 loop-again : tie.Need-loop-again Inv-loop μ-loop
