@@ -38,18 +38,19 @@ module _ {A : Type 0} where
   by-fours step a = refl
 
   -- a list of which the first i places are filled
-  abbrev pub Filled : (ℕ → A) → List A → ℕ → Type 0
+  unfoldable pub Filled : (ℕ → A) → List A → ℕ → Type 0
   Filled f l i = take i l ≡ listTo f i
 
   pub filled-none : (f : ℕ → A) (l : List A) → Filled f l 0
-  unfolding listTo
+  unfolding listTo Filled
   filled-none f l = refl
 
   pub filled-more : (f : ℕ → A) (l : List A) (i : ℕ) {v : A} → Filled f l i → v ≡ f i → i < length l → Filled f (set l i v) (i + 1)
-  unfolding listTo
+  unfolding listTo Filled
   filled-more f l i {v} h e n = rw (add-one, take-suc-set l i v n, h, e)
 
   pub filled-all : (f : ℕ → A) (l : List A) (n : ℕ) → Filled f l n → length l ≤ n → l ≡ listTo f n
+  unfolding Filled
   filled-all f l n h e = sym (take-all n l e) ∙ h
 
 -- place k of a block

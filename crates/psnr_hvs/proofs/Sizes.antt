@@ -36,7 +36,7 @@ module _ (d : List ℤ) (h : Small coefficientLimit d) (k : ℕ) where
   square-fits = rw (read-coefficient d h k) (fits _ square-small)
 
   pub square-is : rd (rd (getD d k (pos 0)) *ℤ rd (getD d k (pos 0))) ≡ getD d k (pos 0) *ℤ getD d k (pos 0)
-  square-is = rw (read-coefficient d h k) (whole (fits _ square-small .sfits))
+  square-is = rw (read-coefficient d h k) (whole (fits (getD d k (pos 0) *ℤ getD d k (pos 0)) square-small .sfits))
 
 -- ---- the size of a number by its sign
 size-minus : (z : ℤ) → ltZ z (pos 0) ≡ true → pos 0 -ℤ z ≡ pos (natAbs z)
@@ -56,7 +56,7 @@ module _ (a b : ℤ) (h : Within coefficientLimit a) (k : Within coefficientLimi
   difference-fits = rw (same tt h, same tt k) (fits _ small)
 
   read : rd (rd a -ℤ rd b) ≡ a -ℤ b
-  read = rw (same tt h, same tt k) (whole (fits _ small .sfits))
+  read = rw (same tt h, same tt k) (whole (fits (a -ℤ b) small .sfits))
 
   turned : ltZ (rd (rd a -ℤ rd b)) (pos 0) ≡ true → pos 0 -ℤ rd (rd a -ℤ rd b) ≡ pos (natAbs (a -ℤ b))
   turned e = rw read (size-minus (a -ℤ b) (rw read at e))

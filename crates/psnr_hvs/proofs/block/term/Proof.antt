@@ -1,3 +1,5 @@
+-- `term` is a square. Assumes nothing.
+use Rattle.psnr_hvs.specs.Block.{term}
 use borrow.Author.Needs.{needs}
 use Rattle.psnr_hvs.proofs.block.term.Statement.{statement}
 use Rattle.psnr_hvs.proofs.block.term.Tie as tie
@@ -11,7 +13,8 @@ err-at-requires c κs = search needs
 
 -- src/block.rt:118:1
 returns : tie.Need-returns
-returns c = ?
+unfolding term
+returns c = rw (c .err-at .ensures)
 
 pub term-spec : {M : Type 1} → statement M
 term-spec = tie.close (tie.spec err-at-requires returns)

@@ -1,3 +1,5 @@
+-- `gvar` is the definition's steps. Assumes nothing.
+use Rattle.psnr_hvs.specs.Block.{gvar, gmean}
 use borrow.Author.Needs.{needs}
 use Rattle.psnr_hvs.proofs.spread.gvar.Statement.{statement}
 use Rattle.psnr_hvs.proofs.spread.gvar.Tie as tie
@@ -16,7 +18,8 @@ spread-all-requires c κs = search needs
 
 -- src/spread.rt:68:1
 returns : tie.Need-returns
-returns c = ?
+unfolding gvar gmean
+returns c = rw (c .spread-all .ensures, c .before .sum-all .ensures)
 
 pub gvar-spec : {M : Type 1} → statement M
 gvar-spec = tie.close (tie.spec sum-all-requires spread-all-requires returns)

@@ -1,3 +1,5 @@
+-- `ratio` goes by its test. Assumes nothing.
+use Rattle.psnr_hvs.specs.Block.{ratio, varSum}
 use borrow.Author.Needs.{needs}
 use Rattle.psnr_hvs.proofs.spread.ratio.Statement.{statement}
 use Rattle.psnr_hvs.proofs.spread.ratio.Tie as tie
@@ -28,11 +30,16 @@ var-requires-4 c κs = search needs
 
 -- src/spread.rt:89:1
 returns : tie.Need-returns
-returns c = ?
+unfolding ratio varSum
+returns c =
+    let g = c .before .before .before .before .before .gvar .ensures in
+    rw (← g, c .if1 .taken, c .before .var4 .ensures, c .before .before .var3 .ensures, c .before .before .before .var2 .ensures,
+        c .before .before .before .before .var .ensures)
 
 -- src/spread.rt:89:1
 returns-2 : tie.Need-returns-2
-returns-2 c = ?
+unfolding ratio
+returns-2 c = let g = c .before .before .before .before .before .gvar .ensures in rw (← g, c .if1 .left)
 
 pub ratio-spec : {M : Type 1} → statement M
 ratio-spec =

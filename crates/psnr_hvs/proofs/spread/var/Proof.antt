@@ -1,3 +1,5 @@
+-- `var` is the definition's steps. Assumes nothing.
+use Rattle.psnr_hvs.specs.Block.{var, mean}
 use borrow.Author.Needs.{needs}
 use Rattle.psnr_hvs.proofs.spread.var.Statement.{statement}
 use Rattle.psnr_hvs.proofs.spread.var.Tie as tie
@@ -16,7 +18,8 @@ spread-quarter-requires c κs = search needs
 
 -- src/spread.rt:78:1
 returns : tie.Need-returns
-returns c = ?
+unfolding var mean
+returns c = rw (c .spread-quarter .ensures, c .before .sum-quarter .ensures)
 
 pub var-spec : {M : Type 1} → statement M
 var-spec = tie.close (tie.spec sum-quarter-requires spread-quarter-requires returns)
