@@ -1,3 +1,4 @@
 pub mod Folds
 pub mod Sizes
 pub mod Walks
+pub mod Blocks
