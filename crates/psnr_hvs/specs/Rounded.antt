@@ -19,7 +19,6 @@ infixl 60 _⊕_
 infixl 60 _⊖_
 infixl 70 _⊗_
 infixl 70 _⊘_
-
 -- a whole number as a double
 abbrev pub double : ℤ → Float
 double z = ofInt binary64 z

@@ -145,13 +145,7 @@ fn errors(
 }
 
 // One block of each plane, added to `result`.
-fn with_block(
-    result: f64,
-    p1: &[i32],
-    p2: &[i32],
-    mask: &[[f64; 8]; 8],
-    csf: &[[f64; 8]; 8],
-) -> f64
+fn with_block(result: f64, p1: &[i32], p2: &[i32], mask: &[[f64; 8]; 8], csf: &[[f64; 8]; 8]) -> f64
     requires { ⌜ (length (now p1) ≡ blockSize) × (length (now p2) ≡ blockSize) ⌝ }
     requires { ⌜ Small forwardLimit (now p1) ⌝ }
     requires { ⌜ Small forwardLimit (now p2) ⌝ }

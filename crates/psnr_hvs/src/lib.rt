@@ -147,7 +147,17 @@ fn score(
     let csf = tables::csf_of(kind);
     let mask = tables::masks(csf);
     let sum = down_rows(
-        a8, a16, b8, b16, wide, stride_a, stride_b, width, height, &mask, &csf,
+        a8,
+        a16,
+        b8,
+        b16,
+        wide,
+        stride_a,
+        stride_b,
+        width,
+        height,
+        &mask,
+        &csf,
     );
     let blocks = (blocks_per_side(width) * blocks_per_side(height)) as u64;
     let max = plane::sample_max(depth) as u64;
@@ -172,13 +182,33 @@ fn answer(
         (planeOf (samplesOf wide (now (b8 .entry)) (now (b16 .entry))) «stride_b») width height depth ⌝ }
 {
     let no = plane::check(
-        a8, a16, b8, b16, wide, width, height, stride_a, stride_b, depth, BLOCK_SIDE,
+        a8,
+        a16,
+        b8,
+        b16,
+        wide,
+        width,
+        height,
+        stride_a,
+        stride_b,
+        depth,
+        BLOCK_SIDE,
     );
     if no != 0 {
         return Hvs::Refused(no);
     }
     let s = score(
-        a8, a16, b8, b16, wide, width, height, stride_a, stride_b, depth, kind,
+        a8,
+        a16,
+        b8,
+        b16,
+        wide,
+        width,
+        height,
+        stride_a,
+        stride_b,
+        depth,
+        kind,
     );
     if number::finite(s) {
         Hvs::Score(s)

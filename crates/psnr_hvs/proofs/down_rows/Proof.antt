@@ -15,7 +15,7 @@ use Rattle.psnr_hvs.proofs.along_row.Reads as along-row-reads
 use Rattle.psnr_hvs.proofs.blocks_per_side.Reads as blocks-per-side-reads
 
 abbrev Inv-loop : tie.InvT-loop
-Inv-loop a8 a16 b8 b16 wide stride-a stride-b width height mask csf n s₀ y₀ s y = 
+Inv-loop a8 a16 b8 b16 wide stride-a stride-b width height mask csf n s₀ y₀ s y =
     (y ≤ n) × (s ≡ downRows csf mask (planeOf (samplesOf wide a8 a16) stride-a) (planeOf (samplesOf wide b8 b16) stride-b) width y)
 
 abbrev μ-loop : tie.MeasureT-loop
@@ -36,7 +36,7 @@ mul-along-row c = search needs
 
 -- src/lib.rt:109:9
 along-row-requires : tie.Need-along-row-requires Inv-loop μ-loop
-along-row-requires c κs = 
+along-row-requires c κs =
     let s = c .before .before .before .before .before .before .before in
     let n = c .before .before .blocks-per-side .ensures in
     ((s .pre .0 .0, ends (s .pre .0 .1) (omega arith)), s .pre .1)
@@ -55,7 +55,7 @@ loop-again c = (search needs, rw (rows-more, c .along-row .ensures, c .before .b
 
 -- src/lib.rt:87:1
 returns : tie.Need-returns Inv-loop μ-loop
-returns c = 
+returns c =
     let e : c .before .loop .y ≡ blocksPerSide (c .before .before .before .before .before .before .before .args .height) = omega (arith, c .before .before .blocks-per-side .ensures) in
     rw e at (c .before .loop .inv .1)
 

@@ -38,8 +38,7 @@ with-block-requires : tie.Need-with-block-requires
 with-block-requires c κs =
     let s = c .before .before .before .before .before .before .before .before .before .before .before .before in
     let one = c .before .before .before .before .before .before .load .ensures in
-    let two = c .before .before .before .load2 .ensures in
-    (
+    let two = c .before .before .before .load2 .ensures in (
       (rw one (block-length _ _ _), rw two (block-length _ _ _)),
       (
         rw one (block-small _ _ _ (s .pre .1 .0) (s .pre .0 .0) (s .pre .0 .1)),

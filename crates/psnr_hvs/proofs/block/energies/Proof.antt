@@ -58,7 +58,7 @@ index-2-m c = search needs
 
 -- src/block.rt:57:19
 mul-s : tie.Need-mul-s Inv-loop μ-loop
-mul-s c = 
+mul-s c =
     let s = c .before .before .before .before .before in
     square-fits (s .args .d1 .now) (s .pre .1 .0) (c .before .before .before .before .loop .k)
 
@@ -68,7 +68,7 @@ int-to-float-s c = search needs
 
 -- src/block.rt:58:19
 mul-t : tie.Need-mul-t Inv-loop μ-loop
-mul-t c = 
+mul-t c =
     let s = c .before .before .before .before .before .before in
     square-fits (s .args .d2 .now) (s .pre .1 .1) (c .before .before .before .before .before .loop .k)
 
@@ -90,8 +90,7 @@ loop-again c =
     let s = c .before .before .before .before .before .before .before in
     let l = c .before .before .before .before .before .before .loop in
     let one = s .args .d1 .now in
-    let two = s .args .d2 .now in
-    (
+    let two = s .args .d2 .now in (
       search needs,
       search needs,
       rw (weigh-more (s .args .mask .now) one zero64 (l .k) (l .inv .0), square-is one (s .pre .1 .0) (l .k), l .inv .2),

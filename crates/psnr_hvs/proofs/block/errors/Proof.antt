@@ -46,7 +46,7 @@ shared-slice-copy-out-apart-2 c = search needs
 
 -- src/block.rt:141:13
 apart-requires : tie.Need-apart-requires Inv-loop μ-loop
-apart-requires c κs = 
+apart-requires c κs =
     let s = c .before .before .before .before in
     (read (small-at coefficientLimit (s .args .d1 .now) (s .pre .1 .0) _), read (small-at coefficientLimit (s .args .d2 .now) (s .pre .1 .1) _))
 
@@ -100,17 +100,22 @@ loop-again c =
     let s = c .before .before .before .before .before .before .before .before in
     let l = c .before .before .before .before .before .before .before .loop in
     let one = s .args .d1 .now in
-    let two = s .args .d2 .now in
-    (
+    let two = s .args .d2 .now in (
       search needs,
-      rw (term-more (s .args .csf .now) (s .args .mask .now) (s .args .m) one two (s .args .result) (l .k), c .term .ensures, c .before .before .before .apart .ensures,
-          read-coefficient one (s .pre .1 .0) (l .k), read-coefficient two (s .pre .1 .1) (l .k), l .inv .1),
+      rw (
+        term-more (s .args .csf .now) (s .args .mask .now) (s .args .m) one two (s .args .result) (l .k),
+        c .term .ensures,
+        c .before .before .before .apart .ensures,
+        read-coefficient one (s .pre .1 .0) (l .k),
+        read-coefficient two (s .pre .1 .1) (l .k),
+        l .inv .1,
+      ),
     )
 
 -- src/block.rt:126:1
 returns : tie.Need-returns Inv-loop μ-loop
 unfolding errors
-returns c = 
+returns c =
     let e : c .before .loop .k ≡ 64 = omega arith in
     rw e at (c .before .loop .inv .1) ∙ by-eights _ _
 

@@ -39,8 +39,15 @@ returns : tie.Need-returns
 unfolding maskOfBoth
 returns c =
     let e = c .before .before .before .before .before .energies .ensures in
-    rw (c .larger .ensures, c .before .mask-for2 .ensures, c .before .before .ratio2 .ensures, c .before .before .before .mask-for .ensures,
-        c .before .before .before .before .ratio .ensures, e .0, e .1)
+    rw (
+      c .larger .ensures,
+      c .before .mask-for2 .ensures,
+      c .before .before .ratio2 .ensures,
+      c .before .before .before .mask-for .ensures,
+      c .before .before .before .before .ratio .ensures,
+      e .0,
+      e .1,
+    )
 
 pub mask-of-both-spec : {M : Type 1} → statement M
 mask-of-both-spec =

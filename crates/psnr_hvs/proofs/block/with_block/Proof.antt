@@ -39,9 +39,19 @@ mask-of-both-requires : tie.Need-mask-of-both-requires
 mask-of-both-requires c κs =
     let s = c .before .before .before .before .before .before .before .before in
     let one = c .before .before .before .before .before .before .transform in
-    let two = c .before .before .before .transform2 in
-    (s .pre .0, (s .pre .1 .0, (s .pre .1 .1, ((one .kept .1 .0, two .kept .1 .0),
-    (rw (one .ensures) (coefficient-bound _ (s .pre .1 .0)), rw (two .ensures) (coefficient-bound _ (s .pre .1 .1)))))))
+    let two = c .before .before .before .transform2 in (
+      s .pre .0,
+      (
+        s .pre .1 .0,
+        (
+          s .pre .1 .1,
+          (
+            (one .kept .1 .0, two .kept .1 .0),
+            (rw (one .ensures) (coefficient-bound _ (s .pre .1 .0)), rw (two .ensures) (coefficient-bound _ (s .pre .1 .1))),
+          ),
+        ),
+      ),
+    )
 
 -- src/block.rt:165:20
 slice-aggregate-errors : tie.Need-slice-aggregate-errors
@@ -56,9 +66,10 @@ errors-requires : tie.Need-errors-requires
 errors-requires c κs =
     let s = c .before .before .before .before .before .before .before .before .before .before .before in
     let one = c .before .before .before .before .before .before .before .before .before .transform in
-    let two = c .before .before .before .before .before .before .transform2 in
-    ((one .kept .1 .0, two .kept .1 .0),
-    (rw (one .ensures) (coefficient-bound _ (s .pre .1 .0)), rw (two .ensures) (coefficient-bound _ (s .pre .1 .1))))
+    let two = c .before .before .before .before .before .before .transform2 in (
+      (one .kept .1 .0, two .kept .1 .0),
+      (rw (one .ensures) (coefficient-bound _ (s .pre .1 .0)), rw (two .ensures) (coefficient-bound _ (s .pre .1 .1))),
+    )
 
 -- src/block.rt:148:1
 returns : tie.Need-returns

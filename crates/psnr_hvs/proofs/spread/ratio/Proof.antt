@@ -33,8 +33,14 @@ returns : tie.Need-returns
 unfolding ratio varSum
 returns c =
     let g = c .before .before .before .before .before .gvar .ensures in
-    rw (← g, c .if1 .taken, c .before .var4 .ensures, c .before .before .var3 .ensures, c .before .before .before .var2 .ensures,
-        c .before .before .before .before .var .ensures)
+    rw (
+      ← g,
+      c .if1 .taken,
+      c .before .var4 .ensures,
+      c .before .before .var3 .ensures,
+      c .before .before .before .var2 .ensures,
+      c .before .before .before .before .var .ensures,
+    )
 
 -- src/spread.rt:89:1
 returns-2 : tie.Need-returns-2

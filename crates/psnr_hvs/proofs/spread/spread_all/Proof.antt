@@ -46,14 +46,14 @@ loop-less c = search needs
 
 -- src/spread.rt:45:5
 loop-again : tie.Need-loop-again Inv-loop μ-loop
-loop-again c = 
-    let s = c  .before .before .before .before in
-    let k = c  .before .before .before .loop .k in
-    (search needs, rw (fold-more, read-sample (s .args .b .now) (s .pre .1) (k), place-from-0 k, c  .before .before .before .loop .inv .1))
+loop-again c =
+    let s = c .before .before .before .before in
+    let k = c .before .before .before .loop .k in
+    (search needs, rw (fold-more, read-sample (s .args .b .now) (s .pre .1) (k), place-from-0 k, c .before .before .before .loop .inv .1))
 
 -- src/spread.rt:39:1
 returns : tie.Need-returns Inv-loop μ-loop
-returns c = 
+returns c =
     let e : c .before .loop .k ≡ 64 = omega arith in
     rw e at (c .before .loop .inv .1) ∙ by-eights _ _
 

@@ -48,13 +48,13 @@ loop-less c = search needs
 
 -- src/tables.rt:57:5
 loop-again : tie.Need-loop-again Inv-loop μ-loop
-loop-again c = 
+loop-again c =
     let v = c .before .loop .inv in
     (search needs, simp length-set (v .1), filled-more _ _ _ (v .2) refl (omega arith))
 
 -- src/tables.rt:53:1
 returns : tie.Need-returns Inv-loop μ-loop
-returns c = 
+returns c =
     let v = c .before .loop .inv in
     let e : c .before .loop .j ≡ 8 = omega arith in
     filled-all _ _ 8 (rw e at (v .2)) (omega arith)

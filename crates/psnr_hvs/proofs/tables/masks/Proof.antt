@@ -60,7 +60,7 @@ loop-again c =
 -- src/tables.rt:65:1
 returns : tie.Need-returns Inv-loop μ-loop
 unfolding masksOf
-returns c = 
+returns c =
     let v = c .before .loop .inv in
     let e : c .before .loop .i ≡ 8 = omega arith in
     filled-all _ _ 8 (rw e at (v .2)) (omega arith)
