@@ -1,4 +1,3 @@
-
 // Probes: the private functions above, made public.
 
 /// The sum of the squared differences.

@@ -1,4 +1,3 @@
-
 // Probes: the private functions and tables above, made public.
 
 /// The score of one plane; kind 0 is y, 1 is u, 2 is v.

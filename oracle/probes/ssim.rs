@@ -1,15 +1,7 @@
-
 // Probes: the private functions above, made public.
 
 /// The pair of one plane whose stride is its width.
-pub fn probe_pair(
-    a: &[u32],
-    b: &[u32],
-    width: usize,
-    height: usize,
-    sample_max: u64,
-    kernel: &[i64],
-) -> (f64, f64) {
+pub fn probe_pair(a: &[u32], b: &[u32], width: usize, height: usize, sample_max: u64, kernel: &[i64]) -> (f64, f64) {
     calculate_plane_ssim_internal(a, b, width, height, sample_max, kernel, kernel)
 }
 

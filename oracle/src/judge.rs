@@ -3,12 +3,14 @@
 //! judge [--full] [--seed N] [FAMILY..]
 
 mod family;
+mod lifting;
 mod model;
 mod plane;
 mod published_numbers;
 mod random;
 mod root;
 mod start;
+mod transform;
 
 use family::Run;
 use std::process::exit;
@@ -16,8 +18,12 @@ use std::process::exit;
 /// A family's name, and what runs it.
 type Named = (&'static str, fn(Run) -> bool);
 
-const FAMILIES: [Named; 3] =
-    [("published", published_numbers::compare), ("root", root::compare), ("plane", plane::compare)];
+const FAMILIES: [Named; 4] = [
+    ("published", published_numbers::compare),
+    ("root", root::compare),
+    ("plane", plane::compare),
+    ("transform", transform::compare),
+];
 
 fn main() {
     family::hush_panics();

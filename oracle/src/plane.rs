@@ -103,9 +103,7 @@ fn show(p: &Plane) -> String {
 fn ask8(c: &Check, a: &[u16], b: &[u16]) -> (u8, bool) {
     let [x, y] = [a, b].map(|list| list.iter().map(|s| *s as u8).collect::<Vec<u8>>());
     let (w, h, p, q) = (c.width, c.height, c.a.stride, c.b.stride);
-    let answer = unsafe {
-        fuavelino_check8(x.as_ptr(), x.len(), y.as_ptr(), y.len(), w, h, p, q, c.depth, c.least)
-    };
+    let answer = unsafe { fuavelino_check8(x.as_ptr(), x.len(), y.as_ptr(), y.len(), w, h, p, q, c.depth, c.least) };
     let kept = |now: &[u8], was: &[u16]| now.iter().map(|s| u16::from(*s)).eq(was.iter().copied());
     (answer, kept(&x, a) && kept(&y, b))
 }
@@ -113,9 +111,7 @@ fn ask8(c: &Check, a: &[u16], b: &[u16]) -> (u8, bool) {
 fn ask16(c: &Check, a: &[u16], b: &[u16]) -> (u8, bool) {
     let (x, y) = (a.to_vec(), b.to_vec());
     let (w, h, p, q) = (c.width, c.height, c.a.stride, c.b.stride);
-    let answer = unsafe {
-        fuavelino_check16(x.as_ptr(), x.len(), y.as_ptr(), y.len(), w, h, p, q, c.depth, c.least)
-    };
+    let answer = unsafe { fuavelino_check16(x.as_ptr(), x.len(), y.as_ptr(), y.len(), w, h, p, q, c.depth, c.least) };
     (answer, x == a && y == b)
 }
 
@@ -257,6 +253,10 @@ fn odd_depth(r: &mut Random) -> u32 {
 
 /// Numbers about the limits of a side, and ones whose products with others wrap.
 fn odd_side(r: &mut Random, c: &mut Check) {
+    if r.once_in(6) {
+        c.least = r.pick(&[2, 9, 17, 8_192, 8_193, usize::MAX]);
+        return;
+    }
     let below = c.least.saturating_sub(1);
     let high: usize = r.pick(&[1 << 32, 1 << 63, 1 << 62, 1 << 51, 1 << 50]);
     let near = [0, 0, 1, below, below, c.least, 8_191, 8_192, 8_193, 8_194, 16_384];
@@ -290,7 +290,8 @@ fn odd_length(r: &mut Random, c: &mut Check) {
     let plane = one_of(r, c);
     let needs = plane.needs(width, height).min(ROOM) as usize;
     let whole = needs.saturating_sub(width) + plane.stride.min(ROOM as usize);
-    let list = [needs.saturating_sub(1), needs.saturating_sub(1), needs, needs + 1, whole, needs / 2, 0, 1, width.min(needs)];
+    let short = needs.saturating_sub(1);
+    let list = [short, short, needs, needs + 1, whole, needs / 2, 0, 1, width.min(needs)];
     plane.len = list[turn % list.len()];
 }
 

@@ -25,8 +25,9 @@ fn main() {
     list("ROOTLESS", "f64", refused.iter().map(|bits| number(*bits)).collect());
     let checks = checks();
     assert!(checks.iter().all(|c| c.a.len <= ROOM && c.b.len <= ROOM));
-    println!("// Checks of two planes, 14 numbers each: words (1) or bytes (0), depth, width, height, least side; then of each plane its stride, its length,");
-    println!("// and place and value of one sample (the others are 0; at place {} none is set); then the answer.", ROOM);
+    println!("// Checks of two planes, 14 numbers each: words (1) or bytes (0), depth, width, height, least side; then of each");
+    println!("// plane its stride, its length, and place and value of one sample (the others are 0; at place 4096 none is set);");
+    println!("// then the answer.");
     list("CHECKS", "usize", checks.iter().flat_map(row).map(|n| n.to_string()).collect());
 }
 
@@ -44,15 +45,14 @@ fn number(bits: u64) -> String {
     }
 }
 
-fn row(c: &Check) -> [usize; 14] {
-    let odd = |p: &Plane| p.odd.first().copied().unwrap_or((ROOM, 0));
-    let ((at_a, value_a), (at_b, value_b)) = (odd(&c.a), odd(&c.b));
-    [
-        usize::from(c.wide), c.depth as usize, c.width, c.height, c.least,
-        c.a.stride, c.a.len, at_a, usize::from(value_a),
-        c.b.stride, c.b.len, at_b, usize::from(value_b),
-        usize::from(c.refusal()),
-    ]
+fn row(c: &Check) -> Vec<usize> {
+    let mut list = vec![usize::from(c.wide), c.depth as usize, c.width, c.height, c.least];
+    for plane in c.planes() {
+        let (at, value) = plane.odd.first().copied().unwrap_or((ROOM, 0));
+        list.extend([plane.stride, plane.len, at, usize::from(value)]);
+    }
+    list.push(usize::from(c.refusal()));
+    list
 }
 
 /// Finite numbers to ask a root of: ends of every kind, squares and halfway squares with neighbours, and random ones.

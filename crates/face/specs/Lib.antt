@@ -1,1 +1,3 @@
 pub mod Root
+pub mod Squared
+pub mod Ssim

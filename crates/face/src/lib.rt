@@ -7,6 +7,11 @@ ghost use Rattle.number.specs.Root.{rootOf};
 ghost use Rattle.plane.specs.Plane.{planeOf};
 ghost use Rattle.plane.specs.Tests.{planeRefusal};
 ghost use Rattle.face.specs.Root.{rootNumber, rootWritten};
+
+pub mod similarity;
+pub mod squared;
+pub mod transform;
+
 use number::Rooted;
 
 // The square root of x, written to `out`; 12 where x is not +0 or positive and finite, and `out` is as it was.

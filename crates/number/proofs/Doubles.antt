@@ -2,11 +2,11 @@
 use mathlib.Core.Path.{_≡_, refl, sym, ap, ap₂, _∙_, subst}
 use mathlib.Core.Bool.{Bool, true, false, not, cond}
 use Prim.Native.Nat.{ℕ, zero, suc, _+_, _-_, _*_, _/_, _%_, _^_, _≤_, _<_}
-use native.Mathlib.Nat.{le-antisymm, zero-add, mul-assoc, mul-right-comm, mul-pos, mul-div-cancel, mul-one, lt-of-lt-of-le, mul-le-mul-right, mul-lt-mul-of-pos-right, eq-of-mul-eq-mul-right, le-of-mul-le-mul-right, lt-of-mul-lt-mul-right, lt-irrefl, mod-eq-of-lt, div-eq-of-lt, zero-mul}
+use native.Mathlib.Nat.{le-antisymm, zero-add, mul-assoc, mul-right-comm, mul-pos, mul-div-cancel, mul-one, lt-of-lt-of-le}
+use native.Mathlib.Nat.{mul-le-mul-right, mul-lt-mul-of-pos-right, eq-of-mul-eq-mul-right, le-of-mul-le-mul-right, lt-of-mul-lt-mul-right, lt-irrefl, mod-eq-of-lt, zero-mul}
 use native.Mathlib.Decide.{decLe, decLt}
 use native.Mathlib.Omega.{arith}
 use lib.Dec.{T, leb, ltb, eqb, lit≤}
-use lib.IntN.{pos}
 use lib.Count.{leadingZeros, leading-top}
 use lib.Pow.{pow-add, pow-pos, pow-mono, shl-lt, shl-shr}
 use lib.Ieee.{Float, nan, inf, fin, binary64, up, down, low, emax, size, odd, units, fits, toBits, ofBits, ofFields, nanBits}

@@ -5,3 +5,4 @@ pub mod Squares
 pub mod Doubles
 pub mod Nearest
 pub mod Worked
+pub mod Folds

@@ -3,15 +3,16 @@
 -- y is farther from it than r is where the root lies on r's side of half way: (y + r)² < 4 * n * 2 ^ 1074 for a y below r, and the other
 -- way round for one above. Both hold without equality, so no y is as near. Assumes nothing.
 use mathlib.Core.Path.{_≡_, refl, sym, ap, _∙_, subst}
-use mathlib.Core.Bool.{Bool, true, false, _&&_}
+use mathlib.Core.Bool.{Bool, false, _&&_}
 use Prim.Native.Nat.{ℕ, zero, suc, _+_, _-_, _*_, _/_, _%_, _^_, _≤_, _<_, zero-le}
-use native.Mathlib.Nat.{lt-of-le-of-lt, lt-of-lt-of-le, le-trans, le-of-lt, le-of-eq, le-refl, zero-lt-suc, mul-assoc, mul-one, add-mul, mul-mul-mul-comm, mul-right-comm, mul-pos, mul-le-mul, mul-le-mul-right, mul-lt-mul-of-pos-left, mul-lt-mul-of-pos-right, lt-of-mul-lt-mul-right, mul-div-cancel, div-one, div-mul-le-self, zero-mul, zero-div, two-mul}
+use native.Mathlib.Nat.{lt-of-le-of-lt, lt-of-lt-of-le, le-trans, le-of-lt, le-refl, zero-lt-suc, mul-assoc, mul-one, add-mul, mul-mul-mul-comm, mul-right-comm}
+use native.Mathlib.Nat.{mul-pos, mul-le-mul, mul-le-mul-right, mul-lt-mul-of-pos-left, mul-lt-mul-of-pos-right, lt-of-mul-lt-mul-right, mul-div-cancel, div-one, div-mul-le-self, zero-mul, zero-div}
 use native.Mathlib.Decide.{decLe, decLt}
 use native.Mathlib.Omega.{arith}
 use lib.Dec.{T, eqb, leb, ltb, leb→le, ltb→lt}
 use lib.IntN.{ℤ, pos, negsuc}
 use lib.Pow.{pow-add, pow-pos, pow-mono, pow-lt, shl-lt}
-use lib.Ieee.{Float, nan, inf, fin, binary64, up, down, low, emax, prec, fits, size, units}
+use lib.Ieee.{Float, fin, binary64, up, down, low, emax, prec, fits, size, units}
 use lib.Ieee.Digits.{size-lt, size-reaches, size-le}
 use lib.Ieee.Fits.{and-l, and-r, down-pos}
 use lib.Ieee.Positive.{positive}

@@ -1,2 +1,3 @@
 pub mod Wide
 pub mod Root
+pub mod Steps

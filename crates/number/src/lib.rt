@@ -7,7 +7,7 @@ ghost use lib.Ieee.{binary64, ofInt, units};
 ghost use lib.Ieee.Scale as Scale;
 ghost use Rattle.number.specs.Root.{nearestRoot, rootOf};
 
-pub mod near;
+mod near;
 pub mod wide;
 
 // 2^52: a double's digits below its leading one stand below this, and it is what the leading one counts.

@@ -1,5 +1,6 @@
 pub mod Limits
 pub mod All
+pub mod Sums
 pub mod Depth
 pub mod Rows
 pub mod Accept

@@ -1,5 +1,5 @@
 pub mod Limits
 pub mod Plane
+pub mod Sums
 pub mod Tests
 pub mod Lawful
-pub mod Sums

@@ -351,8 +351,9 @@ pub const ROOTLESS: [f64; 13] = [
     -2.8054187132437437e4,
 ];
 
-// Checks of two planes, 14 numbers each: words (1) or bytes (0), depth, width, height, least side; then of each plane its stride, its length,
-// and place and value of one sample (the others are 0; at place 4096 none is set); then the answer.
+// Checks of two planes, 14 numbers each: words (1) or bytes (0), depth, width, height, least side; then of each
+// plane its stride, its length, and place and value of one sample (the others are 0; at place 4096 none is set);
+// then the answer.
 pub const CHECKS: [usize; 1764] = [
     0,
     0,

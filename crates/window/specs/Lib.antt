@@ -1,2 +1,4 @@
 pub mod Kernel
 pub mod Moments
+pub mod Parts
+pub mod Columns

@@ -1,0 +1,31 @@
+-- Document 01: "Doubles: each operation rounded once, in the order written in the Rust". The four operations on doubles, the double
+-- of a whole number, and steps taken in turn. Definitions only.
+use Prim.Native.Nat.{ℕ, zero, suc}
+use lib.IntN.{pos}
+use lib.Ieee.{Float, binary64, add, sub, mul, div, ofInt}
+
+abbrev pub _⊕_ : Float → Float → Float
+a ⊕ b = add binary64 a b
+
+abbrev pub _⊖_ : Float → Float → Float
+a ⊖ b = sub binary64 a b
+
+abbrev pub _⊗_ : Float → Float → Float
+a ⊗ b = mul binary64 a b
+
+abbrev pub _⊘_ : Float → Float → Float
+a ⊘ b = div binary64 a b
+
+infixl 60 _⊕_
+infixl 60 _⊖_
+infixl 70 _⊗_
+infixl 70 _⊘_
+-- the double nearest a whole number, ties to even; it is the number itself up to 2 ^ 53
+abbrev pub double : ℕ → Float
+double n = ofInt binary64 (pos n)
+
+module _ {A : Type 0} where
+  -- the steps 0 to n - 1 in turn, from a on
+  unfoldable pub foldTo : (A → ℕ → A) → A → ℕ → A
+  foldTo step a zero = a
+  foldTo step a (suc n) = step (foldTo step a n) n

@@ -1,0 +1,115 @@
+-- What holds where no test of SSIM refuses, and what the answer is where one does. Assumes nothing.
+use mathlib.Core.Path.{_≡_, refl, sym, _∙_}
+use mathlib.Core.Bool.{Bool, true, false}
+use mathlib.Core.List.{List, [], _∷_, _++_}
+use Prim.Native.Nat.{ℕ, zero, suc, _+_, _*_, _≤_, _<_, _^_}
+use native.Mathlib.Nat.{mul-le-mul-left}
+use native.Mathlib.Omega.{arith}
+use borrow.Author.Tests.{leb-true, le-leb, lt-leb}
+use lib.Dec.{leb, lit≤}
+use lib.IntN.{ℤ}
+use lib.ListN.{length, getD}
+use Rattle.refusal.specs.Numbers.{kernelNo, scratchNo}
+use Rattle.refusal.specs.First.{firstBroken}
+use Rattle.refusal.proofs.Chain.{Named, passed, stop, go-on}
+use Rattle.plane.specs.Limits.{sideLimit}
+use Rattle.plane.specs.Plane.{Plane, samplesOf, needed}
+use Rattle.plane.specs.Sums.{sumTo}
+use Rattle.plane.specs.Tests.{planeTests, planeRefusal}
+use Rattle.plane.specs.Lawful.{Accepted}
+use Rattle.plane.proofs.Accept.{accepted, plane-named}
+use Rattle.plane.proofs.Depth.{depth-small}
+use Rattle.window.specs.Kernel.{tap, mostTaps, lawful, lentTotal}
+use Rattle.window.specs.Parts.{Kernel}
+use Rattle.window.specs.Columns.{mostSample}
+use Rattle.window.proofs.KernelSays.{kernel-says, kernel-serves, lent-total}
+use Rattle.ssim.specs.Scratch.{linesOf, placesOf, scratchAfter}
+use Rattle.ssim.specs.Answer.{lentTests, ssimRefusal, Sound, answerFor}
+use Rattle.ssim.specs.declared.Ssim.{Ssim}
+use Rattle.ssim.specs.declared.Ssim.the-variants.{Refused}
+use Rattle.ssim.proofs.Powers.{lines-reach}
+
+-- ---- what a lawful kernel says of the count of its taps
+pub taps-count : (ker : List ℕ) → lawful lentTotal ker ≡ true → (1 ≤ length ker) × (length ker ≤ mostTaps)
+taps-count ker e = let s = kernel-says lentTotal ker e in (omega (arith, s .odd), s .short)
+
+-- ---- 7 and 8, after the planes
+module _ (wide : Bool) (planes : List Plane) (width height depth : ℕ) (ker : List ℕ) (lent : ℕ) where
+  -- the planes refuse
+  pub planes-refuse : {n : ℕ} → n ≡ planeRefusal wide planes width height depth 0 → (n ≡ 0 → ⊥)
+      → n ≡ ssimRefusal wide planes width height depth ker lent
+  planes-refuse e h = stop (planeTests wide planes width height depth 0) (lentTests width ker lent) e h
+
+  -- they do not
+  planes-pass : {n m : ℕ} → n ≡ planeRefusal wide planes width height depth 0 → n ≡ 0 → m ≡ firstBroken (lentTests width ker lent)
+      → m ≡ ssimRefusal wide planes width height depth ker lent
+  planes-pass e z f =
+      go-on (planeTests wide planes width height depth 0) (lentTests width ker lent) (plane-named wide planes width height depth 0) e z f
+
+  pub kernel-refuses : {n : ℕ} → n ≡ planeRefusal wide planes width height depth 0 → n ≡ 0 → lawful lentTotal ker ≡ false
+      → kernelNo ≡ ssimRefusal wide planes width height depth ker lent
+  unfolding lentTests
+  kernel-refuses e z f = planes-pass e z (rw f)
+
+  pub scratch-refuses : {n : ℕ} → n ≡ planeRefusal wide planes width height depth 0 → n ≡ 0 → lawful lentTotal ker ≡ true
+      → lent < placesOf width (length ker) → scratchNo ≡ ssimRefusal wide planes width height depth ker lent
+  unfolding lentTests
+  scratch-refuses e z f l = planes-pass e z (rw (f, lt-leb _ _ l))
+
+  pub none-refuses : {n : ℕ} → n ≡ planeRefusal wide planes width height depth 0 → n ≡ 0 → lawful lentTotal ker ≡ true
+      → placesOf width (length ker) ≤ lent → 0 ≡ ssimRefusal wide planes width height depth ker lent
+  unfolding lentTests
+  none-refuses e z f l = planes-pass e z (rw (f, le-leb _ _ l))
+
+-- ---- none of them refuses
+
+-- none of two lists of tests refuses, so neither does
+halves : (ts more : List (ℕ × Bool)) → Named ts → firstBroken (ts ++ more) ≡ 0 → (firstBroken ts ≡ 0) × (firstBroken more ≡ 0)
+halves [] more named e = (refl, e)
+halves ((n, true) ∷ later) more named e = halves later more (named .1) e
+halves ((n, false) ∷ later) more named e = absurd (omega (arith, named .0, e))
+
+module _ (wide : Bool) (a b : Plane) (width height depth : ℕ) (ker : List ℕ) (lent : ℕ) where
+  -- a column needs five places, and six times L are there
+  room : 1 ≤ length ker → 5 * width ≤ placesOf width (length ker)
+  room l =
+      let reach : 1 ≤ linesOf (length ker) = omega (arith, lines-reach (length ker)) in
+      omega (arith, mul-le-mul-left (6 * width) reach)
+
+  pub sound : {n : ℕ} → n ≡ ssimRefusal wide (a ∷ b ∷ []) width height depth ker lent → n ≡ 0 → Sound a b width height depth ker lent
+  unfolding lentTests
+  sound e z =
+      let h = halves (planeTests wide (a ∷ b ∷ []) width height depth 0) (lentTests width ker lent)
+      (plane-named wide (a ∷ b ∷ []) width height depth 0) (sym e ∙ z) in
+      let p = accepted wide (a ∷ b ∷ []) width height depth 0 (h .0) in
+      let t = passed (lentTests width ker lent) (lit≤ tt, (lit≤ tt, tt)) (h .1) in
+      let k = kernel-says lentTotal ker (t .0) in
+      record {
+        taps-least = omega (arith, k .odd);
+        taps-most = k .short;
+        width-most = p .width-most;
+        height-most = p .height-most;
+        depth-most = omega (arith, p .depth-most, depth-small wide);
+        kernel = kernel-serves lentTotal ker lent-total (t .0);
+        total = sym (k .sum);
+        long-a = p .each .0 .long;
+        long-b = p .each .1 .0 .long;
+        lent-enough = leb-true _ _ (t .1 .0);
+        columns-fit = room (omega (arith, k .odd));
+      }
+
+-- samples of either width are small enough to be summed
+pub either-small : (wide : Bool) (bytes words : List ℕ) → ((i : ℕ) → getD bytes i 0 ≤ 255) → ((i : ℕ) → getD words i 0 ≤ 65535)
+    → (i : ℕ) → getD (samplesOf wide bytes words) i 0 ≤ mostSample
+unfolding mostSample
+either-small true bytes words h k i = omega (arith, k i)
+either-small false bytes words h k i = omega (arith, h i)
+
+-- ---- a refused call
+pub refused : (n : ℕ) (score : Ssim) → (n ≡ 0 → ⊥) → Refused n ≡ answerFor n score
+refused zero score h = absurd (h refl)
+refused (suc n) score h = refl
+
+pub untouched : (n need : ℕ) (s : List ℤ) → (n ≡ 0 → ⊥) → s ≡ scratchAfter n need s
+untouched zero need s h = absurd (h refl)
+untouched (suc n) need s h = refl

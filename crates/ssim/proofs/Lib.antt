@@ -1,0 +1,4 @@
+pub mod Powers
+pub mod Zeros
+pub mod Same
+pub mod Accept

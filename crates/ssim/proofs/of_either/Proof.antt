@@ -1,0 +1,29 @@
+-- `ssim::of_either` meets its contract. Assumes nothing.
+use mathlib.Core.Path.{sym, _∙_}
+use borrow.Author.Needs.{needs}
+use Rattle.ssim.proofs.Accept.{sound, refused, untouched}
+use Rattle.ssim.proofs.of_either.Statement.{statement}
+use Rattle.ssim.proofs.of_either.Tie as tie
+use Rattle.ssim.proofs.of_either.Reads as reads
+use Rattle.ssim.proofs.of_either.Lts as lts
+use Rattle.ssim.proofs.refusal.Reads as refusal-reads
+use Rattle.ssim.proofs.scored.Reads as scored-reads
+
+refusal-requires : tie.Need-refusal-requires
+refusal-requires c κs = search needs
+
+returns : tie.Need-returns
+returns c = rw (← (c .before .refusal .ensures)) (refused _ _ (c .if1 .taken), untouched _ _ _ (c .if1 .taken))
+
+scored-requires : tie.Need-scored-requires
+scored-requires c κs = sound _ _ _ _ _ _ _ _ (c .before .before .refusal .ensures) (c .before .if1 .left)
+
+same-length : tie.Need-same-length
+same-length c = search needs
+
+returns-2 : tie.Need-returns-2
+returns-2 c = rw (sym (c .before .before .before .before .refusal .ensures) ∙ c .before .before .before .if1 .left) (c .before .scored .ensures)
+
+pub of-either-spec : {M : Type 1} → statement M
+of-either-spec =
+    tie.close (tie.spec refusal-requires returns scored-requires same-length returns-2)

@@ -1,0 +1,61 @@
+-- `ssim::refusal` meets its contract. Assumes nothing.
+use native.Mathlib.Omega.{arith}
+use borrow.Author.Needs.{needs}
+use denote.Ref.{now}
+use mathlib.Core.Path.{sym, _∙_}
+use mathlib.Core.List.{[], _∷_}
+use Rattle.plane.specs.Plane.{planeOf, samplesOf}
+use Rattle.refusal.proofs.Chain.{fails, holds}
+use Rattle.plane.proofs.Accept.{accepted}
+use Rattle.ssim.proofs.Accept.{planes-refuse, kernel-refuses, scratch-refuses, none-refuses, taps-count}
+use Rattle.ssim.proofs.refusal.Statement.{statement}
+use Rattle.ssim.proofs.refusal.Tie as tie
+use Rattle.ssim.proofs.refusal.Reads as reads
+use Rattle.ssim.proofs.refusal.Lts as lts
+use Rattle.plane.proofs.check.Reads as check-reads
+use Rattle.ssim.proofs.places.Reads as places-reads
+use Rattle.window.proofs.kernel_lawful.Reads as kernel-lawful-reads
+
+check-requires : tie.Need-check-requires
+check-requires c κs = search needs
+
+returns : tie.Need-returns
+returns c = planes-refuse _ _ _ _ _ _ _ (c .before .check .ensures) (c .if1 .taken)
+
+kernel-lawful-requires : tie.Need-kernel-lawful-requires
+kernel-lawful-requires c κs = search needs
+
+returns-2 : tie.Need-returns-2
+returns-2 c =
+    kernel-refuses _ _ _ _ _ _ _ (c .before .before .before .check .ensures) (c .before .before .if1 .left)
+    (fails (c .before .kernel-lawful .ensures) (c .if2 .taken))
+
+places-requires : tie.Need-places-requires
+places-requires c κs =
+    let count = taps-count _ (holds (c .before .kernel-lawful .ensures) (c .if2 .left)) in
+    let planes = accepted _ _ _ _ _ _ (sym (c .before .before .before .check .ensures) ∙ c .before .before .if1 .left) in
+    (count .0, count .1, planes .width-most)
+
+returns-3 : tie.Need-returns-3
+returns-3 c =
+    scratch-refuses _ _ _ _ _ _ _ (c .before .before .before .before .before .check .ensures) (c .before .before .before .before .if1 .left)
+    (holds (c .before .before .before .kernel-lawful .ensures) (c .before .before .if2 .left))
+    (rw (c .before .places .ensures) at (c .if3 .taken))
+
+returns-4 : tie.Need-returns-4
+returns-4 c =
+    none-refuses _ _ _ _ _ _ _ (c .before .before .before .before .before .check .ensures) (c .before .before .before .before .if1 .left)
+    (holds (c .before .before .before .kernel-lawful .ensures) (c .before .before .if2 .left))
+    (rw (c .before .places .ensures) at (c .if3 .left))
+
+pub refusal-spec : {M : Type 1} → statement M
+refusal-spec =
+    tie.close
+    (tie.spec
+    check-requires
+    returns
+    kernel-lawful-requires
+    returns-2
+    places-requires
+    returns-3
+    returns-4)

@@ -1,0 +1,3 @@
+pub mod Score
+pub mod Scratch
+pub mod Answer

@@ -1,0 +1,268 @@
+// SSIM of two planes under a lent kernel, after `calculate_plane_ssim_internal`: the double steps at a centre, the walk over the
+// centres, and the calls for bytes and for words.
+ghost use mathlib.Core.Path.{_≡_};
+ghost use mathlib.Core.Bool.{true, false};
+ghost use mathlib.Core.List.{[], _∷_};
+ghost use Prim.Native.Nat.{_+_, _*_, _<_, _≤_};
+ghost use lib.ListN.{length};
+ghost use Rattle.plane.specs.Limits.{sideLimit};
+ghost use Rattle.plane.specs.Plane.{planeOf, samplesOf};
+ghost use Rattle.window.specs.Kernel.{mostTaps};
+ghost use Rattle.ssim.specs.Scratch.{grownOf, linesOf, placesOf, cleared, scratchAfter};
+ghost use Rattle.ssim.specs.Answer.{ssimRefusal, Sound, scoreOf, ssimOf};
+
+pub mod score;
+pub mod walk;
+
+// What SSIM answers.
+pub enum Ssim {
+    Pair { ssim: f64, cs: f64 },
+    Refused(u8),
+}
+
+// The running sums over the centres.
+pub struct Totals {
+    pub ssim: f64,
+    pub cs: f64,
+    pub ssimw: f64,
+}
+
+// p, or twice p where p is below n.
+fn grown(n: usize, p: usize) -> usize
+    requires { ⌜ p ≤ 2 * n ⌝ }
+    requires { ⌜ n ≤ mostTaps ⌝ }
+    ensures { λ r. ⌜ r ≡ grownOf n p ⌝ }
+{
+    if p < n { 2 * p } else { p }
+}
+
+// The least power of two not below the count of taps.
+pub fn lines(taps: usize) -> usize
+    requires { ⌜ (1 ≤ taps) × (taps ≤ mostTaps) ⌝ }
+    ensures { λ r. ⌜ r ≡ linesOf taps ⌝ }
+{
+    let mut p = 1;
+    for i in 0..taps {
+        p = grown(taps, p);
+    }
+    p
+}
+
+// The places of scratch that are needed.
+pub fn places(width: usize, taps: usize) -> usize
+    requires { ⌜ (1 ≤ taps) × (taps ≤ mostTaps) × (width ≤ sideLimit) ⌝ }
+    ensures { λ r. ⌜ r ≡ placesOf width taps ⌝ }
+{
+    6 * width * lines(taps)
+}
+
+// The lowest of 1 2 4 5 6 7 8 that applies, and 0 where none does. `lent` is how many places of scratch there are.
+fn refusal(
+    a8: &[u8],
+    a16: &[u16],
+    b8: &[u8],
+    b16: &[u16],
+    wide: bool,
+    width: usize,
+    height: usize,
+    stride_a: usize,
+    stride_b: usize,
+    depth: u32,
+    kernel: &[u16],
+    lent: usize,
+) -> u8
+    ensures { λ r. ⌜ r ≡ ssimRefusal wide (planeOf (samplesOf wide (now (a8 .entry)) (now (a16 .entry))) «stride_a»
+        ∷ planeOf (samplesOf wide (now (b8 .entry)) (now (b16 .entry))) «stride_b» ∷ []) width height depth (now (kernel .entry)) lent ⌝ }
+{
+    let no = plane::check(
+        a8,
+        a16,
+        b8,
+        b16,
+        wide,
+        width,
+        height,
+        stride_a,
+        stride_b,
+        depth,
+        0,
+    );
+    if no != 0 {
+        return no;
+    }
+    if !window::kernel_lawful(kernel) {
+        return refusal::KERNEL;
+    }
+    if lent < places(width, kernel.len()) {
+        return refusal::SCRATCH;
+    }
+    0
+}
+
+// The score of two planes of either width that no test refuses. The needed part of the scratch is all zero afterwards.
+fn scored(
+    scratch: &mut [i64],
+    a8: &[u8],
+    a16: &[u16],
+    b8: &[u8],
+    b16: &[u16],
+    wide: bool,
+    width: usize,
+    height: usize,
+    stride_a: usize,
+    stride_b: usize,
+    depth: u32,
+    kernel: &[u16],
+) -> Ssim
+    requires { ⌜ Sound (planeOf (samplesOf wide (now a8) (now a16)) «stride_a») (planeOf (samplesOf wide (now b8) (now b16)) «stride_b»)
+        width height depth (now kernel) (length (now scratch)) ⌝ }
+    ensures { λ r. ⌜ r ≡ scoreOf (planeOf (samplesOf wide (now (a8 .entry)) (now (a16 .entry))) «stride_a»)
+        (planeOf (samplesOf wide (now (b8 .entry)) (now (b16 .entry))) «stride_b») width height depth (now (kernel .entry)) ⌝ }
+    ensures { λ _. ⌜ now (scratch .exit) ≡ cleared (placesOf width (length (now (kernel .entry)))) (now (scratch .entry)) ⌝ }
+{
+    let need = places(width, kernel.len());
+    let max2 = score::squared(plane::sample_max(depth));
+    let t = walk::totals(
+        &mut scratch[..need],
+        max2,
+        kernel,
+        window::LENT_TOTAL,
+        a8,
+        a16,
+        b8,
+        b16,
+        wide,
+        stride_a,
+        stride_b,
+        width,
+        height,
+    );
+    score::pair(t)
+}
+
+// SSIM of two planes of either width.
+fn of_either(
+    scratch: &mut [i64],
+    a8: &[u8],
+    a16: &[u16],
+    b8: &[u8],
+    b16: &[u16],
+    wide: bool,
+    width: usize,
+    height: usize,
+    stride_a: usize,
+    stride_b: usize,
+    depth: u32,
+    kernel: &[u16],
+) -> Ssim
+    ensures { λ r. ⌜ r ≡ ssimOf wide (planeOf (samplesOf wide (now (a8 .entry)) (now (a16 .entry))) «stride_a»)
+        (planeOf (samplesOf wide (now (b8 .entry)) (now (b16 .entry))) «stride_b»)
+        width height depth (now (kernel .entry)) (length (now (scratch .entry))) ⌝ }
+    ensures { λ _. ⌜ now (scratch .exit) ≡ scratchAfter
+        (ssimRefusal wide (planeOf (samplesOf wide (now (a8 .entry)) (now (a16 .entry))) «stride_a»
+        ∷ planeOf (samplesOf wide (now (b8 .entry)) (now (b16 .entry))) «stride_b» ∷ [])
+        width height depth (now (kernel .entry)) (length (now (scratch .entry))))
+        (placesOf width (length (now (kernel .entry)))) (now (scratch .entry)) ⌝ }
+{
+    let no = refusal(
+        a8,
+        a16,
+        b8,
+        b16,
+        wide,
+        width,
+        height,
+        stride_a,
+        stride_b,
+        depth,
+        kernel,
+        scratch.len(),
+    );
+    if no != 0 {
+        return Ssim::Refused(no);
+    }
+    scored(
+        scratch,
+        a8,
+        a16,
+        b8,
+        b16,
+        wide,
+        width,
+        height,
+        stride_a,
+        stride_b,
+        depth,
+        kernel,
+    )
+}
+
+// SSIM of two planes of bytes. Refused, scratch is as it was; else, and at 9, its needed part is all zero and the rest as it was.
+pub fn ssim8(
+    a: &[u8],
+    b: &[u8],
+    width: usize,
+    height: usize,
+    stride_a: usize,
+    stride_b: usize,
+    depth: u32,
+    kernel: &[u16],
+    scratch: &mut [i64],
+) -> Ssim
+    ensures { λ r. ⌜ r ≡ ssimOf false (planeOf (now (a .entry)) «stride_a») (planeOf (now (b .entry)) «stride_b»)
+        width height depth (now (kernel .entry)) (length (now (scratch .entry))) ⌝ }
+    ensures { λ _. ⌜ now (scratch .exit) ≡ scratchAfter
+        (ssimRefusal false (planeOf (now (a .entry)) «stride_a» ∷ planeOf (now (b .entry)) «stride_b» ∷ [])
+        width height depth (now (kernel .entry)) (length (now (scratch .entry))))
+        (placesOf width (length (now (kernel .entry)))) (now (scratch .entry)) ⌝ }
+{
+    of_either(
+        scratch,
+        a,
+        &[0u16; 0],
+        b,
+        &[0u16; 0],
+        false,
+        width,
+        height,
+        stride_a,
+        stride_b,
+        depth,
+        kernel,
+    )
+}
+
+// The same of words.
+pub fn ssim16(
+    a: &[u16],
+    b: &[u16],
+    width: usize,
+    height: usize,
+    stride_a: usize,
+    stride_b: usize,
+    depth: u32,
+    kernel: &[u16],
+    scratch: &mut [i64],
+) -> Ssim
+    ensures { λ r. ⌜ r ≡ ssimOf true (planeOf (now (a .entry)) «stride_a») (planeOf (now (b .entry)) «stride_b»)
+        width height depth (now (kernel .entry)) (length (now (scratch .entry))) ⌝ }
+    ensures { λ _. ⌜ now (scratch .exit) ≡ scratchAfter
+        (ssimRefusal true (planeOf (now (a .entry)) «stride_a» ∷ planeOf (now (b .entry)) «stride_b» ∷ [])
+        width height depth (now (kernel .entry)) (length (now (scratch .entry))))
+        (placesOf width (length (now (kernel .entry)))) (now (scratch .entry)) ⌝ }
+{
+    of_either(
+        scratch,
+        &[0u8; 0],
+        a,
+        &[0u8; 0],
+        b,
+        true,
+        width,
+        height,
+        stride_a,
+        stride_b,
+        depth,
+        kernel,
+    )
+}

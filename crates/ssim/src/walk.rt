@@ -1,0 +1,146 @@
+// The walk over the centres, row by row.
+ghost use mathlib.Core.Path.{_≡_};
+ghost use Prim.Native.Nat.{ℕ, _*_, _<_, _≤_};
+ghost use lib.IntN.{pos};
+ghost use lib.ListN.{length, replicate};
+ghost use Rattle.plane.specs.Limits.{sideLimit};
+ghost use Rattle.plane.specs.Plane.{planeOf, samplesOf};
+ghost use Rattle.plane.specs.Sums.{sumTo};
+ghost use Rattle.window.specs.Kernel.{tap, fixedTotal};
+ghost use Rattle.window.specs.Parts.{Kernel};
+ghost use Rattle.window.specs.Columns.{viewOf, Readable, AllSmall, momentsIn};
+ghost use Rattle.ssim.specs.Score.{rowOf, totalsOf};
+use crate::Totals;
+use crate::score;
+
+// The centres of one row, whose column sums stand in `cols`. `down` is the weight of the rows, `total` what all taps sum to.
+pub fn centres(
+    max2: f64,
+    t: Totals,
+    kernel: &[u16],
+    total: u64,
+    cols: &[i64],
+    width: usize,
+    down: u64,
+) -> Totals
+    requires { ⌜ (width ≤ sideLimit) × (5 * width ≤ length (now cols)) × (down ≤ fixedTotal) ⌝ }
+    requires { ⌜ Kernel (now kernel) ⌝ }
+    requires { ⌜ total ≡ sumTo (tap (now kernel)) (length (now kernel)) ⌝ }
+    requires { ⌜ AllSmall (now cols) (5 * width) ⌝ }
+    ensures { λ r. ⌜ r ≡ rowOf max2 (momentsIn (now (kernel .entry)) (now (cols .entry)) width down) t width ⌝ }
+{
+    let mut t = t;
+    for x in 0..width {
+        t = score::step(
+            max2,
+            t,
+            window::row::moments_at(kernel, total, cols, width, down, x),
+        );
+    }
+    t
+}
+
+// Every place to 0.
+pub fn clear(s: &mut [i64])
+    ensures { λ _. ⌜ now (s .exit) ≡ replicate (length (now (s .entry))) (pos 0) ⌝ }
+{
+    for i in 0..s.len() {
+        s[i] = 0;
+    }
+}
+
+// Every row: its column sums, then its centres.
+fn rows(
+    cols: &mut [i64],
+    max2: f64,
+    kernel: &[u16],
+    total: u64,
+    a8: &[u8],
+    a16: &[u16],
+    b8: &[u8],
+    b16: &[u16],
+    wide: bool,
+    stride_a: usize,
+    stride_b: usize,
+    width: usize,
+    height: usize,
+) -> Totals
+    requires { ⌜ (width ≤ sideLimit) × (height ≤ sideLimit) × (5 * width ≤ length (now cols)) ⌝ }
+    requires { ⌜ Kernel (now kernel) ⌝ }
+    requires { ⌜ total ≡ sumTo (tap (now kernel)) (length (now kernel)) ⌝ }
+    requires { ⌜ Readable width height (planeOf (samplesOf wide (now a8) (now a16)) «stride_a») ⌝ }
+    requires { ⌜ Readable width height (planeOf (samplesOf wide (now b8) (now b16)) «stride_b») ⌝ }
+    ensures { λ r. ⌜ r ≡ totalsOf max2 (now (kernel .entry)) width height
+        (viewOf (planeOf (samplesOf wide (now (a8 .entry)) (now (a16 .entry))) «stride_a»))
+        (viewOf (planeOf (samplesOf wide (now (b8 .entry)) (now (b16 .entry))) «stride_b»)) height ⌝ }
+{
+    let mut t = Totals {
+        ssim: 0.0,
+        cs: 0.0,
+        ssimw: 0.0,
+    };
+    for y in 0..height {
+        window::columns::fill(
+            cols,
+            kernel,
+            a8,
+            a16,
+            b8,
+            b16,
+            wide,
+            stride_a,
+            stride_b,
+            width,
+            height,
+            y,
+        );
+        let down = window::row::weight(kernel, total, height, y);
+        t = centres(max2, t, kernel, total, cols, width, down);
+    }
+    t
+}
+
+// The sums over every centre. All of the scratch is zero afterwards.
+pub fn totals(
+    scratch: &mut [i64],
+    max2: f64,
+    kernel: &[u16],
+    total: u64,
+    a8: &[u8],
+    a16: &[u16],
+    b8: &[u8],
+    b16: &[u16],
+    wide: bool,
+    stride_a: usize,
+    stride_b: usize,
+    width: usize,
+    height: usize,
+) -> Totals
+    requires { ⌜ (width ≤ sideLimit) × (height ≤ sideLimit) × (5 * width ≤ length (now scratch)) ⌝ }
+    requires { ⌜ Kernel (now kernel) ⌝ }
+    requires { ⌜ total ≡ sumTo (tap (now kernel)) (length (now kernel)) ⌝ }
+    requires { ⌜ Readable width height (planeOf (samplesOf wide (now a8) (now a16)) «stride_a») ⌝ }
+    requires { ⌜ Readable width height (planeOf (samplesOf wide (now b8) (now b16)) «stride_b») ⌝ }
+    ensures { λ r. ⌜ r ≡ totalsOf max2 (now (kernel .entry)) width height
+        (viewOf (planeOf (samplesOf wide (now (a8 .entry)) (now (a16 .entry))) «stride_a»))
+        (viewOf (planeOf (samplesOf wide (now (b8 .entry)) (now (b16 .entry))) «stride_b»)) height ⌝ }
+    ensures { λ _. ⌜ now (scratch .exit) ≡ replicate (length (now (scratch .entry))) (pos 0) ⌝ }
+{
+    let t = rows(
+        scratch,
+        max2,
+        kernel,
+        total,
+        a8,
+        a16,
+        b8,
+        b16,
+        wide,
+        stride_a,
+        stride_b,
+        width,
+        height,
+    );
+    clear(scratch);
+    t
+}

@@ -1,0 +1,78 @@
+-- What a lawful kernel is like, as facts: what the sums need of it, and what its taps are. Assumes nothing.
+use mathlib.Core.Path.{_≡_, refl}
+use mathlib.Core.Bool.{Bool, true, _&&_}
+use mathlib.Core.List.{List}
+use Prim.Native.Nat.{ℕ, _+_, _-_, _*_, _/_, _%_, _≤_, _<_}
+use native.Mathlib.Nat.{div-add-mod'}
+use native.Mathlib.Omega.{arith}
+use borrow.Author.Tests.{leb-true, eqb-true}
+use lib.Dec.{leb, eqb, lit≤}
+use lib.ListN.{length}
+use Rattle.refusal.proofs.Chain.{and-left, and-right}
+use Rattle.plane.specs.Plane.{allTo}
+use Rattle.plane.specs.Sums.{sumTo}
+use Rattle.plane.proofs.All.{all-at}
+use Rattle.window.specs.Kernel.{tap, mostTaps, lentTotal, fixedTotal, fixedKernel, oddCount, tapsSuit, sumsTo, mirrored, middled, lawful}
+use Rattle.window.specs.Parts.{Kernel}
+
+-- each part of the test, where it passes
+pub odd-says : (ker : List ℕ) → oddCount ker ≡ true → (length ker ≡ 2 * (length ker / 2) + 1) × (length ker ≤ mostTaps)
+unfolding oddCount
+odd-says ker e =
+    let odd : length ker % 2 ≡ 1 = eqb-true (length ker % 2) 1 (and-left (eqb (length ker % 2) 1) _ e) in
+    (omega arith, leb-true _ _ (and-right (eqb (length ker % 2) 1) _ e))
+
+pub taps-say : (total : ℕ) (ker : List ℕ) → tapsSuit total ker ≡ true → (k : ℕ) → k < length ker → tap ker k ≤ total
+unfolding tapsSuit
+taps-say total ker e k l = leb-true _ _ (all-at _ (length ker) e k l)
+
+pub sums-say : (total : ℕ) (ker : List ℕ) → sumsTo total ker ≡ true → sumTo (tap ker) (length ker) ≡ total
+unfolding sumsTo
+sums-say total ker e = eqb-true _ _ e
+
+pub mirror-says : (ker : List ℕ) → mirrored ker ≡ true → (k : ℕ) → k < length ker → tap ker k ≡ tap ker (length ker - 1 - k)
+unfolding mirrored
+mirror-says ker e k l = eqb-true _ _ (all-at _ (length ker) e k l)
+
+pub middle-says : (ker : List ℕ) → middled ker ≡ true → 1 ≤ tap ker (length ker / 2)
+unfolding middled
+middle-says ker e = leb-true _ _ e
+
+-- all of it
+pub record Says (total : ℕ) (ker : List ℕ) : Type 0 where
+  pub odd : length ker ≡ 2 * (length ker / 2) + 1
+  pub short : length ker ≤ mostTaps
+  pub range : (k : ℕ) → k < length ker → tap ker k ≤ total
+  pub sum : sumTo (tap ker) (length ker) ≡ total
+  pub mirror : (k : ℕ) → k < length ker → tap ker k ≡ tap ker (length ker - 1 - k)
+  pub middle : 1 ≤ tap ker (length ker / 2)
+
+pub kernel-says : (total : ℕ) (ker : List ℕ) → lawful total ker ≡ true → Says total ker
+unfolding lawful
+kernel-says total ker e =
+    let e1 = and-right (oddCount ker) _ e in
+    let e2 = and-right (tapsSuit total ker) _ e1 in
+    let e3 = and-right (sumsTo total ker) _ e2 in
+    let count = odd-says ker (and-left (oddCount ker) _ e) in
+    record {
+      odd = count .0;
+      short = count .1;
+      range = taps-say total ker (and-left (tapsSuit total ker) _ e1);
+      sum = sums-say total ker (and-left (sumsTo total ker) _ e2);
+      mirror = mirror-says ker (and-left (mirrored ker) _ e3);
+      middle = middle-says ker (and-right (mirrored ker) _ e3);
+    }
+
+-- so the sums can be made with any lawful kernel, up to the fixed one's total
+pub kernel-serves : (total : ℕ) (ker : List ℕ) → total ≤ fixedTotal → lawful total ker ≡ true → Kernel ker
+kernel-serves total ker l e =
+    let s = kernel-says total ker e in record { odd = s .odd; short = s .short; light = omega (arith, s .sum) }
+
+pub lent-total : lentTotal ≤ fixedTotal
+unfolding lentTotal fixedTotal
+lent-total = lit≤ tt
+
+-- MS-SSIM's own kernel is lawful at its own total
+pub fixed-lawful : lawful fixedTotal fixedKernel ≡ true
+unfolding lawful oddCount tapsSuit sumsTo mirrored middled mostTaps fixedTotal allTo sumTo
+fixed-lawful = refl

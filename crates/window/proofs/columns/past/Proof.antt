@@ -1,0 +1,29 @@
+-- `window::columns::past` meets its contract. Assumes nothing.
+use native.Mathlib.Omega.{arith}
+use borrow.Author.Needs.{needs}
+use Rattle.window.proofs.Windows.{side-room, taps-room}
+use Rattle.window.proofs.columns.past.Statement.{statement}
+use Rattle.window.proofs.columns.past.Tie as tie
+use Rattle.window.proofs.columns.past.Reads as reads
+use Rattle.window.proofs.columns.past.Lts as lts
+
+add-reach : tie.Need-add-reach
+add-reach c = omega (arith, side-room, taps-room)
+
+add-reach-2 : tie.Need-add-reach-2
+add-reach-2 c = omega (arith, side-room, taps-room)
+
+sub-result : tie.Need-sub-result
+sub-result c = search needs
+
+sub-result-2 : tie.Need-sub-result-2
+sub-result-2 c = search needs
+
+returns : tie.Need-returns
+returns c = search needs
+
+returns-2 : tie.Need-returns-2
+returns-2 c = search needs
+
+pub past-spec : {M : Type 1} → statement M
+past-spec = tie.close (tie.spec add-reach add-reach-2 sub-result sub-result-2 returns returns-2)

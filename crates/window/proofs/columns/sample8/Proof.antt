@@ -1,0 +1,27 @@
+-- `window::columns::sample8` meets its contract. Assumes nothing.
+use Prim.Native.Nat.{_+_, _*_}
+use native.Mathlib.Omega.{arith}
+use borrow.Author.Needs.{needs}
+use Rattle.window.proofs.columns.sample8.Statement.{statement}
+use Rattle.window.proofs.columns.sample8.Tie as tie
+use Rattle.window.proofs.columns.sample8.Reads as reads
+use Rattle.window.proofs.columns.sample8.Lts as lts
+
+mul-result : tie.Need-mul-result
+mul-result c = search needs
+
+add-result : tie.Need-add-result
+add-result c = search needs
+
+shared-slice-read-result : tie.Need-shared-slice-read-result
+shared-slice-read-result c = search needs
+
+cast-result : tie.Need-cast-result
+cast-result c = omega (arith, c .shared-slice-known .given (c .before .args .r * c .before .args .stride + c .before .args .c))
+
+returns : tie.Need-returns
+returns c = search needs
+
+pub sample8-spec : {M : Type 1} → statement M
+sample8-spec =
+    tie.close (tie.spec mul-result add-result shared-slice-read-result cast-result returns)

@@ -1,0 +1,21 @@
+-- `window::is_middled` meets its contract. Assumes nothing.
+use borrow.Author.Needs.{needs}
+use mathlib.Core.Path.{refl}
+use Rattle.window.specs.Kernel.{middled}
+use Rattle.window.proofs.is_middled.Statement.{statement}
+use Rattle.window.proofs.is_middled.Tie as tie
+use Rattle.window.proofs.is_middled.Reads as reads
+use Rattle.window.proofs.is_middled.Lts as lts
+
+mul-result : tie.Need-mul-result
+mul-result c = search needs
+
+shared-slice-read-result : tie.Need-shared-slice-read-result
+shared-slice-read-result c = search needs
+
+returns : tie.Need-returns
+unfolding middled
+returns c = refl
+
+pub is-middled-spec : {M : Type 1} → statement M
+is-middled-spec = tie.close (tie.spec mul-result shared-slice-read-result returns)

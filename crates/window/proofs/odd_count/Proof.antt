@@ -1,0 +1,14 @@
+-- `window::odd_count` meets its contract. Assumes nothing.
+use mathlib.Core.Path.{refl}
+use Rattle.window.specs.Kernel.{oddCount, mostTaps}
+use Rattle.window.proofs.odd_count.Statement.{statement}
+use Rattle.window.proofs.odd_count.Tie as tie
+use Rattle.window.proofs.odd_count.Reads as reads
+use Rattle.window.proofs.odd_count.Lts as lts
+
+returns : tie.Need-returns
+unfolding oddCount mostTaps
+returns c = refl
+
+pub odd-count-spec : {M : Type 1} → statement M
+odd-count-spec = tie.close (tie.spec returns)

@@ -1,0 +1,30 @@
+-- `window::row::get` meets its contract. Assumes nothing.
+use mathlib.Core.Path.{ap, _∙_}
+use borrow.Author.Needs.{needs}
+use denote.Ref.{now}
+use lib.IntN.{natAbs}
+use mir.Syntax.{w64}
+use mir.ValLaws.{toZ-ofZ}
+use Rattle.window.specs.Columns.{atZ}
+use Rattle.window.proofs.row.get.Statement.{statement}
+use Rattle.window.proofs.row.get.Tie as tie
+use Rattle.window.proofs.row.get.Reads as reads
+use Rattle.window.proofs.row.get.Lts as lts
+use Rattle.window.proofs.row.up.Reads as up-reads
+
+mul-up : tie.Need-mul-up
+mul-up c = search needs
+
+shared-slice-copy-out-up : tie.Need-shared-slice-copy-out-up
+shared-slice-copy-out-up c = search needs
+
+up-requires : tie.Need-up-requires
+up-requires c κs = search needs
+
+returns : tie.Need-returns
+returns c =
+    let s = c .before .before in
+    ap natAbs (c .up .ensures ∙ toZ-ofZ w64 (atZ (now (s .args .cols)) (s .args .i)) (record { sfits = c .before .up-arg .given }))
+
+pub get-spec : {M : Type 1} → statement M
+get-spec = tie.close (tie.spec mul-up shared-slice-copy-out-up up-requires returns)

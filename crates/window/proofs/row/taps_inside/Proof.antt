@@ -1,0 +1,82 @@
+-- `window::row::taps_inside` meets its contract. Assumes nothing.
+use mathlib.Core.Path.{_≡_, sym, ap, _∙_}
+use Prim.Native.Nat.{ℕ, _≤_, _<_, _-_, _+_, _*_, _/_, _^_}
+use native.Mathlib.Omega.{arith}
+use borrow.Author.Needs.{needs}
+use denote.Ref.{now}
+use lib.ListN.{length}
+use native.Mathlib.Nat.{mul-one, le-refl}
+use Rattle.window.specs.Parts.{partOf}
+use Rattle.window.proofs.Windows.{part-more, part-first, part-last, part-room, total-room}
+use Rattle.window.proofs.row.taps_inside.Statement.{statement}
+use Rattle.window.proofs.row.taps_inside.Tie as tie
+use Rattle.window.proofs.row.taps_inside.Reads as reads
+use Rattle.window.proofs.row.taps_inside.Lts as lts
+use Rattle.window.proofs.columns.first.Reads as first-reads
+use Rattle.window.proofs.columns.past.Reads as past-reads
+use Rattle.window.proofs.wide.Reads as wide-reads
+
+abbrev Inv-loop : tie.InvT-loop
+Inv-loop kernel side x n sum₀ k₀ k-end sum k = (k₀ ≤ k) × (k ≤ k-end) × (sum ≡ partOf kernel side (λ (i : ℕ). 1) x k)
+
+abbrev μ-loop : tie.MeasureT-loop
+μ-loop kernel side x n sum₀ k₀ k-end sum k = k-end - k
+
+first-requires : tie.Need-first-requires Inv-loop μ-loop
+first-requires c κs = search needs
+
+past-requires : tie.Need-past-requires Inv-loop μ-loop
+past-requires c κs = omega arith
+
+loop-holds : tie.Need-loop-holds Inv-loop μ-loop
+loop-holds c = (omega arith, omega arith, sym (part-first _ _ _ _ _ (omega arith)))
+
+mul-wide : tie.Need-mul-wide Inv-loop μ-loop
+mul-wide c = search needs
+
+shared-slice-read-wide : tie.Need-shared-slice-read-wide Inv-loop μ-loop
+shared-slice-read-wide c = search needs
+
+wide-requires : tie.Need-wide-requires Inv-loop μ-loop
+wide-requires c κs = search needs
+
+add-sum : tie.Need-add-sum Inv-loop μ-loop
+add-sum c =
+    let s = c .before .before .before .before .before .before .before in
+    let room = part-room _ _ (λ (i : ℕ). 1) _ 1 _ _ (s .pre .1) (λ k a m n. le-refl 1) (c .before .before .before .loop .inv .2)
+    (omega arith) (omega arith) (omega arith) in
+    omega (arith, room, total-room)
+
+add-k : tie.Need-add-k Inv-loop μ-loop
+add-k c = search needs
+
+loop-less : tie.Need-loop-less Inv-loop μ-loop
+loop-less c = search needs
+
+loop-again : tie.Need-loop-again Inv-loop μ-loop
+loop-again c = (
+  omega arith,
+  omega arith,
+  rw (c .wide .ensures, c .before .before .before .loop .inv .2) (sym (part-more _ _ _ _ _ (omega arith) (omega arith) ∙ rw mul-one)),
+)
+
+returns : tie.Need-returns Inv-loop μ-loop
+returns c = rw (c .before .loop .inv .2) (part-last _ _ _ _ (c .before .before .before .before .before .pre .1) _ (omega arith) (omega arith))
+
+pub taps-inside-spec : {M : Type 1} → statement M
+taps-inside-spec =
+    tie.close
+    (tie.spec
+    Inv-loop
+    μ-loop
+    first-requires
+    past-requires
+    loop-holds
+    mul-wide
+    shared-slice-read-wide
+    wide-requires
+    add-sum
+    add-k
+    loop-less
+    loop-again
+    returns)

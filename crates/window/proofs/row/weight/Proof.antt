@@ -1,0 +1,36 @@
+-- `window::row::weight` meets its contract. Assumes nothing.
+use mathlib.Core.Path.{sym, _∙_}
+use native.Mathlib.Omega.{arith}
+use Prim.Native.Nat.{_+_, _/_}
+use denote.Ref.{now}
+use lib.Dec.{leb}
+use lib.ListN.{length}
+use borrow.Author.Needs.{needs}
+use borrow.Author.Tests.{leb-true, ltb-true}
+use Rattle.refusal.proofs.Chain.{and-left, and-right}
+use Rattle.window.proofs.Windows.{weight-whole, side-room, taps-room}
+use Rattle.window.proofs.row.weight.Statement.{statement}
+use Rattle.window.proofs.row.weight.Tie as tie
+use Rattle.window.proofs.row.weight.Reads as reads
+use Rattle.window.proofs.row.weight.Lts as lts
+use Rattle.window.proofs.row.taps_inside.Reads as taps-inside-reads
+
+add-if1 : tie.Need-add-if1
+add-if1 c = omega (arith, side-room, taps-room)
+
+returns : tie.Need-returns
+returns c =
+    let s = c .before .before in
+    let off = length (now (s .args .kernel)) / 2 in
+    let l = leb-true off (s .args .x) (and-left (leb off (s .args .x)) _ (c .if1 .taken)) in
+    let m = ltb-true (s .args .x + off) (s .args .side) (and-right (leb off (s .args .x)) _ (c .if1 .taken)) in
+    s .pre .1 .1 ∙ sym (weight-whole _ _ _ (s .pre .1 .0) l m)
+
+taps-inside-requires : tie.Need-taps-inside-requires
+taps-inside-requires c κs = search needs
+
+returns-2 : tie.Need-returns-2
+returns-2 c = search needs
+
+pub weight-spec : {M : Type 1} → statement M
+weight-spec = tie.close (tie.spec add-if1 returns taps-inside-requires returns-2)

@@ -1,0 +1,73 @@
+-- `window::sums_to` meets its contract. Assumes nothing.
+use mathlib.Core.Path.{_≡_, sym, ap, _∙_}
+use Prim.Native.Nat.{ℕ, _≤_, _<_, _-_, _+_, _*_}
+use native.Mathlib.Omega.{arith}
+use borrow.Author.Needs.{needs}
+use denote.Ref.{now}
+use lib.Dec.{leb, eqb}
+use lib.ListN.{length}
+use Rattle.plane.specs.Sums.{sumTo}
+use Rattle.plane.proofs.Sums.{sum-none, sum-more, sum-bound}
+use Rattle.window.proofs.Windows.{taps-room}
+use Rattle.window.specs.Kernel.{tap, sumsTo, mostTaps}
+use Rattle.window.proofs.sums_to.Statement.{statement}
+use Rattle.window.proofs.sums_to.Tie as tie
+use Rattle.window.proofs.sums_to.Reads as reads
+use Rattle.window.proofs.sums_to.Lts as lts
+use Rattle.window.proofs.wide.Reads as wide-reads
+
+abbrev Inv-loop : tie.InvT-loop
+Inv-loop taps total sum₀ k₀ k-end sum k = (k ≤ length taps) × (sum ≡ sumTo (tap taps) k)
+
+abbrev μ-loop : tie.MeasureT-loop
+μ-loop taps total sum₀ k₀ k-end sum k = length taps - k
+
+loop-holds : tie.Need-loop-holds Inv-loop μ-loop
+loop-holds c = (search needs, sym (sum-none _))
+
+mul-wide : tie.Need-mul-wide Inv-loop μ-loop
+mul-wide c = search needs
+
+shared-slice-read-wide : tie.Need-shared-slice-read-wide Inv-loop μ-loop
+shared-slice-read-wide c = search needs
+
+wide-requires : tie.Need-wide-requires Inv-loop μ-loop
+wide-requires c κs = search needs
+
+add-sum : tie.Need-add-sum Inv-loop μ-loop
+add-sum c =
+    let l = c .before .before .before .loop in
+    let taps = c .before .before .before .before .before .args .taps in
+    let small : (i : ℕ) → i < l .k → tap (now taps) i ≤ 65535 = λ i m. omega (arith, c .before .shared-slice-known2 .given i) in
+    omega (arith, c .before .shared-slice-known2 .given (l .k), sum-bound (tap (now taps)) 65535 (l .k) small, taps-room)
+
+add-k : tie.Need-add-k Inv-loop μ-loop
+add-k c = search needs
+
+loop-less : tie.Need-loop-less Inv-loop μ-loop
+loop-less c = search needs
+
+loop-again : tie.Need-loop-again Inv-loop μ-loop
+loop-again c = (search needs, rw (sum-more, ← (c .before .before .before .loop .inv .1), ← (c .wide .ensures)))
+
+returns : tie.Need-returns Inv-loop μ-loop
+unfolding sumsTo
+returns c =
+    let e : c .before .loop .k ≡ length (now (c .before .before .before .args .taps)) = omega arith in
+    rw (c .before .loop .inv .1, e)
+
+pub sums-to-spec : {M : Type 1} → statement M
+sums-to-spec =
+    tie.close
+    (tie.spec
+    Inv-loop
+    μ-loop
+    loop-holds
+    mul-wide
+    shared-slice-read-wide
+    wide-requires
+    add-sum
+    add-k
+    loop-less
+    loop-again
+    returns)

@@ -1,0 +1,77 @@
+-- The sums one side at a time, as an engine makes them: a window over any numbers along one side, and five such windows at once.
+-- `proofs/Separable.antt` shows that a window along a row of windows down the columns is the sum of Moments. Definitions only.
+use mathlib.Core.List.{List}
+use mathlib.Core.Path.{_≡_}
+use Prim.Native.Nat.{ℕ, zero, suc, _+_, _*_, _/_, _≤_, _<_, _^_}
+use lib.ListN.{length}
+use Rattle.plane.specs.Sums.{sumTo}
+use Rattle.window.specs.Kernel.{tap, mostTaps, fixedTotal}
+use Rattle.window.specs.Moments.{inside, muxAt, muyAt, x2At, xyAt, y2At, wAt}
+use Rattle.window.specs.declared.Sums.{Sums}
+use Rattle.window.specs.declared.Moments.{Moments}
+
+-- ---- one window
+
+-- the first n taps over f along a side, the middle at x
+unfoldable pub partOf : List ℕ → ℕ → (ℕ → ℕ) → ℕ → ℕ → ℕ
+partOf ker side f x n = sumTo (λ (k : ℕ). tap ker k * inside (length ker / 2) side f (x + k)) n
+
+-- all of them
+abbrev pub windowOf : List ℕ → ℕ → (ℕ → ℕ) → ℕ → ℕ
+windowOf ker side f x = partOf ker side f x (length ker)
+
+-- the taps that lie inside
+abbrev pub weightOf : List ℕ → ℕ → ℕ → ℕ
+weightOf ker side x = windowOf ker side (λ (i : ℕ). 1) x
+
+-- What the sums need of a kernel. Any lawful kernel has it, lent or fixed (`kernel-says`).
+pub record Kernel (ker : List ℕ) : Type 0 where
+  pub odd : length ker ≡ 2 * (length ker / 2) + 1
+  pub short : length ker ≤ mostTaps
+  pub light : sumTo (tap ker) (length ker) ≤ fixedTotal
+
+-- ---- five at once
+
+-- the five quantities of a pair of samples: a, b, a², ab, b²
+abbrev pub quantOf : ℕ → ℕ → ℕ → ℕ
+quantOf zero a b = a
+quantOf (suc zero) a b = b
+quantOf (suc (suc zero)) a b = a * a
+quantOf (suc (suc (suc zero))) a b = a * b
+quantOf (suc (suc (suc (suc m)))) a b = b * b
+
+-- the five numbers that g gives at 0 to 4
+abbrev pub fiveOf : (ℕ → ℕ) → Sums
+fiveOf g = record { mux = g 0; muy = g 1; x2 = g 2; xy = g 3; y2 = g 4 }
+
+-- number m of five
+abbrev pub nth : Sums → ℕ → ℕ
+nth t zero = t .mux
+nth t (suc zero) = t .muy
+nth t (suc (suc zero)) = t .x2
+nth t (suc (suc (suc zero))) = t .xy
+nth t (suc (suc (suc (suc m)))) = t .y2
+
+-- one tap more of each
+abbrev pub tappedOf : Sums → ℕ → (ℕ → ℕ) → Sums
+tappedOf t k g = fiveOf (λ (m : ℕ). nth t m + k * g m)
+
+-- and there is room for it
+abbrev pub Room : Sums → ℕ → (ℕ → ℕ) → Type 0
+Room t k g = (m : ℕ) → m < 5 → nth t m + k * g m < 2 ^ 64
+
+-- the first n taps over five functions
+unfoldable pub partsOf : List ℕ → ℕ → (ℕ → ℕ → ℕ) → ℕ → ℕ → Sums
+partsOf ker side f x n = fiveOf (λ (m : ℕ). partOf ker side (f m) x n)
+
+-- ---- the six at a centre, of two views a and b
+abbrev pub momentsAt : List ℕ → ℕ → ℕ → (ℕ → ℕ → ℕ) → (ℕ → ℕ → ℕ) → ℕ → ℕ → Moments
+momentsAt ker width height a b x y =
+    record {
+      mux = muxAt ker width height a b x y;
+      muy = muyAt ker width height a b x y;
+      x2 = x2At ker width height a b x y;
+      xy = xyAt ker width height a b x y;
+      y2 = y2At ker width height a b x y;
+      w = wAt ker width height a b x y;
+    }
