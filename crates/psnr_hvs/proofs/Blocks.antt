@@ -11,12 +11,14 @@ use lib.ListN.{length, length-append}
 use lib.Ieee.{Float}
 use Rattle.plane.specs.Plane.{Plane}
 use Rattle.dct.specs.Limits.{forwardLimit}
-use Rattle.dct.specs.Operation.{Within, Small}
+use Rattle.dct.specs.Block.{transform, turn, line, column}
+use Rattle.dct.proofs.Blocks.{length-line, length-rows}
+use Rattle.dct.specs.Call.{Within, Small}
 use Rattle.psnr_hvs.specs.Fold.{listTo}
 use Rattle.psnr_hvs.specs.Block.{withBlock}
 use Rattle.psnr_hvs.specs.Score.{blockSide, step, blocksPerSide, sampleIn, blockAt, alongRow, downRows}
 use Rattle.psnr_hvs.specs.Legible.{Legible}
-use Rattle.psnr_hvs.proofs.Folds.{fold-more}
+use Rattle.number.proofs.Folds.{fold-more}
 
 -- ---- where they begin
 -- "blocks of 8 begin at 0, 7, 14 and so on, below side - 7": k counts the starts, and as many are below as blocksPerSide says
@@ -55,6 +57,11 @@ pub block-small : (p : Plane) {width height : ℕ} (x y : ℕ) → Legible width
 unfolding blockAt
 block-small p x y h lx ly =
     small-list forwardLimit (sampleIn p x y) 64 (λ (k : ℕ) (l : k < 64). h .small (x + k % 8) (y + k / 8) (omega arith) (omega arith))
+
+-- ---- what the transform leaves of a block
+pub coefficients-length : (b : List ℤ) → length (transform b) ≡ 64
+unfolding transform turn
+coefficients-length b = length-rows (λ (i : ℕ). line (column i (turn b))) (λ (i : ℕ). length-line (column i (turn b))) 8
 
 -- ---- one more block, and one more row of them
 pub row-more : (csf mask : List (List Float)) (p q : Plane) (y : ℕ) (a : Float) (x : ℕ)

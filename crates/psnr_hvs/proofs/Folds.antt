@@ -9,19 +9,11 @@ use borrow.Author.Tests.{eq-eqb, ne-eqb, eqb-true, eqb-false}
 use lib.Dec.{eqb}
 use lib.ListN.{length, take, set}
 use lib.Seq.{take-suc-set, take-all}
-use Rattle.psnr_hvs.specs.Fold.{foldTo, overSquare, listTo}
+use Rattle.number.specs.Steps.{foldTo}
+use Rattle.psnr_hvs.specs.Fold.{overSquare, listTo}
 use Rattle.psnr_hvs.specs.Block.{first}
 
 module _ {A : Type 0} where
-  -- one more turn, at the code's `i + 1`
-  pub fold-more : (step : A → ℕ → A) (a : A) (i : ℕ) → foldTo step a (i + 1) ≡ step (foldTo step a i) i
-  unfolding foldTo
-  fold-more step a i = rw add-one
-
-  pub fold-none : (step : A → ℕ → A) (a : A) → foldTo step a 0 ≡ a
-  unfolding foldTo
-  fold-none step a = refl
-
   -- a square of places in one loop: k is place (k / 8, k % 8) of a block, (k / 4, k % 4) of a quarter
   abbrev pub flat8 : (A → ℕ → ℕ → A) → A → ℕ → A
   flat8 step a n = foldTo (λ (s : A) (k : ℕ). step s (k / 8) (k % 8)) a n

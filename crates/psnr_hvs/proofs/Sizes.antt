@@ -6,18 +6,22 @@ use Prim.Native.Nat.{ℕ, zero, suc, _+_, _*_, _≤_, _<_, _^_}
 use native.Mathlib.Nat.{mul-le-mul, lt-of-le-of-lt}
 use native.Mathlib.Omega.{arith}
 use borrow.Author.Tests.{ltb-true}
-use lib.Dec.{lit<}
+use lib.Dec.{T, ltb, ltb→lt, lit<}
 use lib.IntN.{ℤ, pos, negsuc, natAbs, _-ℤ_, _*ℤ_}
 use lib.ListN.{getD}
 use lib.Signed.{ltZ}
 use mir.Syntax.{w32}
 use mir.Val.{SFits}
 use Rattle.dct.specs.Limits.{coefficientLimit, forwardLimit}
-use Rattle.dct.specs.Operation.{Within, Small, rd}
-use Rattle.dct.proofs.Size.{same, fits, size-mul, size-diff, whole}
+use Rattle.dct.specs.Call.{Within, Small}
+use Rattle.dct.specs.Operation.{rd}
+use Rattle.dct.proofs.Size.{fits, size-mul, size-diff, whole}
 use Rattle.dct.proofs.Blocks.{small-at}
 
 -- ---- a place of a block, as it is read
+same : {n : ℕ} {z : ℤ} → T (ltb n (2 ^ 31)) → Within n z → rd z ≡ z
+same {n} {z} t w = whole (fits z (lt-of-le-of-lt (w .le) (ltb→lt n (2 ^ 31) t)) .sfits)
+
 pub read-sample : (b : List ℤ) → Small forwardLimit b → (k : ℕ) → rd (getD b k (pos 0)) ≡ getD b k (pos 0)
 read-sample b h k = same tt (small-at forwardLimit b h k)
 

@@ -9,11 +9,12 @@ use lib.Dec.{eqb}
 use lib.IntN.{ℤ, pos, _*ℤ_}
 use lib.ListN.{getD}
 use lib.Ieee.{Float}
-use Rattle.psnr_hvs.specs.Fold.{foldTo}
-use Rattle.psnr_hvs.specs.Rounded.{_⊕_, _⊗_, double, zero64}
+use Rattle.number.specs.Steps.{foldTo, _⊕_, _⊗_}
+use Rattle.psnr_hvs.specs.Rounded.{signed, zero64}
 use Rattle.psnr_hvs.specs.Tables.{entry}
 use Rattle.psnr_hvs.specs.Block.{weigh, addTerm, term, distance}
-use Rattle.psnr_hvs.proofs.Folds.{fold-more, flat8, place, first-is}
+use Rattle.number.proofs.Folds.{fold-more}
+use Rattle.psnr_hvs.proofs.Folds.{flat8, place, first-is}
 
 -- the first place counts for nothing
 pub weigh-first : (mask : List (List Float)) (d : List ℤ) (a : Float) → flat8 (weigh mask d) a 1 ≡ a
@@ -21,7 +22,7 @@ unfolding foldTo
 weigh-first mask d a = refl
 
 pub weigh-more : (mask : List (List Float)) (d : List ℤ) (a : Float) (k : ℕ) → 1 ≤ k → flat8 (weigh mask d) a (k + 1)
-    ≡ flat8 (weigh mask d) a k ⊕ double (getD d k (pos 0) *ℤ getD d k (pos 0)) ⊗ entry mask (k / 8) (k % 8)
+    ≡ flat8 (weigh mask d) a k ⊕ signed (getD d k (pos 0) *ℤ getD d k (pos 0)) ⊗ entry mask (k / 8) (k % 8)
 weigh-more mask d a k l =
     let e : eqb k 0 ≡ false = ne-eqb k 0 (λ z. omega arith) in
     rw (fold-more, first-is k, e, place k)

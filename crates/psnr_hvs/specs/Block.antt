@@ -10,9 +10,10 @@ use lib.Ieee.{Float, nan, lt}
 use Rattle.number.specs.declared.Rooted.{Rooted}
 use Rattle.number.specs.declared.Rooted.the-variants.{Root, Refused}
 use Rattle.number.specs.Root.{rootOf}
+use Rattle.number.specs.Steps.{foldTo, _⊕_, _⊖_, _⊗_, _⊘_, double}
 use Rattle.dct.specs.Block.{transform}
-use Rattle.psnr_hvs.specs.Fold.{foldTo, overSquare}
-use Rattle.psnr_hvs.specs.Rounded.{_⊕_, _⊖_, _⊗_, _⊘_, double, zero64, fifteen, sixteen, thirtyTwo, sixtyThree, sixtyFour}
+use Rattle.psnr_hvs.specs.Fold.{overSquare}
+use Rattle.psnr_hvs.specs.Rounded.{signed, zero64, fifteen, sixteen, thirtyTwo, sixtyThree, sixtyFour}
 use Rattle.psnr_hvs.specs.Tables.{entry}
 
 -- place (i, j) of a block
@@ -27,18 +28,18 @@ sumOver top left side f = overSquare side (λ (s : Float) (i j : ℕ). s ⊕ f (
 
 -- the square of a place's distance from m
 abbrev pub spread : List ℤ → Float → ℕ → ℕ → Float
-spread b m i j = (double (cell b i j) ⊖ m) ⊗ (double (cell b i j) ⊖ m)
+spread b m i j = (signed (cell b i j) ⊖ m) ⊗ (signed (cell b i j) ⊖ m)
 
 -- gmean and gvar
 unfoldable pub gmean : List ℤ → Float
-gmean b = sumOver 0 0 8 (λ (i j : ℕ). double (cell b i j)) ⊘ sixtyFour
+gmean b = sumOver 0 0 8 (λ (i j : ℕ). signed (cell b i j)) ⊘ sixtyFour
 
 unfoldable pub gvar : List ℤ → Float
 gvar b = sumOver 0 0 8 (spread b (gmean b)) ⊗ (sixtyFour ⊘ sixtyThree)
 
 -- means[sub] and vars[sub]: a quarter by its first row and column
 unfoldable pub mean : List ℤ → ℕ → ℕ → Float
-mean b top left = sumOver top left 4 (λ (i j : ℕ). double (cell b i j)) ⊘ sixteen
+mean b top left = sumOver top left 4 (λ (i j : ℕ). signed (cell b i j)) ⊘ sixteen
 
 unfoldable pub var : List ℤ → ℕ → ℕ → Float
 var b top left = sumOver top left 4 (spread b (mean b top left)) ⊗ (sixteen ⊘ fifteen)
@@ -59,7 +60,7 @@ first i j = eqb i 0 && eqb j 0
 
 -- the square of a coefficient, weighed, added to s
 abbrev pub weigh : List (List Float) → List ℤ → Float → ℕ → ℕ → Float
-weigh mask d s i j = cond (first i j) s (s ⊕ double (cell d i j *ℤ cell d i j) ⊗ entry mask i j)
+weigh mask d s i j = cond (first i j) s (s ⊕ signed (cell d i j *ℤ cell d i j) ⊗ entry mask i j)
 
 unfoldable pub energy : List (List Float) → List ℤ → Float
 energy mask d = overSquare 8 (weigh mask d) zero64
@@ -84,7 +85,7 @@ maskOfBoth mask p1 p2 d1 d2 = larger (maskFor (energy mask d1) (ratio p1)) (mask
 
 -- (dct_p1 - dct_p2).abs() as f64
 abbrev pub distance : ℤ → ℤ → Float
-distance a b = double (pos (natAbs (a -ℤ b)))
+distance a b = double (natAbs (a -ℤ b))
 
 -- if err < err_mask { 0.0 } else { err - err_mask }
 abbrev pub shown : Float → Float → Float

@@ -1,13 +1,9 @@
--- What a counted loop has made after n turns. Definitions only.
+-- Places of a square walked row by row, and a list by its places. Definitions only.
 use mathlib.Core.List.{List, [], _∷_, _++_}
 use Prim.Native.Nat.{ℕ, zero, suc}
+use Rattle.number.specs.Steps.{foldTo}
 
 module _ {A : Type 0} where
-  -- the steps 0 to n - 1 in turn, from a
-  unfoldable pub foldTo : (A → ℕ → A) → A → ℕ → A
-  foldTo step a zero = a
-  foldTo step a (suc n) = step (foldTo step a n) n
-
   -- the steps (i, j) of two loops of n turns each, one inside the other: row by row
   abbrev pub overSquare : ℕ → (A → ℕ → ℕ → A) → A → A
   overSquare n step a = foldTo (λ (s : A) (i : ℕ). foldTo (λ (t : A) (j : ℕ). step t i j) s n) a n

@@ -1,27 +1,10 @@
--- Document 01, "HVS, SSIM and scales": "Doubles: each operation rounded once, in the order written in the Rust". Definitions only.
-use Prim.Native.Nat.{ℕ}
+-- The doubles that the definitions name. Definitions only.
 use lib.IntN.{ℤ}
-use lib.Ieee.{Float, binary64, add, sub, mul, div, ofInt, ofBits}
+use lib.Ieee.{Float, binary64, ofInt, ofBits}
 
-abbrev pub _⊕_ : Float → Float → Float
-a ⊕ b = add binary64 a b
-
-abbrev pub _⊖_ : Float → Float → Float
-a ⊖ b = sub binary64 a b
-
-abbrev pub _⊗_ : Float → Float → Float
-a ⊗ b = mul binary64 a b
-
-abbrev pub _⊘_ : Float → Float → Float
-a ⊘ b = div binary64 a b
-
-infixl 60 _⊕_
-infixl 60 _⊖_
-infixl 70 _⊗_
-infixl 70 _⊘_
--- a whole number as a double
-abbrev pub double : ℤ → Float
-double z = ofInt binary64 z
+-- a whole number of either sign as a double
+abbrev pub signed : ℤ → Float
+signed z = ofInt binary64 z
 
 -- 0.0, 15.0, 16.0, 32.0, 63.0 and 64.0
 abbrev pub zero64 : Float

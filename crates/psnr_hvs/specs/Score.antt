@@ -8,8 +8,9 @@ use lib.Ieee.Scale.{finite}
 use Rattle.refusal.specs.Numbers.{notFiniteNo}
 use Rattle.plane.specs.Plane.{Plane, sampleAt, maxOf}
 use Rattle.plane.specs.Tests.{planeRefusal}
-use Rattle.psnr_hvs.specs.Fold.{foldTo, listTo}
-use Rattle.psnr_hvs.specs.Rounded.{_⊘_, double, zero64}
+use Rattle.number.specs.Steps.{foldTo, _⊘_, double}
+use Rattle.psnr_hvs.specs.Fold.{listTo}
+use Rattle.psnr_hvs.specs.Rounded.{zero64}
 use Rattle.psnr_hvs.specs.Tables.{csfOf, masksOf}
 use Rattle.psnr_hvs.specs.Block.{withBlock}
 use Rattle.psnr_hvs.specs.declared.Kind.{Kind}
@@ -48,8 +49,8 @@ downRows csf mask p q width n =
 unfoldable pub hvsScore : Kind → Plane → Plane → ℕ → ℕ → ℕ → Float
 hvsScore kind p q width height depth =
     downRows (csfOf kind) (masksOf (csfOf kind)) p q width (blocksPerSide height)
-    ⊘ double (pos (64 * (blocksPerSide width * blocksPerSide height)))
-    ⊘ double (pos (maxOf depth * maxOf depth))
+    ⊘ double (64 * (blocksPerSide width * blocksPerSide height))
+    ⊘ double (maxOf depth * maxOf depth)
 
 -- ---- the answer
 

@@ -7,14 +7,14 @@ ghost use Prim.Native.Nat.{_+_, _<_, _≤_};
 ghost use lib.ListN.{length};
 ghost use Rattle.plane.specs.Plane.{planeOf, samplesOf};
 ghost use Rattle.dct.specs.Limits.{blockSize, forwardLimit, coefficientLimit};
-ghost use Rattle.dct.specs.Operation.{Within, Small};
+ghost use Rattle.dct.specs.Call.{Within, Small};
 ghost use Rattle.psnr_hvs.specs.Block as Block;
 ghost use Rattle.psnr_hvs.specs.Block.{distance};
 ghost use Rattle.psnr_hvs.specs.Score.{blockAt};
 ghost use Rattle.psnr_hvs.specs.Legible.{Legible};
 
-// The block whose first sample is (x, y), to `out`.
-fn load(
+// The block whose first sample is (x, y).
+fn loaded(
     bytes: &[u8],
     words: &[u16],
     wide: bool,
@@ -23,16 +23,16 @@ fn load(
     stride: usize,
     width: usize,
     height: usize,
-    out: &mut [i32],
-)
-    requires { ⌜ length (now out) ≡ blockSize ⌝ }
+) -> [i32; 64]
     requires { ⌜ (x + 8 ≤ width) × (y + 8 ≤ height) ⌝ }
     requires { ⌜ Legible width height (planeOf (samplesOf wide (now bytes) (now words)) stride) ⌝ }
-    ensures { λ _. ⌜ now (out .exit) ≡ blockAt (planeOf (samplesOf wide (now (bytes .entry)) (now (words .entry))) stride) x y ⌝ }
+    ensures { λ r. ⌜ r ≡ blockAt (planeOf (samplesOf wide (now (bytes .entry)) (now (words .entry))) stride) x y ⌝ }
 {
+    let mut out = [0i32; 64];
     for k in 0..64 {
         out[k] = plane::sample(bytes, words, wide, (y + k / 8) * stride + (x + k % 8)) as i32;
     }
+    out
 }
 
 // The squares of the coefficients of two blocks, weighed: one sum for each.
@@ -151,10 +151,8 @@ fn with_block(result: f64, p1: &[i32], p2: &[i32], mask: &[[f64; 8]; 8], csf: &[
     requires { ⌜ Small forwardLimit (now p2) ⌝ }
     ensures { λ r. ⌜ r ≡ Block.withBlock (now (csf .entry)) (now (mask .entry)) (now (p1 .entry)) (now (p2 .entry)) result ⌝ }
 {
-    let mut d1 = [0i32; 64];
-    let mut d2 = [0i32; 64];
-    dct::transform(p1, &mut d1);
-    dct::transform(p2, &mut d2);
+    let d1 = dct::transform(p1);
+    let d2 = dct::transform(p2);
     let m = mask_of_both(p1, p2, &d1, &d2, mask);
     errors(result, &d1, &d2, m, mask, csf)
 }
@@ -183,9 +181,7 @@ pub fn block_at(
         (blockAt (planeOf (samplesOf wide (now (a8 .entry)) (now (a16 .entry))) «stride_a») x y)
         (blockAt (planeOf (samplesOf wide (now (b8 .entry)) (now (b16 .entry))) «stride_b») x y) result ⌝ }
 {
-    let mut p1 = [0i32; 64];
-    let mut p2 = [0i32; 64];
-    load(a8, a16, wide, x, y, stride_a, width, height, &mut p1);
-    load(b8, b16, wide, x, y, stride_b, width, height, &mut p2);
+    let p1 = loaded(a8, a16, wide, x, y, stride_a, width, height);
+    let p2 = loaded(b8, b16, wide, x, y, stride_b, width, height);
     with_block(result, &p1, &p2, mask, csf)
 }

@@ -3,8 +3,8 @@ ghost use mathlib.Core.Path.{_≡_};
 ghost use Prim.Native.Nat.{_+_, _<_, _≤_};
 ghost use lib.ListN.{length};
 ghost use Rattle.dct.specs.Limits.{blockSize, forwardLimit};
-ghost use Rattle.dct.specs.Operation.{Small};
-ghost use Rattle.psnr_hvs.specs.Rounded.{double};
+ghost use Rattle.dct.specs.Call.{Small};
+ghost use Rattle.psnr_hvs.specs.Rounded.{signed};
 ghost use Rattle.psnr_hvs.specs.Block as Block;
 ghost use Rattle.psnr_hvs.specs.Block.{cell, spread, sumOver};
 
@@ -12,7 +12,7 @@ ghost use Rattle.psnr_hvs.specs.Block.{cell, spread, sumOver};
 fn sum_all(b: &[i32]) -> f64
     requires { ⌜ length (now b) ≡ blockSize ⌝ }
     requires { ⌜ Small forwardLimit (now b) ⌝ }
-    ensures { λ r. ⌜ r ≡ sumOver 0 0 8 (λ i j. double (cell (now (b .entry)) i j)) ⌝ }
+    ensures { λ r. ⌜ r ≡ sumOver 0 0 8 (λ i j. signed (cell (now (b .entry)) i j)) ⌝ }
 {
     let mut s = 0.0;
     for k in 0..64 {
@@ -26,7 +26,7 @@ fn sum_quarter(b: &[i32], top: usize, left: usize) -> f64
     requires { ⌜ length (now b) ≡ blockSize ⌝ }
     requires { ⌜ Small forwardLimit (now b) ⌝ }
     requires { ⌜ (top ≤ 4) × (left ≤ 4) ⌝ }
-    ensures { λ r. ⌜ r ≡ sumOver top left 4 (λ i j. double (cell (now (b .entry)) i j)) ⌝ }
+    ensures { λ r. ⌜ r ≡ sumOver top left 4 (λ i j. signed (cell (now (b .entry)) i j)) ⌝ }
 {
     let mut s = 0.0;
     for k in 0..16 {

@@ -6,7 +6,7 @@ use native.Mathlib.Omega.{arith}
 use Rattle.psnr_hvs.specs.Score.{alongRow, blocksPerSide}
 use Rattle.plane.specs.Plane.{planeOf, samplesOf}
 use Rattle.psnr_hvs.proofs.Blocks.{ends, row-more}
-use Rattle.psnr_hvs.proofs.Folds.{fold-none, fold-more}
+use Rattle.number.proofs.Folds.{fold-none, fold-more}
 use Rattle.psnr_hvs.proofs.along_row.Statement.{statement}
 use Rattle.psnr_hvs.proofs.along_row.Tie as tie
 use Rattle.psnr_hvs.proofs.along_row.Reads as reads

@@ -5,7 +5,7 @@ use Prim.Native.Nat.{ℕ, _+_, _-_, _*_, _/_, _%_, _≤_, _<_}
 use native.Mathlib.Omega.{arith}
 use Rattle.plane.specs.Plane.{planeOf, samplesOf}
 use Rattle.psnr_hvs.specs.Score.{downRows, blocksPerSide}
-use Rattle.psnr_hvs.proofs.Folds.{fold-none}
+use Rattle.number.proofs.Folds.{fold-none}
 use Rattle.psnr_hvs.proofs.Blocks.{ends, rows-more}
 use Rattle.psnr_hvs.proofs.down_rows.Statement.{statement}
 use Rattle.psnr_hvs.proofs.down_rows.Tie as tie

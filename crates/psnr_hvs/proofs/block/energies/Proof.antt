@@ -4,7 +4,8 @@ use mathlib.Core.Path.{_≡_, refl, sym, ap, _∙_}
 use Prim.Native.Nat.{ℕ, _+_, _-_, _*_, _/_, _%_, _≤_, _<_}
 use native.Mathlib.Omega.{arith}
 use lib.Ieee.{Float}
-use Rattle.psnr_hvs.specs.Rounded.{_⊕_, double, zero64}
+use Rattle.number.specs.Steps.{_⊕_}
+use Rattle.psnr_hvs.specs.Rounded.{signed, zero64}
 use Rattle.psnr_hvs.specs.Block.{weigh, energy}
 use Rattle.psnr_hvs.proofs.Folds.{flat8, by-eights}
 use Rattle.psnr_hvs.proofs.Sizes.{square-fits, square-is}

@@ -8,7 +8,8 @@ use Rattle.dct.proofs.Size.{read}
 use Rattle.dct.proofs.Blocks.{small-at}
 use Rattle.dct.specs.Limits.{coefficientLimit}
 use Rattle.psnr_hvs.specs.Block.{addTerm, errors}
-use Rattle.psnr_hvs.proofs.Folds.{fold-none, flat8, by-eights}
+use Rattle.number.proofs.Folds.{fold-none}
+use Rattle.psnr_hvs.proofs.Folds.{flat8, by-eights}
 use Rattle.psnr_hvs.proofs.Sizes.{read-coefficient}
 use Rattle.psnr_hvs.proofs.Walks.{term-more}
 use Rattle.psnr_hvs.proofs.block.errors.Statement.{statement}

@@ -5,9 +5,11 @@ use Prim.Native.Nat.{ℕ, _+_, _-_, _*_, _/_, _%_, _≤_, _<_}
 use native.Mathlib.Omega.{arith}
 use lib.ListN.{length, getD}
 use lib.Ieee.{Float}
-use Rattle.psnr_hvs.specs.Rounded.{_⊕_, double, zero64}
+use Rattle.number.specs.Steps.{_⊕_}
+use Rattle.psnr_hvs.specs.Rounded.{signed, zero64}
 use Rattle.psnr_hvs.specs.Block.{spread}
-use Rattle.psnr_hvs.proofs.Folds.{fold-more, fold-none, flat8, by-eights, place-from-0}
+use Rattle.number.proofs.Folds.{fold-more, fold-none}
+use Rattle.psnr_hvs.proofs.Folds.{flat8, by-eights, place-from-0}
 use Rattle.psnr_hvs.proofs.Sizes.{read-sample}
 use Rattle.psnr_hvs.proofs.spread.spread_all.Statement.{statement}
 use Rattle.psnr_hvs.proofs.spread.spread_all.Tie as tie

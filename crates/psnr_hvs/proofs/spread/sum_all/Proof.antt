@@ -5,9 +5,11 @@ use Prim.Native.Nat.{ℕ, _+_, _-_, _*_, _/_, _%_, _≤_, _<_}
 use native.Mathlib.Omega.{arith}
 use lib.ListN.{length, getD}
 use lib.Ieee.{Float}
-use Rattle.psnr_hvs.specs.Rounded.{_⊕_, double, zero64}
+use Rattle.number.specs.Steps.{_⊕_}
+use Rattle.psnr_hvs.specs.Rounded.{signed, zero64}
 use Rattle.psnr_hvs.specs.Block.{cell}
-use Rattle.psnr_hvs.proofs.Folds.{fold-more, fold-none, flat8, by-eights, place-from-0}
+use Rattle.number.proofs.Folds.{fold-more, fold-none}
+use Rattle.psnr_hvs.proofs.Folds.{flat8, by-eights, place-from-0}
 use Rattle.psnr_hvs.proofs.Sizes.{read-sample}
 use Rattle.psnr_hvs.proofs.spread.sum_all.Statement.{statement}
 use Rattle.psnr_hvs.proofs.spread.sum_all.Tie as tie
@@ -15,7 +17,7 @@ use Rattle.psnr_hvs.proofs.spread.sum_all.Reads as reads
 use Rattle.psnr_hvs.proofs.spread.sum_all.Lts as lts
 
 abbrev Inv-loop : tie.InvT-loop
-Inv-loop b s₀ k₀ s k = (k ≤ 64) × (s ≡ flat8 (λ (t : Float) (i j : ℕ). t ⊕ double (cell b (0 + i) (0 + j))) zero64 k)
+Inv-loop b s₀ k₀ s k = (k ≤ 64) × (s ≡ flat8 (λ (t : Float) (i j : ℕ). t ⊕ signed (cell b (0 + i) (0 + j))) zero64 k)
 
 abbrev μ-loop : tie.MeasureT-loop
 μ-loop b s₀ k₀ s k = 64 - k
