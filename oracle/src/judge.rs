@@ -3,7 +3,6 @@
 //! judge [--full] [--seed N] [FAMILY..]
 
 mod family;
-mod grouping;
 mod lifting;
 mod model;
 mod plane;
@@ -14,6 +13,7 @@ mod samples;
 mod series;
 mod squared;
 mod ssim;
+mod ssim_ways;
 mod start;
 mod transform;
 

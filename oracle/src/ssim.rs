@@ -1,10 +1,10 @@
 //! SSIM of both widths: the published pair of the unpadded copies, the rules' refusals, and what is left in the scratch.
 
 use crate::family::{run, Family, Run};
-use crate::grouping;
 use crate::plane::{self, less};
 use crate::random::Random;
 use crate::samples::{sound, Pair};
+use crate::ssim_ways;
 use published::video::ssim;
 
 /// The call of one width.
@@ -69,8 +69,8 @@ const BEFORE: [u64; 2] = [0x7FF4_DEAD_BEEF_0001, 0xFFF4_DEAD_BEEF_0002];
 const ROOM: u128 = 400_000;
 
 pub fn compare(ask: Run) -> bool {
-    let cases = if ask.full { 250_000 } else { 30_000 };
-    let telling = match grouping::telling() {
+    let cases = if ask.full { 1_000_000 } else { 100_000 };
+    let telling = match ssim_ways::telling() {
         Ok(list) => list,
         Err(why) => {
             println!("ssim: FAILED: {}", why);
