@@ -66,7 +66,13 @@ kernel-says total ker e =
 -- so the sums can be made with any lawful kernel, up to the fixed one's total
 pub kernel-serves : (total : ℕ) (ker : List ℕ) → total ≤ fixedTotal → lawful total ker ≡ true → Kernel ker
 kernel-serves total ker l e =
-    let s = kernel-says total ker e in record { odd = s .odd; short = s .short; light = omega (arith, s .sum) }
+    let s = kernel-says total ker e in
+    record {
+      odd = s .odd;
+      short = s .short;
+      light = omega (arith, s .sum);
+      mirror = s .mirror;
+    }
 
 pub lent-total : lentTotal ≤ fixedTotal
 unfolding lentTotal fixedTotal

@@ -2,6 +2,7 @@ pub mod KernelSays
 pub mod Windows
 pub mod Separable
 pub mod Five
+pub mod Folded
 pub mod Held
 pub mod Cauchy
 pub mod DemandMoments

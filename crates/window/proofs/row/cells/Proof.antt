@@ -1,5 +1,4 @@
 -- `window::row::cells` meets its contract. Assumes nothing.
-use Prim.Native.Nat.{_+_, _*_}
 use native.Mathlib.Nat.{add-zero}
 use native.Mathlib.Omega.{arith}
 use borrow.Author.Needs.{needs}
