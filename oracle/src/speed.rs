@@ -1,5 +1,6 @@
 //! The product beside the published Rust, in one run: each side's best time of many rounds, taken in turn, and the ratio.
 
+#[allow(dead_code)]
 mod random;
 
 use published::video::psnr_hvs;

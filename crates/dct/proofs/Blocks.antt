@@ -1,15 +1,15 @@
 -- Blocks of 64 as rows and columns. Assumes nothing.
-use mathlib.Core.Path.{_≡_, refl, sym, ap, ap₂, _∙_, subst}
+use mathlib.Core.Path.{_≡_, refl, sym, ap, ap₂, _∙_}
 use mathlib.Core.List.{List, [], _∷_, _++_, append-assoc, append-nil}
 use Prim.Native.Nat.{ℕ, zero, suc, _+_, _-_, _*_, _≤_, _<_, zero-le}
 use native.Mathlib.Omega.{arith}
 use native.Mathlib.Numerals.{add-one}
 use lib.IntN.{ℤ, pos}
 use lib.ListN.{length, getD, set, take, drop, length-append, drop-of-length-le}
-use lib.Seq.{take-at, drop-at, take-length, drop-length, drop-drop}
+use lib.Seq.{take-all, take-suc, take-suc-set, take-at, drop-at, take-length, drop-length, drop-drop}
 use borrow.Rule.Slice.PartMut.{putMid}
-use Rattle.dct.specs.Operation.{Small, Within}
-use Rattle.dct.specs.Block.{rows, column, row, line, places}
+use Rattle.dct.specs.Call.{Small, Within}
+use Rattle.dct.specs.Block.{rows, spaced, column, row, line, places}
 use Rattle.dct.specs.Steps.{steps}
 use Rattle.dct.proofs.Trip.{length-run}
 
@@ -33,14 +33,16 @@ small-at n [] h k = record { le = zero-le }
 small-at n (a ∷ b) h zero = h .0
 small-at n (a ∷ b) h (suc k) = small-at n b (h .1) k
 
+small-spaced : (n at by : ℕ) (b : List ℤ) → Small n b → Small n (spaced at by b)
+small-spaced n at by b h =
+    let w = small-at n b h in
+    (w at, (w (at + by), (w (at + 2 * by), (w (at + 3 * by), (w (at + 4 * by), (w (at + 5 * by), (w (at + 6 * by), (w (at + 7 * by), tt))))))))
+
 pub small-column : (n : ℕ) (b : List ℤ) → Small n b → (i : ℕ) → Small n (column i b)
-small-column n b h i =
-    let w = small-at n b h in (w i, (w (8 + i), (w (16 + i), (w (24 + i), (w (32 + i), (w (40 + i), (w (48 + i), (w (56 + i), tt))))))))
+small-column n b h i = small-spaced n i 8 b h
 
 pub small-row : (n : ℕ) (b : List ℤ) → Small n b → (i : ℕ) → Small n (row i b)
-small-row n b h i =
-    let w = small-at n b h in
-    (w (8 * i), (w (8 * i + 1), (w (8 * i + 2), (w (8 * i + 3), (w (8 * i + 4), (w (8 * i + 5), (w (8 * i + 6), (w (8 * i + 7), tt))))))))
+small-row n b h i = small-spaced n (8 * i) 1 b h
 
 pub length-line : (x : List ℤ) → length (line x) ≡ 8
 unfolding line
@@ -73,3 +75,14 @@ rows-all f i out out₀ l k h e =
     let q : i ≡ 8 = omega arith in
     e ∙ ap (λ (n : ℕ). rows f n ++ drop (8 * n) out₀) q
     ∙ ap (λ (y : List ℤ). rows f 8 ++ y) (drop-of-length-le out₀ {i = 64} (omega arith)) ∙ append-nil (rows f 8)
+
+-- ---- a copy, one more at a time
+
+pub copied-more : (x out : List ℤ) (i : ℕ) (w : ℤ) → i < length x → length out ≡ length x → w ≡ getD x i (pos 0) → take i out ≡ take i x
+    → take (i + 1) (set out i w) ≡ take (i + 1) x
+copied-more x out i w l e p h =
+    let q : i < length out = omega arith in
+    rw (add-one, take-suc-set out i w q, take-suc x i (pos 0) l, h, p)
+
+pub copied-all : (x out : List ℤ) (i : ℕ) → length x ≤ i → length out ≡ length x → take i out ≡ take i x → out ≡ x
+copied-all x out i l e h = sym (take-all i out (omega arith)) ∙ h ∙ take-all i x l

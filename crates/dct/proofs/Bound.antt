@@ -1,14 +1,14 @@
 -- How large coefficients, and the numbers between the two passes, can be. Assumes nothing.
-use mathlib.Core.Path.{_≡_, refl}
 use mathlib.Core.List.{List, [], _∷_, _++_}
 use Prim.Native.Nat.{ℕ, zero, suc, _≤_}
 use native.Mathlib.Nat.{le-refl, le-trans}
-use lib.Dec.{T, leb, leb→le}
+use lib.Dec.{leb→le}
 use lib.IntN.{ℤ}
 use Rattle.dct.specs.Limits.{forwardLimit, inverseLimit, coefficientLimit}
-use Rattle.dct.specs.Operation.{Small, passLimit, undoneLimit}
+use Rattle.dct.specs.Operation.{passLimit, undoneLimit}
+use Rattle.dct.specs.Call.{Small}
 use Rattle.dct.specs.Steps.{run, steps, undoAll}
-use Rattle.dct.specs.Block.{line, line⁻¹, places, places⁻¹, column, row, rows, turn, across, turn⁻¹, transform}
+use Rattle.dct.specs.Block.{line, line⁻¹, places, column, row, rows, turn, across, turn⁻¹, transform}
 use Rattle.dct.proofs.Forms.{reach, reached, computed}
 use Rattle.dct.proofs.Blocks.{small-at, small-column, small-row}
 

@@ -1,7 +1,7 @@
 -- What it means that a call takes what it is given, and what the calls give one after the other: document 01's demand of the transform.
 -- Assumes nothing.
-use mathlib.Core.Path.{_≡_, refl, sym, ap, _∙_}
-use mathlib.Core.Bool.{Bool, true, false, _&&_, cond}
+use mathlib.Core.Path.{_≡_, refl, _∙_}
+use mathlib.Core.Bool.{Bool, true, false, _&&_}
 use mathlib.Core.List.{List, [], _∷_}
 use Prim.Native.Nat.{ℕ}
 use native.Mathlib.Omega.{arith}
@@ -12,8 +12,7 @@ use borrow.Author.Tests.{eq-eqb, eqb-true}
 use Rattle.refusal.specs.First.{firstBroken}
 use Rattle.refusal.specs.Numbers.{valueNo}
 use Rattle.dct.specs.Limits.{blockSize, forwardLimit, inverseLimit}
-use Rattle.dct.specs.Operation.{Small}
-use Rattle.dct.specs.Call.{inside, takes, answer, later}
+use Rattle.dct.specs.Call.{Small, inside, takes, answer, later}
 use Rattle.dct.specs.Block.{transform, transform⁻¹}
 use Rattle.dct.proofs.Range.{and-parts, small, is-inside}
 use Rattle.dct.proofs.Round.{undo-transform, transform-undo, length-transform, length-transform⁻¹}
@@ -59,21 +58,21 @@ module _ (n : ℕ) (f : List ℤ → List ℤ) (given out : List ℤ) where
 -- ---- the calls one after the other
 
 -- forward, then inverse: a block of 64 values in range returns, both calls answering 0
-pub there-and-back : (b out out₂ : List ℤ) → length b ≡ blockSize → length out ≡ blockSize → length out₂ ≡ blockSize → Small forwardLimit b
+pub forward-then-inverse : (b out out₂ : List ℤ) → length b ≡ blockSize → length out ≡ blockSize → length out₂ ≡ blockSize → Small forwardLimit b
     → (let z = later forwardLimit transform b out in
     (answer forwardLimit b out ≡ 0) × (answer inverseLimit z out₂ ≡ 0) × (later inverseLimit transform⁻¹ z out₂ ≡ b))
-there-and-back b out out₂ e o o₂ h =
+forward-then-inverse b out out₂ e o o₂ h =
     let p = accepted forwardLimit transform b out (is-taken forwardLimit b (length out) (record { in-places = e; out-places = o; sizes = h })) in
     let q = accepted inverseLimit transform⁻¹ (transform b) out₂
     (is-taken inverseLimit (transform b) (length out₂) (record { in-places = length-transform b; out-places = o₂; sizes = returned b h })) in
     (p .0, rw (p .1) (q .0), rw (p .1) (q .1 ∙ undo-transform b e))
 
 -- inverse, then forward: coefficients in range whose inverse lies in forward's range return
-pub back-and-there : (z out out₂ : List ℤ) → length z ≡ blockSize → length out ≡ blockSize → length out₂ ≡ blockSize → Small inverseLimit z
+pub inverse-then-forward : (z out out₂ : List ℤ) → length z ≡ blockSize → length out ≡ blockSize → length out₂ ≡ blockSize → Small inverseLimit z
     → Small forwardLimit (transform⁻¹ z)
     → (let b = later inverseLimit transform⁻¹ z out in
     (answer inverseLimit z out ≡ 0) × (answer forwardLimit b out₂ ≡ 0) × (later forwardLimit transform b out₂ ≡ z))
-back-and-there z out out₂ e o o₂ h k =
+inverse-then-forward z out out₂ e o o₂ h k =
     let p = accepted inverseLimit transform⁻¹ z out (is-taken inverseLimit z (length out) (record { in-places = e; out-places = o; sizes = h })) in
     let q = accepted forwardLimit transform (transform⁻¹ z) out₂
     (is-taken forwardLimit (transform⁻¹ z) (length out₂) (record { in-places = length-transform⁻¹ z; out-places = o₂; sizes = k })) in

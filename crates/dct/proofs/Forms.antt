@@ -14,7 +14,8 @@ use lib.ListN.{length, getD, set, take, drop, replicate}
 use lib.Signed.{shrZ}
 use borrow.Author.Tests.{lt-ltb}
 use Rattle.dct.specs.Limits.{forwardLimit, inverseLimit, coefficientLimit}
-use Rattle.dct.specs.Operation.{Small, passLimit, undoneLimit}
+use Rattle.dct.specs.Operation.{passLimit, undoneLimit}
+use Rattle.dct.specs.Call.{Small}
 use Rattle.dct.specs.Steps.{Of, whole, halved, times, of, half, part, Step, plus, less, from, step, run, undoAll, steps, steps1, steps2, steps3, steps4, steps5}
 use Rattle.dct.proofs.Size.{cond-ind, size-add, size-mul, size-neg}
 use Rattle.dct.proofs.Ring.{exchange, plus-times, times-plus, neg-times, times-neg, times-assoc, times-swap}

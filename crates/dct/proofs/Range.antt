@@ -1,8 +1,8 @@
 -- The test of a range, and what a list that passed it tells of sizes. Assumes nothing.
-use mathlib.Core.Path.{_≡_, refl, sym, ap, _∙_}
+use mathlib.Core.Path.{_≡_, refl, ap, _∙_}
 use mathlib.Core.Bool.{Bool, true, false, _&&_}
 use mathlib.Core.List.{List, [], _∷_}
-use Prim.Native.Nat.{ℕ, zero, suc, _+_, _<_, _≤_, _^_}
+use Prim.Native.Nat.{ℕ, zero, suc, _+_, _<_, _^_}
 use native.Mathlib.Omega.{arith}
 use native.Mathlib.Numerals.{add-one}
 use lib.Dec.{T, leb}
@@ -13,8 +13,7 @@ use lib.Signed.{ltZ, nonNeg}
 use mir.Syntax.{w32}
 use mir.Val.{SFits}
 use borrow.Author.Tests.{ltb-true, ltb-false, le-leb, lt-leb, leb-true}
-use Rattle.dct.specs.Operation.{Small, Within}
-use Rattle.dct.specs.Call.{inside}
+use Rattle.dct.specs.Call.{Small, inside}
 
 -- ---- one number
 

@@ -1,21 +1,22 @@
 -- How large the whole numbers of a step are: the laws that let `omega` follow sizes (`natAbs`). Assumes nothing.
-use mathlib.Core.Path.{_≡_, refl, sym, ap, _∙_, subst}
+use mathlib.Core.Path.{_≡_, refl, sym, ap, subst}
 use mathlib.Core.Bool.{Bool, true, false, not, cond}
 use mathlib.Core.List.{List, [], _∷_}
 use Prim.Native.Nat.{ℕ, zero, suc, _+_, _-_, _*_, _/_, _^_, _≤_, _<_}
-use native.Mathlib.Nat.{le-refl, le-trans, lt-of-le-of-lt, lt-of-lt-of-le, div-lt-iff-lt-mul, mul-le-mul-left, le-of-suc-le-suc, suc-mul, le-of-eq, two-mul, mul-comm, pow-suc}
+use native.Mathlib.Nat.{le-refl, le-trans, lt-of-le-of-lt, div-lt-iff-lt-mul, mul-le-mul-left, le-of-suc-le-suc, suc-mul, le-of-eq, pow-suc}
 use native.Mathlib.Numerals.{sub-one}
 use native.Mathlib.Omega.{arith}
 use lib.Dec.{T, ltb, ltb→lt, nltb→le, eqb→eq}
 use lib.IntN.{ℤ, pos, negsuc, negℤ, natAbs, subℕ, _+ℤ_, _-ℤ_, _*ℤ_}
-use lib.Signed.{mag, quotZ, shrZ}
+use lib.Signed.{mag, shrZ}
 use lib.Pow.{pow-pos, pow-mono}
 use borrow.Author.Needs.{sfits-of}
 use mir.Syntax.{w32, w64}
-use mir.Val.{SFits, toZ, ofZ, sel}
+use mir.Val.{SFits, sel}
 use mir.Facts.{toZ-ofZ}
 use Rattle.dct.specs.Steps.{half, part}
-use Rattle.dct.specs.Operation.{rd, Is, Within, HalfOf}
+use Rattle.dct.specs.Operation.{rd, Is, HalfOf}
+use Rattle.dct.specs.Call.{Within}
 
 pub cond-ind : (c : Bool) (x y : ℤ) (P : ℤ → Type 0) → (T c → P x) → (T (not c) → P y) → P (cond c x y)
 cond-ind true x y P f g = f tt
@@ -132,10 +133,7 @@ half-of (negsuc n) s t = absurd t
 pub again : (z : ℤ) (n : ℕ) (r : ℤ) → mag r < 2 ^ 31 → Is z n r → Is z n (rd r)
 again z n r f a = subst (λ (x : ℤ). Is z n x) (sym (toZ-ofZ (sfits-of f))) a
 
--- what is read back of a number that is small
-pub same : {n : ℕ} {z : ℤ} → T (ltb n (2 ^ 31)) → Within n z → rd z ≡ z
-same {n} {z} t w = toZ-ofZ (fits z (lt-of-le-of-lt (w .le) (ltb→lt n (2 ^ 31) t)))
-
+-- what is read back of a number that is small is small
 pub read : {n : ℕ} {z : ℤ} → Within n z → Within n (rd z)
 read {n} {z} w = record { le = within w }
 
@@ -144,6 +142,9 @@ pub whole : {z : ℤ} → mag z < 2 ^ 31 → rd z ≡ z
 whole h = toZ-ofZ {w = w32} (sfits-of {w = w32} h)
 
 -- the same of eight
-pub whole8 : (z0 z1 z2 z3 z4 z5 z6 z7 : ℤ) → mag z0 < 2 ^ 31 → mag z1 < 2 ^ 31 → mag z2 < 2 ^ 31 → mag z3 < 2 ^ 31 → mag z4 < 2 ^ 31 → mag z5 < 2 ^ 31 → mag z6 < 2 ^ 31 → mag z7 < 2 ^ 31
+pub whole8 : (z0 z1 z2 z3 z4 z5 z6 z7 : ℤ)
+    → mag z0 < 2 ^ 31 → mag z1 < 2 ^ 31 → mag z2 < 2 ^ 31 → mag z3 < 2 ^ 31 → mag z4 < 2 ^ 31 → mag z5 < 2 ^ 31 → mag z6 < 2 ^ 31 → mag z7 < 2 ^ 31
     → _≡_ {A = List ℤ} (rd z0 ∷ rd z1 ∷ rd z2 ∷ rd z3 ∷ rd z4 ∷ rd z5 ∷ rd z6 ∷ rd z7 ∷ []) (z0 ∷ z1 ∷ z2 ∷ z3 ∷ z4 ∷ z5 ∷ z6 ∷ z7 ∷ [])
-whole8 z0 z1 z2 z3 z4 z5 z6 z7 h0 h1 h2 h3 h4 h5 h6 h7 = λ i. whole {z = z0} h0 i ∷ whole {z = z1} h1 i ∷ whole {z = z2} h2 i ∷ whole {z = z3} h3 i ∷ whole {z = z4} h4 i ∷ whole {z = z5} h5 i ∷ whole {z = z6} h6 i ∷ whole {z = z7} h7 i ∷ []
+whole8 z0 z1 z2 z3 z4 z5 z6 z7 h0 h1 h2 h3 h4 h5 h6 h7 =
+    λ i. whole {z = z0} h0 i ∷ whole {z = z1} h1 i ∷ whole {z = z2} h2 i ∷ whole {z = z3} h3 i ∷ whole {z = z4} h4 i ∷ whole {z = z5} h5 i
+    ∷ whole {z = z6} h6 i ∷ whole {z = z7} h7 i ∷ []

@@ -8,16 +8,17 @@ use Rattle.dct.specs.Steps.{run, steps, undoAll}
 abbrev pub eight : (ℕ → ℤ) → List ℤ
 eight g = g 0 ∷ g 1 ∷ g 2 ∷ g 3 ∷ g 4 ∷ g 5 ∷ g 6 ∷ g 7 ∷ []
 
--- column i and row i
+-- eight numbers of a block: the first at a place, each so many places after the one before
+abbrev pub spaced : ℕ → ℕ → List ℤ → List ℤ
+spaced at by b =
+    getD b at (pos 0) ∷ getD b (at + by) (pos 0) ∷ getD b (at + 2 * by) (pos 0) ∷ getD b (at + 3 * by) (pos 0)
+    ∷ getD b (at + 4 * by) (pos 0) ∷ getD b (at + 5 * by) (pos 0) ∷ getD b (at + 6 * by) (pos 0) ∷ getD b (at + 7 * by) (pos 0) ∷ []
+
 abbrev pub column : ℕ → List ℤ → List ℤ
-column i b =
-    getD b i (pos 0) ∷ getD b (8 + i) (pos 0) ∷ getD b (16 + i) (pos 0) ∷ getD b (24 + i) (pos 0) ∷ getD b (32 + i) (pos 0) ∷ getD b (40 + i) (pos 0)
-    ∷ getD b (48 + i) (pos 0) ∷ getD b (56 + i) (pos 0) ∷ []
+column i = spaced i 8
 
 abbrev pub row : ℕ → List ℤ → List ℤ
-row i b =
-    getD b (8 * i) (pos 0) ∷ getD b (8 * i + 1) (pos 0) ∷ getD b (8 * i + 2) (pos 0) ∷ getD b (8 * i + 3) (pos 0) ∷ getD b (8 * i + 4) (pos 0)
-    ∷ getD b (8 * i + 5) (pos 0) ∷ getD b (8 * i + 6) (pos 0) ∷ getD b (8 * i + 7) (pos 0) ∷ []
+row i = spaced (8 * i) 1
 
 -- t0 t4 t2 t6 t7 t3 t5 t1 take x0 to x7; and back
 abbrev pub places : List ℤ → List ℤ

@@ -17,15 +17,6 @@ pub record Is (z : ℤ) (n : ℕ) (r : ℤ) : Type 0 where
   pub is : rd r ≡ z
   pub size : natAbs (rd r) ≤ n
 
--- a has a size of at most n
-pub record Within (n : ℕ) (a : ℤ) : Type 0 where
-  pub le : natAbs a ≤ n
-
--- every number of the list has a size of at most n
-abbrev pub Small : ℕ → List ℤ → Type 0
-Small n [] = Unit {0}
-Small n (a ∷ v) = Within n a × Small n v
-
 -- the sizes that a pass takes: its products then stay within 32 bits
 abbrev pub passLimit : ℕ
 passLimit = 23170

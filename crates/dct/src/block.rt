@@ -1,15 +1,17 @@
 // Rows and columns of a block, and a pass over each of the eight.
+use crate::BLOCK_SIZE;
 use crate::pass;
 use crate::pass::T8;
 ghost use mathlib.Core.Path.{_≡_};
 ghost use mathlib.Core.List.{_++_};
-ghost use Prim.Native.Nat.{_<_, _≤_};
+ghost use Prim.Native.Nat.{_+_, _*_, _<_, _≤_};
 ghost use lib.ListN.{length, drop};
 ghost use Rattle.dct.specs.Limits.{blockSize};
 ghost use Rattle.dct.specs.Block as Block;
-ghost use Rattle.dct.specs.Operation.{passLimit, undoneLimit, Small, vals};
+ghost use Rattle.dct.specs.Operation.{passLimit, undoneLimit, vals};
+ghost use Rattle.dct.specs.Call.{Small};
 
-// Eight numbers to the front of a part; a column, and a row, of a block.
+// Eight numbers to the front of a part.
 pub fn store(out: &mut [i32], r: T8)
     requires { ⌜ 8 ≤ length (now out) ⌝ }
     ensures { λ _. ⌜ now (out .exit) ≡ vals r ++ drop 8 (now (out .entry)) ⌝ }
@@ -32,38 +34,20 @@ pub fn store(out: &mut [i32], r: T8)
     out[7] = y7;
 }
 
-pub fn column(x: &[i32], i: usize) -> T8
-    requires { ⌜ i < 8 ⌝ }
-    requires { ⌜ length (now x) ≡ blockSize ⌝ }
-    ensures { λ r. ⌜ vals r ≡ Block.column i (now (x .entry)) ⌝ }
+// Eight numbers of a block, each `by` places after the one before: a column by 8, a row by 1.
+pub fn gather(x: &[i32], at: usize, by: usize) -> T8
+    requires { ⌜ at + 7 * by < length (now x) ⌝ }
+    ensures { λ r. ⌜ vals r ≡ Block.spaced at by (now (x .entry)) ⌝ }
 {
-    T8 {
-        t0: x[i],
-        t1: x[8 + i],
-        t2: x[16 + i],
-        t3: x[24 + i],
-        t4: x[32 + i],
-        t5: x[40 + i],
-        t6: x[48 + i],
-        t7: x[56 + i],
-    }
-}
-
-pub fn row(x: &[i32], i: usize) -> T8
-    requires { ⌜ i < 8 ⌝ }
-    requires { ⌜ length (now x) ≡ blockSize ⌝ }
-    ensures { λ r. ⌜ vals r ≡ Block.row i (now (x .entry)) ⌝ }
-{
-    let at = 8 * i;
     T8 {
         t0: x[at],
-        t1: x[at + 1],
-        t2: x[at + 2],
-        t3: x[at + 3],
-        t4: x[at + 4],
-        t5: x[at + 5],
-        t6: x[at + 6],
-        t7: x[at + 7],
+        t1: x[at + by],
+        t2: x[at + 2 * by],
+        t3: x[at + 3 * by],
+        t4: x[at + 4 * by],
+        t5: x[at + 5 * by],
+        t6: x[at + 6 * by],
+        t7: x[at + 7 * by],
     }
 }
 
@@ -75,7 +59,7 @@ pub fn line(out: &mut [i32], x: &[i32], i: usize)
     requires { ⌜ Small passLimit (Block.column i (now x)) ⌝ }
     ensures { λ _. ⌜ now (out .exit) ≡ Block.line (Block.column i (now (x .entry))) ++ drop 8 (now (out .entry)) ⌝ }
 {
-    let c = column(x, i);
+    let c = gather(x, i, 8);
     let r = pass::forward(c.t0, c.t7, c.t2, c.t5, c.t1, c.t6, c.t3, c.t4);
     store(out, r);
 }
@@ -93,6 +77,28 @@ pub fn turn(out: &mut [i32], x: &[i32])
     }
 }
 
+// The same into a block of its own. Nothing else can reach that block, so the eight passes can go side by side.
+pub fn turned(x: &[i32]) -> [i32; BLOCK_SIZE]
+    requires { ⌜ length (now x) ≡ blockSize ⌝ }
+    requires { ⌜ Small passLimit (now x) ⌝ }
+    ensures { λ r. ⌜ r ≡ Block.turn (now (x .entry)) ⌝ }
+{
+    let mut y = [0i32; BLOCK_SIZE];
+    turn(&mut y, x);
+    y
+}
+
+pub fn copy(out: &mut [i32], x: &[i32])
+    requires { ⌜ length (now out) ≡ length (now x) ⌝ }
+    ensures { λ _. ⌜ now (out .exit) ≡ now (x .entry) ⌝ }
+{
+    let mut i = 0;
+    while i < x.len() {
+        out[i] = x[i];
+        i += 1;
+    }
+}
+
 // Row i of x goes through the inverse pass to the front of out.
 pub fn unline(out: &mut [i32], x: &[i32], i: usize)
     requires { ⌜ i < 8 ⌝ }
@@ -101,7 +107,8 @@ pub fn unline(out: &mut [i32], x: &[i32], i: usize)
     requires { ⌜ Small undoneLimit (Block.row i (now x)) ⌝ }
     ensures { λ _. ⌜ now (out .exit) ≡ Block.line⁻¹ (Block.row i (now (x .entry))) ++ drop 8 (now (out .entry)) ⌝ }
 {
-    let a = row(x, i);
+    let at = 8 * i;
+    let a = gather(x, at, 1);
     let r = pass::inverse(a.t0, a.t1, a.t2, a.t3, a.t4, a.t5, a.t6, a.t7);
     let s = T8 {
         t0: r.t0,
@@ -123,7 +130,7 @@ pub fn cross(out: &mut [i32], x: &[i32], i: usize)
     requires { ⌜ 8 ≤ length (now out) ⌝ }
     ensures { λ _. ⌜ now (out .exit) ≡ Block.column i (now (x .entry)) ++ drop 8 (now (out .entry)) ⌝ }
 {
-    let c = column(x, i);
+    let c = gather(x, i, 8);
     store(out, c);
 }
 
@@ -156,7 +163,7 @@ pub fn back(out: &mut [i32], x: &[i32])
     requires { ⌜ Small undoneLimit (now x) ⌝ }
     ensures { λ _. ⌜ now (out .exit) ≡ Block.turn⁻¹ (now (x .entry)) ⌝ }
 {
-    let mut z = [0i32; 64];
+    let mut z = [0i32; BLOCK_SIZE];
     unlines(&mut z, x);
     crossed(out, &z);
 }

@@ -4,15 +4,15 @@ mod lift;
 mod pass;
 
 use crate::block::back;
-use crate::block::turn;
+use crate::block::copy;
+use crate::block::turned;
 ghost use mathlib.Core.Path.{_≡_};
-ghost use Prim.Native.Nat.{_≤_};
 ghost use lib.Dec.{T, leb};
 ghost use lib.IntN.{natAbs};
 ghost use lib.Signed.{nonNeg};
 ghost use lib.ListN.{length};
 ghost use Rattle.dct.specs.Limits.{blockSize, forwardLimit, inverseLimit};
-ghost use Rattle.dct.specs.Operation.{Small};
+ghost use Rattle.dct.specs.Call.{Small};
 ghost use Rattle.dct.specs.Block as Block;
 ghost use Rattle.dct.specs.Call as Call;
 
@@ -65,15 +65,13 @@ fn takes(given: &[i32], places: usize, limit: i32) -> bool
 }
 
 // The transform, for a caller who knows that the block is in range.
-pub fn transform(block: &[i32], out: &mut [i32])
+pub fn transform(block: &[i32]) -> [i32; BLOCK_SIZE]
     requires { ⌜ length (now block) ≡ blockSize ⌝ }
-    requires { ⌜ length (now out) ≡ blockSize ⌝ }
     requires { ⌜ Small forwardLimit (now block) ⌝ }
-    ensures { λ _. ⌜ now (out .exit) ≡ Block.transform (now (block .entry)) ⌝ }
+    ensures { λ r. ⌜ r ≡ Block.transform (now (block .entry)) ⌝ }
 {
-    let mut z = [0i32; 64];
-    turn(&mut z, block);
-    turn(out, &z);
+    let z = turned(block);
+    turned(&z)
 }
 
 fn untransform(coefs: &[i32], out: &mut [i32])
@@ -82,7 +80,7 @@ fn untransform(coefs: &[i32], out: &mut [i32])
     requires { ⌜ Small inverseLimit (now coefs) ⌝ }
     ensures { λ _. ⌜ now (out .exit) ≡ Block.transform⁻¹ (now (coefs .entry)) ⌝ }
 {
-    let mut z = [0i32; 64];
+    let mut z = [0i32; BLOCK_SIZE];
     back(&mut z, coefs);
     back(out, &z);
 }
@@ -93,7 +91,8 @@ pub fn forward(block: &[i32], out: &mut [i32]) -> u8
     ensures content { λ _. ⌜ now (out .exit) ≡ Call.later forwardLimit Block.transform (now (block .entry)) (now (out .entry)) ⌝ }
 {
     if takes(block, out.len(), FORWARD_LIMIT) {
-        transform(block, out);
+        let y = transform(block);
+        copy(out, &y);
         return 0;
     }
     refusal::VALUE

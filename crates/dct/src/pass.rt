@@ -8,7 +8,8 @@ use crate::lift::up;
 use crate::lift::up_wide;
 ghost use mathlib.Core.Path.{_≡_};
 ghost use mathlib.Core.List.{[], _∷_};
-ghost use Rattle.dct.specs.Operation.{passLimit, undoneLimit, Small, vals};
+ghost use Rattle.dct.specs.Operation.{passLimit, undoneLimit, vals};
+ghost use Rattle.dct.specs.Call.{Small};
 ghost use Rattle.dct.specs.Steps.{run, steps, undoAll};
 
 // Eight numbers: t0 to t7.

@@ -7,10 +7,13 @@ ghost use Rattle.number.specs.Root.{rootOf};
 ghost use Rattle.plane.specs.Plane.{planeOf};
 ghost use Rattle.plane.specs.Tests.{planeRefusal};
 ghost use Rattle.face.specs.Root.{rootNumber, rootWritten};
-use number::Rooted;
 
 pub mod similarity;
+pub mod squared;
 pub mod transform;
+pub mod visual;
+
+use number::Rooted;
 
 // The square root of x, written to `out`; 12 where x is not +0 or positive and finite, and `out` is as it was.
 #[no_mangle]

@@ -41,6 +41,10 @@ module _ (f : ℕ → ℕ) where
   pub sum-mono : (a b : ℕ) → a ≤ b → sumTo f a ≤ sumTo f b
   sum-mono a b l = let e : a + (b - a) ≡ b = omega arith in rw e at (sum-grows a (b - a))
 
+  -- no term is above the sum
+  pub sum-term : (n k : ℕ) → k < n → f k ≤ sumTo f n
+  sum-term n k l = omega (arith, sum-more k, sum-mono (k + 1) n (omega arith))
+
   -- a factor that every term has
   pub sum-mul : (c n : ℕ) → sumTo (λ (k : ℕ). c * f k) n ≡ c * sumTo f n
   unfolding sumTo

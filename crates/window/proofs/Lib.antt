@@ -4,3 +4,6 @@ pub mod Separable
 pub mod Five
 pub mod Folded
 pub mod Held
+pub mod Cauchy
+pub mod DemandMoments
+pub mod Demand

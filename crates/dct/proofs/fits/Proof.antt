@@ -10,8 +10,6 @@ use Rattle.dct.proofs.Size as Size
 use Rattle.dct.proofs.Range.{below, low, high, between}
 use Rattle.dct.proofs.fits.Statement.{statement}
 use Rattle.dct.proofs.fits.Tie as tie
-use Rattle.dct.proofs.fits.Reads as reads
-use Rattle.dct.proofs.fits.Lts as lts
 
 opposite : (c : tie.Start) → SFits w32 (pos 0 -ℤ c .args .limit)
 opposite c = Size.fits _ (omega (arith, size-diff (pos 0) (c .args .limit), below (c .args .limit) (c .pre) (c .fits .limit)))

@@ -1,35 +1,44 @@
--- `forward` tests and then transforms. Assumes nothing.
-use mathlib.Core.Path.{_∙_, sym}
+-- `forward` tests, transforms and copies. Assumes nothing.
+use mathlib.Core.Path.{_≡_, _∙_, ap, sym}
+use mathlib.Core.Bool.{true}
+use lib.ListN.{length}
 use borrow.Author.Needs.{needs}
 use Rattle.dct.specs.Limits.{forwardLimit}
+use Rattle.dct.specs.Call.{takes}
 use Rattle.dct.specs.Block.{transform}
-use Rattle.dct.proofs.Calls.{taken, accepted, refused}
+use Rattle.dct.proofs.Round.{length-transform}
+use Rattle.dct.proofs.Calls.{Taken, taken, accepted, refused}
 use Rattle.dct.proofs.forward.Statement.{statement}
 use Rattle.dct.proofs.forward.Tie as tie
-use Rattle.dct.proofs.forward.Reads as reads
-use Rattle.dct.proofs.forward.Lts as lts
-use Rattle.dct.proofs.takes.Reads as takes-reads
-use Rattle.dct.proofs.transform.Reads as transform-reads
+
+module _ (c : tie.Then1) where
+  passed : takes forwardLimit (c .before .before .args .block .now) (length (c .before .before .args .out .now)) ≡ true
+  passed = sym (c .before .takes .ensures) ∙ c .if1 .taken
+
+  lawful : Taken forwardLimit (c .before .before .args .block .now) (length (c .before .before .args .out .now))
+  lawful = taken _ _ _ passed
 
 takes-requires : tie.Need-takes-requires
 takes-requires c κs = search needs
 
 transform-requires : tie.Need-transform-requires
-transform-requires c κs =
-    let s = c .before .before .before in
-    let t = taken _ (s .args .block .now) _ (sym (c .before .before .takes .ensures) ∙ c .before .if1 .taken) in
-    (t .in-places, (t .out-places, t .sizes))
+transform-requires c κs = (lawful c .in-places, lawful c .sizes)
+
+slice-aggregate-copy : tie.Need-slice-aggregate-copy
+slice-aggregate-copy c = search needs
+
+copy-requires : tie.Need-copy-requires
+copy-requires c κs =
+    lawful (c .before .before .before) .out-places ∙ sym (ap length (c .before .before .transform .ensures) ∙ length-transform _)
 
 same-length : tie.Need-same-length
 same-length c = search needs
 
 returns : tie.Need-returns
 returns c =
-    let s = c .before .before .before .before .before in
-    let a =
-    accepted forwardLimit transform (s .args .block .now) (s .args .out .now)
-    (sym (c .before .before .before .before .takes .ensures) ∙ c .before .before .before .if1 .taken) in
-    (sym (a .0), c .before .transform .ensures ∙ sym (a .1))
+    let t = c .before .before .before .before .before in
+    let a = accepted forwardLimit transform (t .before .before .args .block .now) (t .before .before .args .out .now) (passed t) in
+    (sym (a .0), c .before .copy .ensures ∙ c .before .before .before .before .transform .ensures ∙ sym (a .1))
 
 returns-2 : tie.Need-returns-2
 returns-2 c =
@@ -38,4 +47,13 @@ returns-2 c =
     (sym (a .0), sym (a .1))
 
 pub forward-spec : {M : Type 1} → statement M
-forward-spec = tie.close (tie.spec takes-requires transform-requires same-length returns returns-2)
+forward-spec =
+    tie.close
+    (tie.spec
+    takes-requires
+    transform-requires
+    slice-aggregate-copy
+    copy-requires
+    same-length
+    returns
+    returns-2)

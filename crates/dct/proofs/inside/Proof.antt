@@ -1,6 +1,6 @@
 -- `inside` walks the list: what is passed is inside, so that the answer is that of the rest. Assumes nothing.
 use mathlib.Core.Path.{_≡_, refl, _∙_, ap, sym}
-use Prim.Native.Nat.{ℕ, _≤_, _-_}
+use Prim.Native.Nat.{_≤_, _-_}
 use native.Mathlib.Omega.{arith}
 use lib.IntN.{pos, natAbs}
 use lib.ListN.{length, drop, getD, drop-of-length-le}
@@ -13,9 +13,6 @@ use Rattle.dct.proofs.Size.{whole}
 use Rattle.dct.proofs.Range.{stop, next}
 use Rattle.dct.proofs.inside.Statement.{statement}
 use Rattle.dct.proofs.inside.Tie as tie
-use Rattle.dct.proofs.inside.Reads as reads
-use Rattle.dct.proofs.inside.Lts as lts
-use Rattle.dct.proofs.fits.Reads as fits-reads
 
 abbrev Inv-loop : tie.InvT-loop
 Inv-loop x limit i₀ i = (i ≤ length x) × (Call.inside (natAbs (toZ w32 limit)) x ≡ Call.inside (natAbs (toZ w32 limit)) (drop i x))

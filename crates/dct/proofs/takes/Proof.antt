@@ -1,14 +1,11 @@
 -- `takes` tests the places, then the values. Assumes nothing.
-use mathlib.Core.Path.{_∙_, sym}
+use mathlib.Core.Path.{_∙_}
 use mir.Facts.{toZ-ofZ}
 use borrow.Author.Needs.{needs}
 use borrow.Author.Tests.{eq-eqb, ne-eqb}
 use Rattle.dct.specs.Call.{takes}
 use Rattle.dct.proofs.takes.Statement.{statement}
 use Rattle.dct.proofs.takes.Tie as tie
-use Rattle.dct.proofs.takes.Reads as reads
-use Rattle.dct.proofs.takes.Lts as lts
-use Rattle.dct.proofs.inside.Reads as inside-reads
 
 returns : tie.Need-returns
 unfolding takes

@@ -1,12 +1,9 @@
+-- `back` is a turn undone: each row passed back, then rows and columns exchanged. Assumes nothing.
 use mathlib.Core.Path.{_∙_, ap}
 use Rattle.dct.specs.Block.{across, turn⁻¹}
 use borrow.Author.Needs.{needs}
 use Rattle.dct.proofs.block.back.Statement.{statement}
 use Rattle.dct.proofs.block.back.Tie as tie
-use Rattle.dct.proofs.block.back.Reads as reads
-use Rattle.dct.proofs.block.back.Lts as lts
-use Rattle.dct.proofs.block.crossed.Reads as crossed-reads
-use Rattle.dct.proofs.block.unlines.Reads as unlines-reads
 
 slice-aggregate-unlines : tie.Need-slice-aggregate-unlines
 slice-aggregate-unlines c = search needs

@@ -1,3 +1,4 @@
+-- `cross` copies a column to the front. Assumes nothing.
 use mathlib.Core.Path.{_∙_, ap}
 use mathlib.Core.List.{List, _++_}
 use lib.IntN.{ℤ}
@@ -5,13 +6,9 @@ use lib.ListN.{drop}
 use borrow.Author.Needs.{needs}
 use Rattle.dct.proofs.block.cross.Statement.{statement}
 use Rattle.dct.proofs.block.cross.Tie as tie
-use Rattle.dct.proofs.block.cross.Reads as reads
-use Rattle.dct.proofs.block.cross.Lts as lts
-use Rattle.dct.proofs.block.column.Reads as column-reads
-use Rattle.dct.proofs.block.store.Reads as store-reads
 
-column-requires : tie.Need-column-requires
-column-requires c κs = search needs
+gather-requires : tie.Need-gather-requires
+gather-requires c κs = search needs
 
 store-requires : tie.Need-store-requires
 store-requires c κs = search needs
@@ -21,7 +18,7 @@ same-length c = search needs
 
 returns : tie.Need-returns
 returns c =
-    c .before .store .ensures ∙ ap (λ (l : List ℤ). l ++ drop 8 (c .before .before .before .before .args .out .now)) (c .before .before .before .column .ensures)
+    c .before .store .ensures ∙ ap (λ (l : List ℤ). l ++ drop 8 (c .before .before .before .before .args .out .now)) (c .before .before .before .gather .ensures)
 
 pub cross-spec : {M : Type 1} → statement M
-cross-spec = tie.close (tie.spec column-requires store-requires same-length returns)
+cross-spec = tie.close (tie.spec gather-requires store-requires same-length returns)

@@ -1,6 +1,7 @@
-use mathlib.Core.Path.{_≡_, refl, _∙_, ap, sym}
+-- `crossed` exchanges rows and columns: after i rounds the first i rows are written. Assumes nothing.
+use mathlib.Core.Path.{_≡_, refl, _∙_, ap}
 use mathlib.Core.List.{List, _++_}
-use Prim.Native.Nat.{ℕ, _≤_, _*_, _-_}
+use Prim.Native.Nat.{_≤_, _*_, _-_}
 use native.Mathlib.Omega.{arith}
 use lib.IntN.{ℤ}
 use lib.ListN.{length, drop, length-take, length-drop}
@@ -9,9 +10,6 @@ use Rattle.dct.proofs.Blocks.{rows-more, rows-all}
 use Rattle.dct.specs.Block.{column, rows, across}
 use Rattle.dct.proofs.block.crossed.Statement.{statement}
 use Rattle.dct.proofs.block.crossed.Tie as tie
-use Rattle.dct.proofs.block.crossed.Reads as reads
-use Rattle.dct.proofs.block.crossed.Lts as lts
-use Rattle.dct.proofs.block.cross.Reads as cross-reads
 
 abbrev Inv-loop : tie.InvT-loop
 Inv-loop out₀ x i₀ out i = (i ≤ 8) × (length out ≡ length out₀) × (out ≡ rows (λ k. column k x) i ++ drop (8 * i) out₀)

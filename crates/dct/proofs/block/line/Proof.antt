@@ -4,20 +4,36 @@ use mathlib.Core.List.{List, _++_}
 use lib.IntN.{ℤ}
 use lib.ListN.{drop}
 use borrow.Author.Needs.{needs}
-use Rattle.dct.specs.Operation.{passLimit, Small}
+use Rattle.dct.specs.Operation.{passLimit}
+use Rattle.dct.specs.Call.{Small}
 use Rattle.dct.specs.Steps.{run, steps}
 use Rattle.dct.specs.Block.{line, places}
 use Rattle.dct.proofs.Size.{read, whole8}
 use Rattle.dct.proofs.block.line.Statement.{statement}
 use Rattle.dct.proofs.block.line.Tie as tie
 
-column-requires : tie.Need-column-requires
-column-requires c κs = search needs
+gather-requires : tie.Need-gather-requires
+gather-requires c κs = search needs
 
 forward-requires : tie.Need-forward-requires
 forward-requires c κs =
-    let w = subst (Small passLimit) (sym (c .before .before .before .before .before .before .before .before .column .ensures)) (c .before .before .before .before .before .before .before .before .before .pre .1 .1 .1) in
-    (read (w .0), (read (w .1 .1 .1 .1 .1 .1 .1 .0), (read (w .1 .1 .0), (read (w .1 .1 .1 .1 .1 .0), (read (w .1 .0), (read (w .1 .1 .1 .1 .1 .1 .0), (read (w .1 .1 .1 .0), (read (w .1 .1 .1 .1 .0), tt))))))))
+    let d = c .before .before .before .before .before .before .before .before in
+    let w = subst (Small passLimit) (sym (d .gather .ensures)) (d .before .pre .1 .1 .1) in (
+      read (w .0),
+      (
+        read (w .1 .1 .1 .1 .1 .1 .1 .0),
+        (
+          read (w .1 .1 .0),
+          (
+            read (w .1 .1 .1 .1 .1 .0),
+            (
+              read (w .1 .0),
+              (read (w .1 .1 .1 .1 .1 .1 .0), (read (w .1 .1 .1 .0), (read (w .1 .1 .1 .1 .0), tt))),
+            ),
+          ),
+        ),
+      ),
+    )
 
 store-requires : tie.Need-store-requires
 store-requires c κs = c .before .before .before .before .before .before .before .before .before .before .before .pre .1 .1 .0
@@ -29,10 +45,14 @@ returns : tie.Need-returns
 unfolding line
 returns c =
     let a = c .before .before .before .before .struct-told8 .given in
+    let d = c .before .before .before .before .before .before .before .before .before .before .before .before in
     c .before .store .ensures
-    ∙ ap (λ (l : List ℤ). l ++ drop 8 (c .before .before .before .before .before .before .before .before .before .before .before .before .before .args .out .now))
+    ∙ ap (λ (l : List ℤ). l ++ drop 8 (d .before .args .out .now))
     (c .before .before .before .forward .ensures
-    ∙ ap (run steps) (whole8 _ _ _ _ _ _ _ _ (a .0 .1) (a .1 .1 .1 .1 .1 .1 .1 .0 .1) (a .1 .1 .0 .1) (a .1 .1 .1 .1 .1 .0 .1) (a .1 .0 .1) (a .1 .1 .1 .1 .1 .1 .0 .1) (a .1 .1 .1 .0 .1) (a .1 .1 .1 .1 .0 .1) ∙ ap places (c .before .before .before .before .before .before .before .before .before .before .before .before .column .ensures)))
+    ∙ ap (run steps)
+    (whole8 _ _ _ _ _ _ _ _ (a .0 .1) (a .1 .1 .1 .1 .1 .1 .1 .0 .1) (a .1 .1 .0 .1) (a .1 .1 .1 .1 .1 .0 .1) (a .1 .0 .1)
+    (a .1 .1 .1 .1 .1 .1 .0 .1) (a .1 .1 .1 .0 .1) (a .1 .1 .1 .1 .0 .1)
+    ∙ ap places (d .gather .ensures)))
 
 pub line-spec : {M : Type 1} → statement M
-line-spec = tie.close (tie.spec column-requires forward-requires store-requires same-length returns)
+line-spec = tie.close (tie.spec gather-requires forward-requires store-requires same-length returns)

@@ -1,3 +1,4 @@
+-- `store` writes the eight numbers over the first eight. Assumes nothing.
 use borrow.Author.Needs.{needs, sfits-of}
 use native.Mathlib.Omega.{arith}
 use lib.ListN.{length-set}
@@ -5,8 +6,6 @@ use mir.Facts.{toZ-ofZ}
 use Rattle.dct.proofs.Blocks.{eight-set}
 use Rattle.dct.proofs.block.store.Statement.{statement}
 use Rattle.dct.proofs.block.store.Tie as tie
-use Rattle.dct.proofs.block.store.Reads as reads
-use Rattle.dct.proofs.block.store.Lts as lts
 
 slice-set-from-y0 : tie.Need-slice-set-from-y0
 slice-set-from-y0 c = search needs
@@ -37,9 +36,19 @@ same-length c = simp length-set
 
 returns : tie.Need-returns
 returns c =
+    let s = c .before .before .before .before .before .before .before .before in
     let t = c .struct-told8 .given in
-    rw (toZ-ofZ (sfits-of (t .0 .1)), toZ-ofZ (sfits-of (t .1 .0 .1)), toZ-ofZ (sfits-of (t .1 .1 .0 .1)), toZ-ofZ (sfits-of (t .1 .1 .1 .0 .1)), toZ-ofZ (sfits-of (t .1 .1 .1 .1 .0 .1)), toZ-ofZ (sfits-of (t .1 .1 .1 .1 .1 .0 .1)), toZ-ofZ (sfits-of (t .1 .1 .1 .1 .1 .1 .0 .1)), toZ-ofZ (sfits-of (t .1 .1 .1 .1 .1 .1 .1 .0 .1)))
-    (eight-set (c .before .before .before .before .before .before .before .before .args .out .now) _ _ _ _ _ _ _ _ (c .before .before .before .before .before .before .before .before .pre))
+    rw (
+      toZ-ofZ (sfits-of (t .0 .1)),
+      toZ-ofZ (sfits-of (t .1 .0 .1)),
+      toZ-ofZ (sfits-of (t .1 .1 .0 .1)),
+      toZ-ofZ (sfits-of (t .1 .1 .1 .0 .1)),
+      toZ-ofZ (sfits-of (t .1 .1 .1 .1 .0 .1)),
+      toZ-ofZ (sfits-of (t .1 .1 .1 .1 .1 .0 .1)),
+      toZ-ofZ (sfits-of (t .1 .1 .1 .1 .1 .1 .0 .1)),
+      toZ-ofZ (sfits-of (t .1 .1 .1 .1 .1 .1 .1 .0 .1)),
+    )
+    (eight-set (s .args .out .now) _ _ _ _ _ _ _ _ (s .pre))
 
 pub store-spec : {M : Type 1} → statement M
 store-spec =

@@ -1,6 +1,7 @@
-use mathlib.Core.Path.{_≡_, refl, _∙_, ap, sym}
+-- `turn` passes each column to its row: after i rounds the first i rows are written. Assumes nothing.
+use mathlib.Core.Path.{_≡_, refl, _∙_, ap}
 use mathlib.Core.List.{List, _++_}
-use Prim.Native.Nat.{ℕ, _≤_, _*_, _-_}
+use Prim.Native.Nat.{_≤_, _*_, _-_}
 use native.Mathlib.Omega.{arith}
 use lib.IntN.{ℤ}
 use lib.ListN.{length, drop, length-take, length-drop}
@@ -10,9 +11,6 @@ use Rattle.dct.specs.Block.{line, column, rows, turn}
 use Rattle.dct.specs.Operation.{passLimit}
 use Rattle.dct.proofs.block.turn.Statement.{statement}
 use Rattle.dct.proofs.block.turn.Tie as tie
-use Rattle.dct.proofs.block.turn.Reads as reads
-use Rattle.dct.proofs.block.turn.Lts as lts
-use Rattle.dct.proofs.block.line.Reads as line-reads
 
 abbrev Inv-loop : tie.InvT-loop
 Inv-loop out₀ x i₀ out i = (i ≤ 8) × (length out ≡ length out₀) × (out ≡ rows (λ k. line (column k x)) i ++ drop (8 * i) out₀)

@@ -1,6 +1,7 @@
-use mathlib.Core.Path.{_≡_, refl, _∙_, ap, sym}
+-- `unlines` passes each row back to its row: after i rounds the first i rows are written. Assumes nothing.
+use mathlib.Core.Path.{_≡_, refl, _∙_, ap}
 use mathlib.Core.List.{List, _++_}
-use Prim.Native.Nat.{ℕ, _≤_, _*_, _-_}
+use Prim.Native.Nat.{_≤_, _*_, _-_}
 use native.Mathlib.Omega.{arith}
 use lib.IntN.{ℤ}
 use lib.ListN.{length, drop, length-take, length-drop}
@@ -11,9 +12,6 @@ use Rattle.dct.specs.Block.{line⁻¹, row, rows}
 use Rattle.dct.specs.Operation.{undoneLimit}
 use Rattle.dct.proofs.block.unlines.Statement.{statement}
 use Rattle.dct.proofs.block.unlines.Tie as tie
-use Rattle.dct.proofs.block.unlines.Reads as reads
-use Rattle.dct.proofs.block.unlines.Lts as lts
-use Rattle.dct.proofs.block.unline.Reads as unline-reads
 
 abbrev Inv-loop : tie.InvT-loop
 Inv-loop out₀ x i₀ out i = (i ≤ 8) × (length out ≡ length out₀) × (out ≡ rows (λ k. line⁻¹ (row k x)) i ++ drop (8 * i) out₀)

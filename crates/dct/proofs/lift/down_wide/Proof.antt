@@ -1,3 +1,4 @@
+-- `down_wide` takes [y b s] away. Assumes nothing.
 use mathlib.Core.Path.{_∙_}
 use native.Mathlib.Omega.{arith}
 use borrow.Author.Needs.{needs}

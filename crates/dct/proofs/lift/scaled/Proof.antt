@@ -1,7 +1,7 @@
 -- `scaled` gives [a b s]. Assumes nothing.
 use mathlib.Core.Path.{_≡_}
 use native.Mathlib.Omega.{arith}
-use Prim.Native.Nat.{_<_, _≤_, _^_, _-_}
+use Prim.Native.Nat.{_≤_, _^_, _-_}
 use lib.Dec.{ltb→lt, leb→le}
 use lib.IntN.{pos, _+ℤ_, _*ℤ_, natAbs}
 use mir.Facts.{toZ-ofZ}

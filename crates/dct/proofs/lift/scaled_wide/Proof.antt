@@ -1,11 +1,11 @@
 -- `scaled_wide` gives [a b s]: the product is worked out in 64 bits. Assumes nothing.
 use mathlib.Core.Path.{_≡_}
 use native.Mathlib.Omega.{arith}
-use Prim.Native.Nat.{_<_, _≤_, _^_, _-_}
+use Prim.Native.Nat.{_≤_, _^_, _-_}
 use lib.Dec.{ltb→lt, leb→le}
 use lib.IntN.{pos, _+ℤ_, _*ℤ_, natAbs}
 use mir.Facts.{toZ-ofZ}
-use mir.Syntax.{w32, w64}
+use mir.Syntax.{w64}
 use mir.Val.{SFits}
 use Rattle.dct.specs.Steps.{part}
 use Rattle.dct.proofs.Size.{fits, fits64, size-fits, answer, size-part, product-fits, rounded-fits, half-of}

@@ -1,3 +1,4 @@
+-- `up` adds [y b s]. Assumes nothing.
 use mathlib.Core.Path.{_∙_}
 use native.Mathlib.Omega.{arith}
 use borrow.Author.Needs.{needs}

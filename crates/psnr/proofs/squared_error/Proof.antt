@@ -1,0 +1,95 @@
+-- `psnr::squared_error` meets its contract. Assumes nothing.
+use mathlib.Core.Path.{_≡_, refl, sym, _∙_}
+use mathlib.Core.List.{[], _∷_}
+use Prim.Native.Nat.{ℕ, zero, suc}
+use native.Mathlib.Nat.{lt-of-le-of-lt, le-of-lt, le-refl}
+use native.Mathlib.Omega.{arith}
+use borrow.Author.Needs.{needs}
+use denote.Ref.{now}
+use Rattle.plane.specs.Plane.{Plane, planeOf, samplesOf}
+use Rattle.plane.specs.Tests.{planeRefusal}
+use Rattle.plane.specs.Lawful.{Accepted}
+use Rattle.plane.proofs.Accept.{accepted}
+use Rattle.plane.proofs.Depth.{depth-small}
+use Rattle.psnr.specs.declared.Record.{Record}
+use Rattle.psnr.specs.declared.SquaredError.the-variants.{Differs, Identical, Refused}
+use Rattle.psnr.specs.Limits.{totalLimit}
+use Rattle.psnr.specs.Squared.{compared, squaredErrorOf}
+use Rattle.psnr.proofs.Squares.{walkable, error-below, count-le, count-fits}
+use Rattle.psnr.proofs.squared_error.Statement.{statement}
+use Rattle.psnr.proofs.squared_error.Tie as tie
+
+-- the answer by its cases
+refused : (k e : ℕ) (r : Record) → (k ≡ 0 → ⊥) → Refused k ≡ compared k e r
+refused zero e r n = absurd (n refl)
+refused (suc k) e r n = refl
+
+identical : (e : ℕ) (r : Record) → e ≡ 0 → Identical r ≡ compared 0 e r
+identical zero r z = refl
+identical (suc e) r z = absurd (omega arith)
+
+differs : (e : ℕ) (r : Record) → (e ≡ 0 → ⊥) → Differs r ≡ compared 0 e r
+differs zero r n = absurd (n refl)
+differs (suc e) r n = refl
+
+-- the two planes
+abbrev first : tie.Start → Plane
+first s = planeOf (samplesOf (s .args .wide) (now (s .args .a8)) (now (s .args .a16))) (s .args .stride-a)
+
+abbrev second : tie.Start → Plane
+second s = planeOf (samplesOf (s .args .wide) (now (s .args .b8)) (now (s .args .b16))) (s .args .stride-b)
+
+-- no test refuses them, past the first branch
+none : (c : tie.Else1) → let s = c .before .before .before .before .before .before in
+    planeRefusal (s .args .wide) (first s ∷ second s ∷ []) (s .args .width) (s .args .height) (s .args .depth) 0 ≡ 0
+none c = sym (c .before .check .ensures) ∙ c .if1 .left
+
+taken : (c : tie.Else1) → let s = c .before .before .before .before .before .before in
+    Accepted (s .args .wide) (first s ∷ second s ∷ []) (s .args .width) (s .args .height) (s .args .depth) 0
+taken c = accepted _ _ _ _ _ _ (none c)
+
+check-requires : tie.Need-check-requires
+check-requires c κs = search needs
+
+returns : tie.Need-returns
+unfolding squaredErrorOf
+returns c = rw (← (c .before .check .ensures)) (refused _ _ _ (c .if1 .taken))
+
+error-sum-requires : tie.Need-error-sum-requires
+error-sum-requires c κs = walkable (taken c)
+
+exact-requires : tie.Need-exact-requires
+unfolding totalLimit
+exact-requires c κs = rw (c .error-sum .ensures) (le-of-lt (error-below (walkable (taken (c .before))) _ (le-refl _)))
+
+mul-t16 : tie.Need-mul-t16
+mul-t16 c =
+    let a = taken (c .before .before) in record { fits = lt-of-le-of-lt (count-le (a .width-most) (a .height-most)) count-fits }
+
+sample-max-requires : tie.Need-sample-max-requires
+sample-max-requires c κs = let s = c .before .before .before .before .before .before .before .before in omega (arith, taken (c .before .before) .depth-most, depth-small (s .args .wide))
+
+returns-2 : tie.Need-returns-2
+unfolding squaredErrorOf
+returns-2 c =
+    rw (none (c .before .before .before .before), c .before .before .exact .ensures, c .before .sample-max .ensures, ← (c .before .before .before .error-sum .ensures))
+    (identical _ _ (c .if2 .taken))
+
+returns-3 : tie.Need-returns-3
+unfolding squaredErrorOf
+returns-3 c =
+    rw (none (c .before .before .before .before), c .before .before .exact .ensures, c .before .sample-max .ensures, ← (c .before .before .before .error-sum .ensures))
+    (differs _ _ (c .if2 .left))
+
+pub squared-error-spec : {M : Type 1} → statement M
+squared-error-spec =
+    tie.close
+    (tie.spec
+    check-requires
+    returns
+    error-sum-requires
+    exact-requires
+    mul-t16
+    sample-max-requires
+    returns-2
+    returns-3)

@@ -1,0 +1,42 @@
+-- Document 01, "When the desk says no": which record is bad. Each test is true where the record is not bad by it. Definitions only.
+use mathlib.Core.Bool.{Bool, true, false, _&&_, _||_}
+use Prim.Native.Nat.{ℕ, zero, suc, _+_, _*_}
+use lib.Dec.{eqb, leb}
+use lib.Ieee.{Float, binary64, inUnsigned, toUnsigned}
+use Rattle.plane.specs.Limits.{mostDepth}
+use Rattle.plane.specs.Plane.{maxOf}
+use Rattle.psnr.specs.declared.Record.{Record}
+use Rattle.psnr.specs.Limits.{countLimit}
+
+-- e is a whole number from 0 to 2 ^ 53; minus zero and not-a-number are none
+abbrev pub isWhole : Float → Bool
+isWhole e = inUnsigned binary64 64 e
+
+-- which one it is
+abbrev pub wholeOf : Float → ℕ
+wholeOf e = toUnsigned 64 e
+
+-- f holds at some index below n
+unfoldable pub someTo : (ℕ → Bool) → ℕ → Bool
+someTo f zero = false
+someTo f (suc n) = someTo f n || f n
+
+-- n is not outside 1 to its limit
+unfoldable pub countSuits : ℕ → Bool
+countSuits n = leb 1 n && leb n countLimit
+
+-- max is 2^d - 1 for a d from 1 to 12
+unfoldable pub maxSuits : ℕ → Bool
+maxSuits max = someTo (λ (i : ℕ). eqb max (maxOf (i + 1))) (mostDepth true)
+
+-- the squared error is a whole number from 0 to `most`
+unfoldable pub errorSuits : ℕ → Float → Bool
+errorSuits most e = isWhole e && leb (wholeOf e) most
+
+-- the record is not bad by itself: most is n × max², which stays below 2 ^ 53 (`squares-fit`)
+unfoldable pub lawful : Record → Bool
+lawful r = countSuits (r .n) && maxSuits (r .«sample_max») && errorSuits (r .n * (r .«sample_max» * r .«sample_max»)) (r .«sq_err»)
+
+-- nor by a max unlike the first record's
+unfoldable pub joins : ℕ → Record → Bool
+joins max r = lawful r && eqb (r .«sample_max») max

@@ -1,0 +1,241 @@
+// Squared error of two planes, the record that keeps it, and a series of records; after psnr.rs. Document 01, "Squared error".
+ghost use mathlib.Core.Path.{_≡_};
+ghost use mathlib.Core.Bool.{true, false};
+ghost use Rattle.plane.specs.Plane.{planeOf, samplesOf};
+ghost use Rattle.psnr.specs.Squared.{squaredErrorOf};
+ghost use Rattle.psnr.specs.Series.{seriesOf};
+ghost use Rattle.psnr.specs.Fold.{addOf, startOf, stepOf, finishOf};
+
+pub mod judge;
+pub mod walk;
+
+// The most records of a series.
+pub const RECORD_LIMIT: u64 = 65536;
+// The largest total, up to which every whole number is a double.
+pub const TOTAL_LIMIT: u64 = 0x20_0000_0000_0000;
+
+// What a comparison of two planes leaves. The error is a whole number below 2^53.
+#[repr(C)]
+pub struct Record {
+    pub sq_err: f64,
+    pub n: u64,
+    pub sample_max: u32,
+}
+
+// What asking for a squared error answers. Identical says "identical, 100" beside its record.
+pub enum SquaredError {
+    Differs(Record),
+    Identical(Record),
+    Refused(u8),
+}
+
+// The errors and counts of a series, under its one max.
+pub struct Total {
+    pub sq_err: f64,
+    pub n: u64,
+    pub sample_max: u32,
+}
+
+// What a series answers. Identical says "identical, 100" beside its total.
+pub enum Summed {
+    Differs(Total),
+    Identical(Total),
+    Refused(u8),
+}
+
+// A series so far, in whole numbers: how many records, and what they add up to. An error above TOTAL_LIMIT is kept as one above it.
+pub struct Sums {
+    pub records: u64,
+    pub error: u64,
+    pub n: u64,
+    pub sample_max: u32,
+}
+
+// No record yet; sound ones only; or a bad one or one too many among them.
+pub enum Run {
+    Empty,
+    Sound(Sums),
+    Spoiled,
+}
+
+// The squared error of two planes of either width, the samples of each as bytes and as words.
+fn squared_error(
+    a8: &[u8],
+    a16: &[u16],
+    b8: &[u8],
+    b16: &[u16],
+    wide: bool,
+    width: usize,
+    height: usize,
+    stride_a: usize,
+    stride_b: usize,
+    depth: u32,
+) -> SquaredError
+    ensures { λ r. ⌜ r ≡ squaredErrorOf wide (planeOf (samplesOf wide (now (a8 .entry)) (now (a16 .entry))) «stride_a»)
+        (planeOf (samplesOf wide (now (b8 .entry)) (now (b16 .entry))) «stride_b») width height depth ⌝ }
+{
+    let no = plane::check(
+        a8,
+        a16,
+        b8,
+        b16,
+        wide,
+        width,
+        height,
+        stride_a,
+        stride_b,
+        depth,
+        0,
+    );
+    if no != 0 {
+        return SquaredError::Refused(no);
+    }
+    let error = walk::error_sum(a8, a16, b8, b16, wide, width, height, stride_a, stride_b);
+    let record = Record {
+        sq_err: number::exact(error),
+        n: (width * height) as u64,
+        sample_max: plane::sample_max(depth),
+    };
+    if error == 0 {
+        SquaredError::Identical(record)
+    } else {
+        SquaredError::Differs(record)
+    }
+}
+
+// The squared error of two planes of bytes.
+pub fn squared_error8(
+    a: &[u8],
+    b: &[u8],
+    width: usize,
+    height: usize,
+    stride_a: usize,
+    stride_b: usize,
+    depth: u32,
+) -> SquaredError
+    ensures { λ r. ⌜ r ≡ squaredErrorOf false (planeOf (now (a .entry)) «stride_a») (planeOf (now (b .entry)) «stride_b»)
+        width height depth ⌝ }
+{
+    squared_error(
+        a,
+        &[0u16; 0],
+        b,
+        &[0u16; 0],
+        false,
+        width,
+        height,
+        stride_a,
+        stride_b,
+        depth,
+    )
+}
+
+// The same of words.
+pub fn squared_error16(
+    a: &[u16],
+    b: &[u16],
+    width: usize,
+    height: usize,
+    stride_a: usize,
+    stride_b: usize,
+    depth: u32,
+) -> SquaredError
+    ensures { λ r. ⌜ r ≡ squaredErrorOf true (planeOf (now (a .entry)) «stride_a») (planeOf (now (b .entry)) «stride_b»)
+        width height depth ⌝ }
+{
+    squared_error(
+        &[0u8; 0],
+        a,
+        &[0u8; 0],
+        b,
+        true,
+        width,
+        height,
+        stride_a,
+        stride_b,
+        depth,
+    )
+}
+
+// One record more, whatever the sums so far may be.
+pub fn add_record(s: Sums, r: Record) -> Run
+    ensures { λ t. ⌜ t ≡ addOf s r ⌝ }
+{
+    if s.records >= RECORD_LIMIT {
+        return Run::Spoiled;
+    }
+    if !judge::joins(s.sample_max, r) {
+        return Run::Spoiled;
+    }
+    Run::Sound(Sums {
+        records: s.records + 1,
+        error: judge::capped_sum(s.error, r.sq_err as u64, TOTAL_LIMIT + 1),
+        n: judge::capped_sum(s.n, r.n, RECORD_LIMIT * judge::COUNT_LIMIT),
+        sample_max: s.sample_max,
+    })
+}
+
+// A series of no records.
+pub fn start() -> Run
+    ensures { λ s. ⌜ s ≡ startOf ⌝ }
+{
+    Run::Empty
+}
+
+// A series with one record more. What is spoiled stays so: the walk over a run then has no branch but its own.
+pub fn step(s: Run, r: Record) -> Run
+    ensures { λ t. ⌜ t ≡ stepOf s r ⌝ }
+{
+    match s {
+        Run::Empty => add_record(
+            Sums {
+                records: 0,
+                error: 0,
+                n: 0,
+                sample_max: r.sample_max,
+            },
+            r,
+        ),
+        Run::Sound(t) => add_record(t, r),
+        Run::Spoiled => Run::Spoiled,
+    }
+}
+
+// What the series answers once its last record has come.
+pub fn finish(s: Run) -> Summed
+    ensures { λ a. ⌜ a ≡ finishOf s ⌝ }
+{
+    match s {
+        Run::Empty => Summed::Refused(refusal::RECORD),
+        Run::Sound(t) => {
+            if t.error > TOTAL_LIMIT {
+                return Summed::Refused(refusal::TOTAL);
+            }
+            let total = Total {
+                sq_err: number::exact(t.error),
+                n: t.n,
+                sample_max: t.sample_max,
+            };
+            if t.error == 0 {
+                Summed::Identical(total)
+            } else {
+                Summed::Differs(total)
+            }
+        }
+        Run::Spoiled => Summed::Refused(refusal::RECORD),
+    }
+}
+
+// The total of a lent run of records.
+pub fn series(records: &[Record]) -> Summed
+    ensures { λ a. ⌜ a ≡ seriesOf (now (records .entry)) ⌝ }
+{
+    let mut a = start();
+    let mut i = 0;
+    while i < records.len() {
+        let r = records[i];
+        a = step(a, r);
+        i += 1;
+    }
+    finish(a)
+}
