@@ -20,7 +20,8 @@ use Rattle.window.specs.Kernel.{mostTaps, lawful, lentTotal}
 use Rattle.window.specs.Columns.{columnsOf, mostSample}
 use Rattle.window.proofs.KernelSays.{kernel-says, kernel-serves, lent-total}
 use Rattle.ssim.specs.Scratch.{linesOf, placesOf, scratchAfter}
-use Rattle.ssim.specs.Answer.{lentTests, ssimRefusal, Sound, answerFor}
+use Rattle.ssim.specs.Answer.{lentTests, ssimRefusal, answerFor}
+use Rattle.ssim.specs.Sound.{Sound}
 use Rattle.ssim.specs.declared.Ssim.{Ssim}
 use Rattle.ssim.specs.declared.Ssim.the-variants.{Refused}
 use Rattle.ssim.proofs.Powers.{lines-reach}

@@ -1,8 +1,7 @@
 -- Document 01: the answer of SSIM for every case, the pair or the lowest refusal of 1 2 4 5 6 7 8, then 9. Definitions only.
 use mathlib.Core.Bool.{Bool, true, false, _&&_}
 use mathlib.Core.List.{List, [], _∷_, _++_}
-use mathlib.Core.Path.{_≡_}
-use Prim.Native.Nat.{ℕ, zero, suc, _*_, _≤_, _<_}
+use Prim.Native.Nat.{ℕ, zero, suc, _*_}
 use lib.Dec.{leb}
 use lib.Ieee.{Float}
 use lib.Ieee.Scale as Scale
@@ -10,13 +9,10 @@ use lib.ListN.{length}
 use Rattle.refusal.specs.Numbers.{kernelNo, scratchNo, notFiniteNo}
 use Rattle.refusal.specs.First.{firstBroken}
 use Rattle.number.specs.Steps.{_⊘_, double}
-use Rattle.plane.specs.Limits.{sideLimit}
-use Rattle.plane.specs.Plane.{Plane, maxOf, needed}
-use Rattle.plane.specs.Sums.{sumTo}
+use Rattle.plane.specs.Plane.{Plane, maxOf}
 use Rattle.plane.specs.Tests.{planeTests}
-use Rattle.window.specs.Kernel.{tap, mostTaps, lawful, lentTotal}
-use Rattle.window.specs.Parts.{Kernel}
-use Rattle.window.specs.Columns.{viewOf, columnsOf}
+use Rattle.window.specs.Kernel.{lawful, lentTotal}
+use Rattle.window.specs.Columns.{viewOf}
 use Rattle.ssim.specs.Score.{totalsOf}
 use Rattle.ssim.specs.Scratch.{placesOf}
 use Rattle.ssim.specs.declared.Ssim.{Ssim}
@@ -33,20 +29,6 @@ lentTests width ker places = (kernelNo, lawful lentTotal ker) ∷ (scratchNo, le
 abbrev pub ssimRefusal : Bool → List Plane → ℕ → ℕ → ℕ → List ℕ → ℕ → ℕ
 ssimRefusal wide planes width height depth ker places =
     firstBroken (planeTests wide planes width height depth 0 ++ lentTests width ker places)
-
--- what the score asks of its input; where no test refuses, it holds
-pub record Sound (a b : Plane) (width height depth : ℕ) (ker : List ℕ) (lent : ℕ) : Type 0 where
-  pub taps-least : 1 ≤ length ker
-  pub taps-most : length ker ≤ mostTaps
-  pub width-most : width ≤ sideLimit
-  pub height-most : height ≤ sideLimit
-  pub depth-most : depth < 32
-  pub kernel : Kernel ker
-  pub total : lentTotal ≡ sumTo (tap ker) (length ker)
-  pub long-a : needed width height (a .stride) ≤ length (a .samples)
-  pub long-b : needed width height (b .stride) ≤ length (b .samples)
-  pub lent-enough : placesOf width (length ker) ≤ lent
-  pub columns-fit : 5 * columnsOf ker width ≤ placesOf width (length ker)
 
 -- ---- the answer
 

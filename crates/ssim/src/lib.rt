@@ -9,7 +9,8 @@ ghost use Rattle.plane.specs.Limits.{sideLimit};
 ghost use Rattle.plane.specs.Plane.{planeOf, samplesOf};
 ghost use Rattle.window.specs.Kernel.{mostTaps};
 ghost use Rattle.ssim.specs.Scratch.{grownOf, linesOf, placesOf, cleared, scratchAfter};
-ghost use Rattle.ssim.specs.Answer.{ssimRefusal, Sound, scoreOf, ssimOf};
+ghost use Rattle.ssim.specs.Answer.{ssimRefusal, scoreOf, ssimOf};
+ghost use Rattle.ssim.specs.Sound.{Sound};
 
 pub mod score;
 pub mod walk;

@@ -34,7 +34,7 @@ foldedOf ker g x n =
     let off = length ker / 2 in
     tap ker off * g (x + off) + sumTo (λ (k : ℕ). tap ker k * (g (x + k) + g (x + 2 * off - k))) n
 
--- What the sums need of a kernel. Any lawful kernel has it, lent or fixed (`kernel-says`).
+-- What the sums need of a kernel. Any lawful kernel has it, lent or fixed (`kernel-serves`).
 pub record Kernel (ker : List ℕ) : Type 0 where
   pub odd : length ker ≡ 2 * (length ker / 2) + 1
   pub short : length ker ≤ mostTaps

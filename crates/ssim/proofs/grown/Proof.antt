@@ -10,10 +10,10 @@ mul-result : tie.Need-mul-result
 mul-result c = omega (arith, taps-room)
 
 returns : tie.Need-returns
-returns c = sym (grown-below _ _ (c .if1 .taken))
+returns c = sym (grown-below _ _ (omega arith))
 
 returns-2 : tie.Need-returns-2
-returns-2 c = sym (grown-there _ _ (c .if1 .left))
+returns-2 c = sym (grown-there _ _ (omega arith))
 
 pub grown-spec : {M : Type 1} → statement M
 grown-spec = tie.close (tie.spec mul-result returns returns-2)

@@ -1,7 +1,7 @@
 -- `window::row::weight` meets its contract. Assumes nothing.
 use mathlib.Core.Path.{sym, _∙_}
 use native.Mathlib.Omega.{arith}
-use Prim.Native.Nat.{_+_, _/_}
+use Prim.Native.Nat.{_+_, _/_, _≤_, _<_}
 use denote.Ref.{now}
 use lib.Dec.{leb}
 use lib.ListN.{length}
@@ -20,8 +20,10 @@ returns : tie.Need-returns
 returns c =
     let s = c .before .before in
     let off = length (now (s .args .kernel)) / 2 in
-    let l = leb-true off (s .args .x) (and-left (leb off (s .args .x)) _ (c .if1 .taken)) in
-    let m = ltb-true (s .args .x + off) (s .args .side) (and-right (leb off (s .args .x)) _ (c .if1 .taken)) in
+    let left = and-left (leb off (s .args .x)) _ (c .if1 .taken) in
+    let right = and-right (leb off (s .args .x)) _ (c .if1 .taken) in
+    let l : off ≤ s .args .x = omega (arith, leb-true) in
+    let m : s .args .x + off < s .args .side = omega (arith, leb-true, ltb-true) in
     s .pre .1 .1 ∙ sym (weight-whole _ _ _ (s .pre .1 .0) l m)
 
 taps-inside-requires : tie.Need-taps-inside-requires
