@@ -236,12 +236,12 @@ fn stride(r: &mut Random, width: usize, height: usize) -> usize {
     }
 }
 
-/// The samples of one plane: flat, nearly flat, sloping, noise, the two ends, or one spike.
+/// The samples of one plane: flat, nearly flat, sloping, the two ends, one spike, noise with a flat part, or noise.
 fn picture(r: &mut Random, width: usize, height: usize, max: usize) -> Vec<u16> {
     let count = width * height;
     let base = r.below(max + 1);
     let base = r.pick(&[0, max, base, base]);
-    match r.below(7) {
+    match r.below(8) {
         0 => vec![base as u16; count],
         1 => {
             let span = r.pick(&[1, 2, 5]);
@@ -253,6 +253,11 @@ fn picture(r: &mut Random, width: usize, height: usize, max: usize) -> Vec<u16> 
             let mut list = vec![base as u16; count];
             list[r.below(count)] = r.below(max + 1) as u16;
             list
+        }
+        5 => {
+            let (left, top) = (r.below(width), r.below(height));
+            let flat = |i: usize| i % width >= left && i / width >= top;
+            (0..count).map(|i| if flat(i) { base } else { r.below(max + 1) } as u16).collect()
         }
         _ => (0..count).map(|_| r.below(max + 1) as u16).collect(),
     }
