@@ -168,7 +168,10 @@ fn listed() -> Vec<(Pair, usize)> {
         }
         let max = (1 << depth) - 1;
         let flat = |value: u16| vec![value; 22 * 15];
-        list.extend([[0, 0], [max, max], [max, 0], [0, max], [max / 2, max]].map(|[a, b]| (Pair::plain(depth, 22, [flat(a), flat(b)]), kind)));
+        list.extend(
+            [[0, 0], [max, max], [max, 0], [0, max], [max / 2, max]]
+                .map(|[a, b]| (Pair::plain(depth, 22, [flat(a), flat(b)]), kind)),
+        );
         for at in [0, 1, 7, 8, 21, 22 * 7 + 7, 22 * 8 + 8, 22 * 15 - 1] {
             let mut one = flat(max / 2);
             one[at] = max;

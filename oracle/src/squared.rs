@@ -102,7 +102,16 @@ impl Family for Errors {
         let (now, then) = (left, wanted.1);
         Err(format!(
             "answered {} and left {} ({:#018X}) {} {}, not {} and {} ({:#018X}) {} {}",
-            answer, error(now.0), now.0, now.1, now.2, wanted.0, error(then.0), then.0, then.1, then.2
+            answer,
+            error(now.0),
+            now.0,
+            now.1,
+            now.2,
+            wanted.0,
+            error(then.0),
+            then.0,
+            then.1,
+            then.2
         ))
     }
 
@@ -162,7 +171,8 @@ fn listed() -> Vec<Pair> {
 fn largest() -> bool {
     const SIDE: usize = 8_192;
     let (a, b) = (vec![4_095u16; SIDE * SIDE], vec![0u16; SIDE * SIDE]);
-    let shape = Pair { wide: true, depth: 12, width: SIDE, height: SIDE, strides: [SIDE; 2], samples: [vec![], vec![]] };
+    let shape =
+        Pair { wide: true, depth: 12, width: SIDE, height: SIDE, strides: [SIDE; 2], samples: [vec![], vec![]] };
     let (answer, left) = asked(fuavelino_squared_error16, &shape, &a, &b);
     let exact = 4_095 * 4_095 * (SIDE * SIDE) as u64;
     let published = record(&[Plane::new(a, SIDE, SIDE), Plane::new(b, SIDE, SIDE)], 12);
