@@ -6,21 +6,17 @@ use Prim.Native.Nat.{ℕ, zero, suc, _+_, _*_, _/_, _≤_, _<_}
 use native.Mathlib.Nat.{mul-le-mul-left, mul-add, mul-comm, mul-assoc}
 use native.Mathlib.Omega.{arith}
 use borrow.Author.Tests.{leb-true, le-leb, lt-leb}
-use lib.Dec.{leb, lit≤}
+use lib.Dec.{lit≤}
 use lib.IntN.{ℤ}
 use lib.ListN.{length, getD}
 use Rattle.refusal.specs.Numbers.{kernelNo, scratchNo}
 use Rattle.refusal.specs.First.{firstBroken}
 use Rattle.refusal.proofs.Chain.{Named, passed, stop, go-on}
-use Rattle.plane.specs.Limits.{sideLimit}
-use Rattle.plane.specs.Plane.{Plane, samplesOf, needed}
-use Rattle.plane.specs.Sums.{sumTo}
+use Rattle.plane.specs.Plane.{Plane, samplesOf}
 use Rattle.plane.specs.Tests.{planeTests, planeRefusal}
-use Rattle.plane.specs.Lawful.{Accepted}
 use Rattle.plane.proofs.Accept.{accepted, plane-named}
 use Rattle.plane.proofs.Depth.{depth-small}
-use Rattle.window.specs.Kernel.{tap, mostTaps, lawful, lentTotal}
-use Rattle.window.specs.Parts.{Kernel}
+use Rattle.window.specs.Kernel.{mostTaps, lawful, lentTotal}
 use Rattle.window.specs.Columns.{columnsOf, mostSample}
 use Rattle.window.proofs.KernelSays.{kernel-says, kernel-serves, lent-total}
 use Rattle.ssim.specs.Scratch.{linesOf, placesOf, scratchAfter}

@@ -7,11 +7,10 @@ use lib.IntN.{ℤ}
 use lib.ListN.{length}
 use borrow.Rule.Slice.PartMut.{putMid}
 use Rattle.number.proofs.Folds.{fold-more, fold-none, fold-ext}
-use Rattle.window.specs.Parts.{weightOf, momentsAt}
+use Rattle.window.specs.Parts.{weightOf}
 use Rattle.window.specs.Columns.{columnsOf, Holds, Margins, momentsIn}
 use Rattle.window.proofs.Held.{moments-same}
 use Rattle.ssim.specs.Score.{stepOf, rowOf, noneYet, totalsOf}
-use Rattle.ssim.specs.declared.Totals.{Totals}
 
 module _ (max2 : Float) (ker : List ℕ) (width height : ℕ) (a b : ℕ → ℕ → ℕ) where
   -- one row more, from its columns put back between their margins

@@ -1,15 +1,15 @@
 -- Taps over numbers that have their margins of zeros with them: folded from both ends to the middle, since a kernel is the same from
 -- both. Assumes nothing.
-use mathlib.Core.Path.{_≡_, refl, sym, ap, _∙_}
+use mathlib.Core.Path.{_≡_}
 use mathlib.Core.List.{List}
 use Prim.Native.Nat.{ℕ, _+_, _-_, _*_, _/_, _≤_, _<_, _^_}
-use native.Mathlib.Nat.{mul-add, mul-comm, mul-le-mul-left, le-trans, add-assoc}
+use native.Mathlib.Nat.{mul-add, mul-comm, mul-le-mul-left, le-trans}
 use native.Mathlib.Omega.{arith}
 use lib.ListN.{length}
 use Rattle.plane.specs.Sums.{sumTo}
 use Rattle.plane.proofs.Sums.{sum-none, sum-more, sum-mono, sum-mul, sum-le, sum-ext, sum-fold}
 use Rattle.window.specs.Kernel.{tap, fixedTotal}
-use Rattle.window.specs.Parts.{Kernel, acrossOf, foldedOf, foldsOf, fiveOf, nth, tappedOf, Room}
+use Rattle.window.specs.Parts.{Kernel, acrossOf, foldedOf, foldsOf, fiveOf, tappedOf, Room}
 use Rattle.window.specs.declared.Sums.{Sums}
 use Rattle.window.proofs.Five.{five-ext, nth-of, row-room}
 

@@ -1,5 +1,5 @@
 -- What column sums in scratch say: the moments made from them are those of the definition. Assumes nothing.
-use mathlib.Core.Path.{_≡_, refl, sym, ap, _∙_}
+use mathlib.Core.Path.{_≡_, refl, ap, _∙_}
 use mathlib.Core.List.{List, _++_}
 use Prim.Native.Nat.{ℕ, _+_, _-_, _*_, _/_, _%_, _≤_, _<_, _^_}
 use native.Mathlib.Nat.{le-trans, le-refl, ne-of-lt, add-zero}
@@ -9,12 +9,12 @@ use borrow.Rule.Slice.PartMut.{putMid, postOf}
 use borrow.Author.Count.{below-more, below-none}
 use lib.Dec.{lit<, lit≤}
 use lib.IntN.{ℤ, pos, natAbs}
-use lib.ListN.{length, getD, set, take, drop, replicate, length-set, length-drop, length-replicate, getD-replicate, List·getD-eq-default, List·getD-append}
+use lib.ListN.{length, set, take, drop, replicate, length-set, length-drop, length-replicate, getD-replicate, List·getD-eq-default, List·getD-append}
 use lib.Seq.{getD-set-same, getD-set-other, getD-append-add, getD-take, getD-drop, length-take-le}
 use Rattle.plane.proofs.Sums.{sum-ext}
 use Rattle.window.specs.Kernel.{tap}
 use Rattle.window.specs.Moments.{inside, momentAt}
-use Rattle.window.specs.Parts.{partOf, partsOf, windowOf, weightOf, acrossOf, Kernel, quantOf, fiveOf, nth, momentsAt}
+use Rattle.window.specs.Parts.{partOf, partsOf, windowOf, weightOf, acrossOf, Kernel, quantOf, nth, momentsAt}
 use Rattle.window.specs.Columns.{atZ, cellOf, columnAt, columnsOf, mostSample, Holds, Margins, Small, AllSmall, momentsIn}
 use Rattle.window.specs.declared.Sums.{Sums}
 use Rattle.window.proofs.Windows.{inside-in, inside-below, inside-above, part-le}

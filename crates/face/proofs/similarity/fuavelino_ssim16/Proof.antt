@@ -3,9 +3,6 @@ use mathlib.Core.Path.{refl}
 use borrow.Author.Needs.{needs}
 use Rattle.face.proofs.similarity.fuavelino_ssim16.Statement.{statement}
 use Rattle.face.proofs.similarity.fuavelino_ssim16.Tie as tie
-use Rattle.face.proofs.similarity.fuavelino_ssim16.Reads as reads
-use Rattle.face.proofs.similarity.fuavelino_ssim16.Lts as lts
-use Rattle.ssim.proofs.ssim16.Reads as ssim16-reads
 
 ssim16-requires : tie.Need-ssim16-requires
 ssim16-requires c κs = search needs

@@ -3,9 +3,6 @@ use mathlib.Core.Path.{refl}
 use borrow.Author.Needs.{needs}
 use Rattle.face.proofs.similarity.fuavelino_ssim8.Statement.{statement}
 use Rattle.face.proofs.similarity.fuavelino_ssim8.Tie as tie
-use Rattle.face.proofs.similarity.fuavelino_ssim8.Reads as reads
-use Rattle.face.proofs.similarity.fuavelino_ssim8.Lts as lts
-use Rattle.ssim.proofs.ssim8.Reads as ssim8-reads
 
 ssim8-requires : tie.Need-ssim8-requires
 ssim8-requires c κs = search needs

@@ -15,11 +15,6 @@ use Rattle.ssim.specs.Score.{totalsOf}
 use Rattle.ssim.proofs.Same.{totals-none, totals-more}
 use Rattle.ssim.proofs.walk.rows.Statement.{statement}
 use Rattle.ssim.proofs.walk.rows.Tie as tie
-use Rattle.ssim.proofs.walk.rows.Reads as reads
-use Rattle.ssim.proofs.walk.rows.Lts as lts
-use Rattle.ssim.proofs.walk.centres.Reads as centres-reads
-use Rattle.window.proofs.columns.fill.Reads as fill-reads
-use Rattle.window.proofs.row.weight.Reads as weight-reads
 
 abbrev Inv-loop : tie.InvT-loop
 Inv-loop cols₀ max2 kernel total a8 a16 b8 b16 wide stride-a stride-b width height start end t₀ y₀ cols t y =

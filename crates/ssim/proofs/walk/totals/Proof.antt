@@ -9,10 +9,6 @@ use lib.ListN.{length, replicate}
 use Rattle.window.proofs.Held.{margins-zero}
 use Rattle.ssim.proofs.walk.totals.Statement.{statement}
 use Rattle.ssim.proofs.walk.totals.Tie as tie
-use Rattle.ssim.proofs.walk.totals.Reads as reads
-use Rattle.ssim.proofs.walk.totals.Lts as lts
-use Rattle.ssim.proofs.walk.clear.Reads as clear-reads
-use Rattle.ssim.proofs.walk.rows.Reads as rows-reads
 
 clear-requires : tie.Need-clear-requires
 clear-requires c κs = search needs

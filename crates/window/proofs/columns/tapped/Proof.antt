@@ -4,8 +4,6 @@ use native.Mathlib.Omega.{arith}
 use lib.Dec.{lit<}
 use Rattle.window.proofs.columns.tapped.Statement.{statement}
 use Rattle.window.proofs.columns.tapped.Tie as tie
-use Rattle.window.proofs.columns.tapped.Reads as reads
-use Rattle.window.proofs.columns.tapped.Lts as lts
 
 mul-ka : tie.Need-mul-ka
 mul-ka c = omega (arith, c .pre 0 (lit< tt))

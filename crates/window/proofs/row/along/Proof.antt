@@ -11,12 +11,6 @@ use Rattle.window.proofs.Five.{nth-five}
 use Rattle.window.proofs.Folded.{folds-none, folds-more, folds-all, middle-room, folds-room}
 use Rattle.window.proofs.row.along.Statement.{statement}
 use Rattle.window.proofs.row.along.Tie as tie
-use Rattle.window.proofs.row.along.Reads as reads
-use Rattle.window.proofs.row.along.Lts as lts
-use Rattle.window.proofs.row.cells.Reads as cells-reads
-use Rattle.window.proofs.row.none.Reads as none-reads
-use Rattle.window.proofs.row.pair.Reads as pair-reads
-use Rattle.window.proofs.row.tapped.Reads as tapped-reads
 
 abbrev Inv-loop : tie.InvT-loop
 Inv-loop kernel cols n x off t₀ k₀ t k = (k ≤ length kernel / 2) × (t ≡ foldsOf kernel (cellOf cols) x k)

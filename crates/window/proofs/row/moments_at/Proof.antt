@@ -7,10 +7,6 @@ use Rattle.window.specs.Columns.{momentsIn}
 use Rattle.window.proofs.Windows.{weight-le, total-room}
 use Rattle.window.proofs.row.moments_at.Statement.{statement}
 use Rattle.window.proofs.row.moments_at.Tie as tie
-use Rattle.window.proofs.row.moments_at.Reads as reads
-use Rattle.window.proofs.row.moments_at.Lts as lts
-use Rattle.window.proofs.row.along.Reads as along-reads
-use Rattle.window.proofs.row.weight.Reads as weight-reads
 
 mul-along : tie.Need-mul-along
 mul-along c = search needs

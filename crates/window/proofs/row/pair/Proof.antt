@@ -6,9 +6,6 @@ use lib.Dec.{lit<}
 use Rattle.window.proofs.Five.{cells-low}
 use Rattle.window.proofs.row.pair.Statement.{statement}
 use Rattle.window.proofs.row.pair.Tie as tie
-use Rattle.window.proofs.row.pair.Reads as reads
-use Rattle.window.proofs.row.pair.Lts as lts
-use Rattle.window.proofs.row.cells.Reads as cells-reads
 
 cells-requires : tie.Need-cells-requires
 cells-requires c κs = search needs

@@ -4,8 +4,6 @@ use borrow.Author.Needs.{needs}
 use lib.Dec.{lit<}
 use Rattle.window.proofs.row.tapped.Statement.{statement}
 use Rattle.window.proofs.row.tapped.Tie as tie
-use Rattle.window.proofs.row.tapped.Reads as reads
-use Rattle.window.proofs.row.tapped.Lts as lts
 
 mul-mux : tie.Need-mul-mux
 mul-mux c = omega (arith, c .before .pre 0 (lit< tt))
