@@ -6,3 +6,4 @@ pub mod Taken
 pub mod Fractions
 pub mod Variance
 pub mod Quarters
+pub mod Levels

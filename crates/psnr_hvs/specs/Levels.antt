@@ -1,12 +1,10 @@
 -- What the functions that work out variances by whole numbers promise each other; the call's own contract cites none of it.
 -- Definitions only.
-use mathlib.Core.List.{List}
-use Prim.Native.Nat.{ℕ, _+_, _*_, _-_, _/_, _%_, _≤_}
+use mathlib.Core.List.{List, [], _∷_}
+use Prim.Native.Nat.{ℕ, _+_, _*_, _/_, _%_, _≤_}
 use lib.Dec.{T}
-use lib.IntN.{ℤ, pos, natAbs}
-use lib.ListN.{getD}
+use lib.IntN.{ℤ, natAbs}
 use lib.Signed.{nonNeg}
-use lib.Ieee.{Float}
 use Rattle.plane.specs.Sums.{sumTo}
 use Rattle.dct.specs.Limits.{forwardLimit}
 use Rattle.psnr_hvs.specs.Block.{cell}
@@ -17,7 +15,8 @@ pub record Sample (z : ℤ) : Type 0 where
   pub small : natAbs z ≤ forwardLimit
 
 abbrev pub Samples : List ℤ → Type 0
-Samples b = (k : ℕ) → Sample (getD b k (pos 0))
+Samples [] = Unit {0}
+Samples (a ∷ v) = Sample a × Samples v
 
 -- place k of the whole block, and of a quarter
 abbrev pub levelOf : List ℤ → ℕ → ℕ
