@@ -62,7 +62,7 @@ type Left = (u64, u64, u32);
 const BEFORE: Left = (0x7FF4_DEAD_BEEF_0001, 0x0123_4567_89AB_CDEF, 0xFEED_F00D);
 
 pub fn compare(ask: Run) -> bool {
-    let cases = if ask.full { 3_000_000 } else { 300_000 };
+    let cases = if ask.full { 1_000_000 } else { 200_000 };
     run("squared", &mut Errors { listed: listed() }, cases, ask) && (!ask.full || largest())
 }
 
