@@ -178,6 +178,10 @@ fn largest() -> bool {
     let published = record(&[Plane::new(a, SIDE, SIDE), Plane::new(b, SIDE, SIDE)], 12);
     let held = answer == 0 && left == published && f64::from_bits(left.0) as u64 == exact;
     let word = if held { "accepted and exact" } else { "FAILED" };
-    println!("squared: 8,192 by 8,192 at depth 12 with the largest error, {}: {}, {:?}", exact, word, left);
+    let error = f64::from_bits(left.0);
+    println!(
+        "squared: 8,192 by 8,192 at depth 12 with the largest error, {}: {} ({}, {}, {})",
+        exact, word, error, left.1, left.2
+    );
     held
 }
