@@ -55,7 +55,7 @@ const BEFORE: u64 = 0x7FF4_DEAD_BEEF_0001;
 const LEAST: usize = 8;
 
 pub fn compare(ask: Run) -> bool {
-    let cases = if ask.full { 3_000_000 } else { 250_000 };
+    let cases = if ask.full { 1_000_000 } else { 150_000 };
     let telling = match hvs_ways::telling() {
         Ok(list) => list,
         Err(why) => {

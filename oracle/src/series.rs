@@ -34,7 +34,7 @@ const MOST_SAMPLES: u64 = 67_108_864;
 const MOST_ERROR: u64 = 1 << 53;
 
 pub fn compare(ask: Run) -> bool {
-    let cases = if ask.full { 20_000_000 } else { 1_000_000 };
+    let cases = if ask.full { 5_000_000 } else { 1_000_000 };
     run("series", &mut Series { listed: listed() }, cases, ask)
 }
 

@@ -62,7 +62,7 @@ type Left = (u64, u64, u32);
 const BEFORE: Left = (0x7FF4_DEAD_BEEF_0001, 0x0123_4567_89AB_CDEF, 0xFEED_F00D);
 
 pub fn compare(ask: Run) -> bool {
-    let cases = if ask.full { 3_000_000 } else { 300_000 };
+    let cases = if ask.full { 1_000_000 } else { 200_000 };
     run("squared", &mut Errors { listed: listed() }, cases, ask) && (!ask.full || largest())
 }
 
@@ -178,6 +178,10 @@ fn largest() -> bool {
     let published = record(&[Plane::new(a, SIDE, SIDE), Plane::new(b, SIDE, SIDE)], 12);
     let held = answer == 0 && left == published && f64::from_bits(left.0) as u64 == exact;
     let word = if held { "accepted and exact" } else { "FAILED" };
-    println!("squared: 8,192 by 8,192 at depth 12 with the largest error, {}: {}, {:?}", exact, word, left);
+    let error = f64::from_bits(left.0);
+    println!(
+        "squared: 8,192 by 8,192 at depth 12 with the largest error, {}: {} ({}, {}, {})",
+        exact, word, error, left.1, left.2
+    );
     held
 }

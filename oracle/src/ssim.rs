@@ -69,7 +69,7 @@ const BEFORE: [u64; 2] = [0x7FF4_DEAD_BEEF_0001, 0xFFF4_DEAD_BEEF_0002];
 const ROOM: u128 = 400_000;
 
 pub fn compare(ask: Run) -> bool {
-    let cases = if ask.full { 1_500_000 } else { 150_000 };
+    let cases = if ask.full { 500_000 } else { 100_000 };
     let telling = match ssim_ways::telling() {
         Ok(list) => list,
         Err(why) => {
