@@ -55,7 +55,7 @@ const BEFORE: u64 = 0x7FF4_DEAD_BEEF_0001;
 const LEAST: usize = 8;
 
 pub fn compare(ask: Run) -> bool {
-    let cases = if ask.full { 1_000_000 } else { 100_000 };
+    let cases = if ask.full { 1_000_000 } else { 150_000 };
     let telling = match hvs_ways::telling() {
         Ok(list) => list,
         Err(why) => {
@@ -168,7 +168,10 @@ fn listed() -> Vec<(Pair, usize)> {
         }
         let max = (1 << depth) - 1;
         let flat = |value: u16| vec![value; 22 * 15];
-        list.extend([[0, 0], [max, max], [max, 0], [0, max], [max / 2, max]].map(|[a, b]| (Pair::plain(depth, 22, [flat(a), flat(b)]), kind)));
+        list.extend(
+            [[0, 0], [max, max], [max, 0], [0, max], [max / 2, max]]
+                .map(|[a, b]| (Pair::plain(depth, 22, [flat(a), flat(b)]), kind)),
+        );
         for at in [0, 1, 7, 8, 21, 22 * 7 + 7, 22 * 8 + 8, 22 * 15 - 1] {
             let mut one = flat(max / 2);
             one[at] = max;

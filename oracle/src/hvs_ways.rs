@@ -83,7 +83,8 @@ fn mask_of(coefs: &[i32], spread: f64, masks: &Table, way: Way) -> f64 {
 fn block(sum: f64, blocks: [&[i32]; 2], csf: &Table, way: Way) -> f64 {
     let masks = csf.map(|row| row.map(|c| (c * 0.3885746225901003) * (c * 0.3885746225901003)));
     let [a, b] = blocks.map(lifting::forward);
-    let [m, n] = [(&a, blocks[0]), (&b, blocks[1])].map(|(coefs, block)| mask_of(coefs, spread(block, way), &masks, way));
+    let [m, n] =
+        [(&a, blocks[0]), (&b, blocks[1])].map(|(coefs, block)| mask_of(coefs, spread(block, way), &masks, way));
     let mask = if n > m { n } else { m };
     let mut own = if way == Way::ErrorsByBlock { 0.0 } else { sum };
     for (i, j) in places(way == Way::ErrorsByColumns) {
@@ -112,7 +113,9 @@ fn score(p: &Pair, kind: usize, way: Way) -> f64 {
     };
     let mut sum = 0.0;
     for (y, x) in (0..rows * columns).map(at) {
-        let cut = |i: usize| (0..64).map(|n| i32::from(planes[i][(7 * y + n / 8) * p.width + 7 * x + n % 8])).collect::<Vec<i32>>();
+        let cut = |i: usize| {
+            (0..64).map(|n| i32::from(planes[i][(7 * y + n / 8) * p.width + 7 * x + n % 8])).collect::<Vec<i32>>()
+        };
         sum = block(sum, [&cut(0), &cut(1)], &csf, way);
     }
     let (count, most) = ((64 * rows * columns) as f64, (p.max() * p.max()) as f64);
@@ -140,7 +143,9 @@ pub fn telling() -> Result<Vec<(Pair, usize)>, String> {
 
 /// Planes by formula: sample i is i × (i × square + step), cut to the depth.
 fn formed(depth: u32, width: usize, height: usize, [a, b]: [(usize, usize); 2]) -> Pair {
-    let list = |(square, step): (usize, usize)| (0..width * height).map(|i| (i * (i * square + step) % (1 << depth)) as u16).collect();
+    let list = |(square, step): (usize, usize)| {
+        (0..width * height).map(|i| (i * (i * square + step) % (1 << depth)) as u16).collect()
+    };
     Pair::plain(depth, width, [list(a), list(b)])
 }
 

@@ -3,6 +3,8 @@
 //! judge [--full] [--seed N] [FAMILY..]
 
 mod family;
+mod hvs;
+mod hvs_ways;
 mod lifting;
 mod model;
 mod plane;
@@ -23,7 +25,7 @@ use std::process::exit;
 /// A family's name, and what runs it.
 type Named = (&'static str, fn(Run) -> bool);
 
-const FAMILIES: [Named; 7] = [
+const FAMILIES: [Named; 8] = [
     ("published", published_numbers::compare),
     ("root", root::compare),
     ("plane", plane::compare),
@@ -31,6 +33,7 @@ const FAMILIES: [Named; 7] = [
     ("squared", squared::compare),
     ("series", series::compare),
     ("ssim", ssim::compare),
+    ("hvs", hvs::compare),
 ];
 
 fn main() {

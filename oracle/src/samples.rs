@@ -16,7 +16,7 @@ pub struct Pair {
     pub samples: [Vec<u16>; 2],
 }
 
-/// Sides above this are made smaller by halves only.
+/// Planes of more samples than this are made smaller as a whole only.
 const FEW: usize = 80;
 
 impl Pair {
@@ -175,12 +175,29 @@ impl Pair {
         let width = if self.wide { "words" } else { "bytes" };
         let plane = |i: usize| {
             let list = &self.samples[i];
-            let more = if list.len() > FEW { " and more" } else { "" };
-            format!("stride {}, {} samples: {:?}{}", self.strides[i], list.len(), &list[..list.len().min(FEW)], more)
+            format!("stride {}, {} samples: {}", self.strides[i], list.len(), runs(list, |s| s.to_string()).join(" "))
         };
         let (a, b) = (plane(0), plane(1));
         format!("{} of {} by {}, depth {}\n    a: {}\n    b: {}", width, self.width, self.height, self.depth, a, b)
     }
+}
+
+/// A list in few words: what comes several times in a row is told once, and no more than a few runs are.
+pub fn runs<T>(list: &[T], show: impl Fn(&T) -> String) -> Vec<String> {
+    let mut told: Vec<(String, usize)> = Vec::new();
+    for word in list.iter().map(show) {
+        let again = matches!(told.last(), Some((last, _)) if *last == word);
+        match told.last_mut() {
+            Some((_, times)) if again => *times += 1,
+            _ => told.push((word, 1)),
+        }
+        if told.len() > 2 * FEW {
+            break;
+        }
+    }
+    let more = told.len() > 2 * FEW;
+    let words = told.into_iter().map(|(word, times)| if times > 1 { format!("{}*{}", times, word) } else { word });
+    words.chain(more.then(|| "and more".to_string())).collect()
 }
 
 /// A pair that tests 1 to 6 accept, of these sides: both widths, every depth, noise wherever nothing is seen.
@@ -219,12 +236,12 @@ fn stride(r: &mut Random, width: usize, height: usize) -> usize {
     }
 }
 
-/// The samples of one plane: flat, nearly flat, sloping, noise, the two ends, or one spike.
+/// The samples of one plane: flat, nearly flat, sloping, the two ends, one spike, noise with a flat part, or noise.
 fn picture(r: &mut Random, width: usize, height: usize, max: usize) -> Vec<u16> {
     let count = width * height;
     let base = r.below(max + 1);
     let base = r.pick(&[0, max, base, base]);
-    match r.below(7) {
+    match r.below(8) {
         0 => vec![base as u16; count],
         1 => {
             let span = r.pick(&[1, 2, 5]);
@@ -236,6 +253,11 @@ fn picture(r: &mut Random, width: usize, height: usize, max: usize) -> Vec<u16> 
             let mut list = vec![base as u16; count];
             list[r.below(count)] = r.below(max + 1) as u16;
             list
+        }
+        5 => {
+            let (left, top) = (r.below(width), r.below(height));
+            let flat = |i: usize| i % width >= left && i / width >= top;
+            (0..count).map(|i| if flat(i) { base } else { r.below(max + 1) } as u16).collect()
         }
         _ => (0..count).map(|_| r.below(max + 1) as u16).collect(),
     }

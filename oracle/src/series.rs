@@ -3,6 +3,7 @@
 use crate::family::{run, Family, Run};
 use crate::plane::less;
 use crate::random::Random;
+use crate::samples::runs;
 
 extern "C" {
     fn fuavelino_series(
@@ -33,7 +34,7 @@ const MOST_SAMPLES: u64 = 67_108_864;
 const MOST_ERROR: u64 = 1 << 53;
 
 pub fn compare(ask: Run) -> bool {
-    let cases = if ask.full { 10_000_000 } else { 1_000_000 };
+    let cases = if ask.full { 5_000_000 } else { 1_000_000 };
     run("series", &mut Series { listed: listed() }, cases, ask)
 }
 
@@ -100,7 +101,8 @@ impl Family for Series {
 
     fn smaller(&self, records: &Vec<Record>) -> Vec<Vec<Record>> {
         let count = records.len();
-        let mut list: Vec<_> = less(count).into_iter().flat_map(|n| [records[..n].to_vec(), records[count - n..].to_vec()]).collect();
+        let mut list: Vec<_> =
+            less(count).into_iter().flat_map(|n| [records[..n].to_vec(), records[count - n..].to_vec()]).collect();
         if count > 40 {
             return list;
         }
@@ -116,9 +118,8 @@ impl Family for Series {
     }
 
     fn show(&self, records: &Vec<Record>) -> String {
-        let few = &records[..records.len().min(40)];
-        let words: Vec<String> = few.iter().map(|r| format!("{} ({:#018X}) {} {}", r.sq_err, r.sq_err.to_bits(), r.n, r.sample_max)).collect();
-        format!("a series of {} records:\n    {}", records.len(), words.join("\n    "))
+        let word = |r: &Record| format!("{} ({:#018X}) {} {}", r.sq_err, r.sq_err.to_bits(), r.n, r.sample_max);
+        format!("a series of {} records:\n    {}", records.len(), runs(records, word).join("\n    "))
     }
 
     fn answers(&self) -> Vec<u8> {
@@ -235,7 +236,13 @@ fn listed() -> Vec<Vec<Record>> {
     let most = MOST_SAMPLES * 4_095 * 4_095;
     let small = Record { sq_err: 3.0, n: 7, sample_max: 255 };
     let same = Record { sq_err: 0.0, ..small };
-    let mut list = vec![vec![], vec![same], vec![same; 5], run_of(8, full(most), full(MOST_ERROR - 8 * most)), run_of(8, full(most), full(MOST_ERROR - 8 * most + 1))];
+    let mut list = vec![
+        vec![],
+        vec![same],
+        vec![same; 5],
+        run_of(8, full(most), full(MOST_ERROR - 8 * most)),
+        run_of(8, full(most), full(MOST_ERROR - 8 * most + 1)),
+    ];
     for record in [small, same, full(most), full(0)] {
         list.extend([MOST_RECORDS - 1, MOST_RECORDS, MOST_RECORDS + 1].map(|count| vec![record; count]));
     }
@@ -245,7 +252,9 @@ fn listed() -> Vec<Vec<Record>> {
     list.extend([0, 1, 5].map(|more| run_of(times, full(most), full(rest + more))));
     // a total in a double stays at 2^53 whatever ones are added
     list.push([run_of(8, full(most), full(MOST_ERROR - 8 * most)), vec![full(1); 9]].concat());
-    for (kind, series) in (0..KINDS).flat_map(|kind| bases(small, full(most), full(0)).into_iter().map(move |s| (kind, s))) {
+    for (kind, series) in
+        (0..KINDS).flat_map(|kind| bases(small, full(most), full(0)).into_iter().map(move |s| (kind, s)))
+    {
         let last = series.len() - 1;
         for at in [0, last / 2, last] {
             let mut next = series.clone();

@@ -62,7 +62,7 @@ type Left = (u64, u64, u32);
 const BEFORE: Left = (0x7FF4_DEAD_BEEF_0001, 0x0123_4567_89AB_CDEF, 0xFEED_F00D);
 
 pub fn compare(ask: Run) -> bool {
-    let cases = if ask.full { 2_000_000 } else { 250_000 };
+    let cases = if ask.full { 1_000_000 } else { 200_000 };
     run("squared", &mut Errors { listed: listed() }, cases, ask) && (!ask.full || largest())
 }
 
@@ -102,7 +102,16 @@ impl Family for Errors {
         let (now, then) = (left, wanted.1);
         Err(format!(
             "answered {} and left {} ({:#018X}) {} {}, not {} and {} ({:#018X}) {} {}",
-            answer, error(now.0), now.0, now.1, now.2, wanted.0, error(then.0), then.0, then.1, then.2
+            answer,
+            error(now.0),
+            now.0,
+            now.1,
+            now.2,
+            wanted.0,
+            error(then.0),
+            then.0,
+            then.1,
+            then.2
         ))
     }
 
@@ -162,12 +171,17 @@ fn listed() -> Vec<Pair> {
 fn largest() -> bool {
     const SIDE: usize = 8_192;
     let (a, b) = (vec![4_095u16; SIDE * SIDE], vec![0u16; SIDE * SIDE]);
-    let shape = Pair { wide: true, depth: 12, width: SIDE, height: SIDE, strides: [SIDE; 2], samples: [vec![], vec![]] };
+    let shape =
+        Pair { wide: true, depth: 12, width: SIDE, height: SIDE, strides: [SIDE; 2], samples: [vec![], vec![]] };
     let (answer, left) = asked(fuavelino_squared_error16, &shape, &a, &b);
     let exact = 4_095 * 4_095 * (SIDE * SIDE) as u64;
     let published = record(&[Plane::new(a, SIDE, SIDE), Plane::new(b, SIDE, SIDE)], 12);
     let held = answer == 0 && left == published && f64::from_bits(left.0) as u64 == exact;
     let word = if held { "accepted and exact" } else { "FAILED" };
-    println!("squared: 8,192 by 8,192 at depth 12 with the largest error, {}: {}, {:?}", exact, word, left);
+    let error = f64::from_bits(left.0);
+    println!(
+        "squared: 8,192 by 8,192 at depth 12 with the largest error, {}: {} ({}, {}, {})",
+        exact, word, error, left.1, left.2
+    );
     held
 }

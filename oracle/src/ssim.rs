@@ -69,7 +69,7 @@ const BEFORE: [u64; 2] = [0x7FF4_DEAD_BEEF_0001, 0xFFF4_DEAD_BEEF_0002];
 const ROOM: u128 = 400_000;
 
 pub fn compare(ask: Run) -> bool {
-    let cases = if ask.full { 1_000_000 } else { 100_000 };
+    let cases = if ask.full { 500_000 } else { 100_000 };
     let telling = match ssim_ways::telling() {
         Ok(list) => list,
         Err(why) => {
@@ -135,9 +135,16 @@ impl Family for Pairs {
         };
         let pairs = c.pair.smaller().into_iter().map(|pair| Case { pair, ..c.clone() });
         let kernels = smaller_kernels(&c.kernel).into_iter().map(|kernel| Case { kernel, ..c.clone() });
-        let mut list: Vec<Case> = pairs.chain(kernels).filter(|next| sizes(next).0 <= sizes(next).1).map(moved).collect();
+        let mut list: Vec<Case> =
+            pairs.chain(kernels).filter(|next| sizes(next).0 <= sizes(next).1).map(moved).collect();
         let exact = needed(c).min(c.places as u128) as usize;
-        list.extend(less(c.places).into_iter().chain([exact]).filter(|n| *n < c.places).map(|places| Case { places, ..c.clone() }));
+        list.extend(
+            less(c.places)
+                .into_iter()
+                .chain([exact])
+                .filter(|n| *n < c.places)
+                .map(|places| Case { places, ..c.clone() }),
+        );
         list
     }
 
@@ -251,10 +258,25 @@ fn unlawful() -> Vec<Vec<u16>> {
     let far = [vec![1], vec![0; 127], vec![254], vec![0; 127], vec![1]].concat();
     let ones = [vec![1; 128], vec![0], vec![1; 128]].concat();
     let mut list: Vec<Vec<u16>> = vec![vec![], far, ones, vec![0; 255], vec![257; 255]];
-    list.extend([vec![0], vec![255], vec![257], vec![512], vec![65_535], vec![128, 128], vec![0, 256], vec![64, 64, 64, 64]]);
-    list.extend([[128, 0, 128], [64, 127, 64], [64, 129, 64], [63, 128, 65], [65, 128, 63], [256, 0, 0], [0, 0, 256]].map(|k| k.to_vec()));
+    list.extend([
+        vec![0],
+        vec![255],
+        vec![257],
+        vec![512],
+        vec![65_535],
+        vec![128, 128],
+        vec![0, 256],
+        vec![64, 64, 64, 64],
+    ]);
+    list.extend(
+        [[128, 0, 128], [64, 127, 64], [64, 129, 64], [63, 128, 65], [65, 128, 63], [256, 0, 0], [0, 0, 256]]
+            .map(|k| k.to_vec()),
+    );
     // these come to 256 where sums or taps are kept in too few bits
-    list.extend([[65_535, 258, 65_535], [32_768, 256, 32_768], [256, 256, 256], [0, 512, 0], [32_896, 0, 32_896]].map(|k| k.to_vec()));
+    list.extend(
+        [[65_535, 258, 65_535], [32_768, 256, 32_768], [256, 256, 256], [0, 512, 0], [32_896, 0, 32_896]]
+            .map(|k| k.to_vec()),
+    );
     list.extend([[1, 2, 250, 2, 2], [1, 2, 249, 3, 1], [100, 28, 0, 28, 100]].map(|k| k.to_vec()));
     list
 }

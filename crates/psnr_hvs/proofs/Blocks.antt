@@ -5,19 +5,20 @@ use mathlib.Core.List.{List, [], _∷_, _++_}
 use Prim.Native.Nat.{ℕ, zero, suc, _+_, _-_, _*_, _/_, _%_, _≤_, _<_}
 use native.Mathlib.Omega.{arith}
 use borrow.Author.Tests.{lt-ltb, le-ltb, ltb-true, ltb-false}
-use lib.Dec.{ltb}
-use lib.IntN.{ℤ, pos, natAbs}
-use lib.ListN.{length, length-append}
+use lib.Dec.{ltb, lit≤}
+use lib.IntN.{ℤ, pos}
+use lib.ListN.{length, getD, length-append}
 use lib.Ieee.{Float}
 use Rattle.plane.specs.Plane.{Plane}
 use Rattle.dct.specs.Limits.{forwardLimit}
 use Rattle.dct.specs.Block.{transform, turn, line, column}
 use Rattle.dct.proofs.Blocks.{length-line, length-rows}
-use Rattle.dct.specs.Call.{Within, Small}
+use Rattle.dct.specs.Call.{Small}
 use Rattle.psnr_hvs.specs.Fold.{listTo}
 use Rattle.psnr_hvs.specs.Block.{withBlock}
 use Rattle.psnr_hvs.specs.Score.{blockSide, step, blocksPerSide, sampleIn, blockAt, alongRow, downRows}
 use Rattle.psnr_hvs.specs.Legible.{Legible}
+use Rattle.psnr_hvs.specs.Levels.{Sample, Samples}
 use Rattle.number.proofs.Folds.{fold-more}
 
 -- ---- where they begin
@@ -33,16 +34,25 @@ starts side k l = go (ltb k (blocksPerSide side)) refl
 pub ends : {side k : ℕ} → blockSide ≤ side → k < blocksPerSide side → step * k + 8 ≤ side
 ends l h = omega arith
 
--- ---- how large their numbers are
-small-more : (n : ℕ) (v : List ℤ) (a : ℤ) → Small n v → Within n a → Small n (v ++ (a ∷ []))
-small-more n [] a h w = (w, tt)
-small-more n (b ∷ v) a h w = (h .0, small-more n v a (h .1) w)
+-- ---- what their numbers are
+pub sample-at : (b : List ℤ) → Samples b → (k : ℕ) → Sample (getD b k (pos 0))
+sample-at [] h k = record { above = tt; small = lit≤ tt }
+sample-at (a ∷ v) h zero = h .0
+sample-at (a ∷ v) h (suc k) = sample-at v (h .1) k
 
-small-list : (n : ℕ) (f : ℕ → ℤ) (m : ℕ) → ((k : ℕ) → k < m → natAbs (f k) ≤ n) → Small n (listTo f m)
+pub samples-small : (b : List ℤ) → Samples b → Small forwardLimit b
+samples-small [] h = tt
+samples-small (a ∷ v) h = (record { le = h .0 .small }, samples-small v (h .1))
+
+samples-more : (v : List ℤ) (a : ℤ) → Samples v → Sample a → Samples (v ++ (a ∷ []))
+samples-more [] a h s = (s, tt)
+samples-more (b ∷ v) a h s = (h .0, samples-more v a (h .1) s)
+
+samples-list : (f : ℕ → ℤ) (m : ℕ) → ((k : ℕ) → k < m → Sample (f k)) → Samples (listTo f m)
 unfolding listTo
-small-list n f zero h = tt
-small-list n f (suc m) h =
-    small-more n (listTo f m) (f m) (small-list n f m (λ (k : ℕ) (l : k < m). h k (omega arith))) (record { le = h m (omega arith) })
+samples-list f zero h = tt
+samples-list f (suc m) h =
+    samples-more (listTo f m) (f m) (samples-list f m (λ (k : ℕ) (l : k < m). h k (omega arith))) (h m (omega arith))
 
 length-list : (f : ℕ → ℤ) (m : ℕ) → length (listTo f m) ≡ m
 unfolding listTo
@@ -53,10 +63,11 @@ pub block-length : (p : Plane) (x y : ℕ) → length (blockAt p x y) ≡ 64
 unfolding blockAt
 block-length p x y = length-list (sampleIn p x y) 64
 
-pub block-small : (p : Plane) {width height : ℕ} (x y : ℕ) → Legible width height p → x + 8 ≤ width → y + 8 ≤ height → Small forwardLimit (blockAt p x y)
+pub block-samples : (p : Plane) {width height : ℕ} (x y : ℕ) → Legible width height p → x + 8 ≤ width → y + 8 ≤ height → Samples (blockAt p x y)
 unfolding blockAt
-block-small p x y h lx ly =
-    small-list forwardLimit (sampleIn p x y) 64 (λ (k : ℕ) (l : k < 64). h .small (x + k % 8) (y + k / 8) (omega arith) (omega arith))
+block-samples p x y h lx ly =
+    samples-list (sampleIn p x y) 64
+    (λ (k : ℕ) (l : k < 64). record { above = tt; small = h .small (x + k % 8) (y + k / 8) (omega arith) (omega arith) })
 
 -- ---- what the transform leaves of a block
 pub coefficients-length : (b : List ℤ) → length (transform b) ≡ 64

@@ -12,9 +12,10 @@ use lib.ListN.{getD}
 use lib.Signed.{ltZ}
 use mir.Syntax.{w32}
 use mir.Val.{SFits}
-use Rattle.dct.specs.Limits.{coefficientLimit, forwardLimit}
+use Rattle.dct.specs.Limits.{coefficientLimit}
 use Rattle.dct.specs.Call.{Within, Small}
 use Rattle.dct.specs.Operation.{rd}
+use Rattle.psnr_hvs.specs.Levels.{Sample}
 use Rattle.dct.proofs.Size.{fits, size-mul, size-diff, whole}
 use Rattle.dct.proofs.Blocks.{small-at}
 
@@ -22,8 +23,11 @@ use Rattle.dct.proofs.Blocks.{small-at}
 same : {n : ℕ} {z : ℤ} → T (ltb n (2 ^ 31)) → Within n z → rd z ≡ z
 same {n} {z} t w = whole (fits z (lt-of-le-of-lt (w .le) (ltb→lt n (2 ^ 31) t)) .sfits)
 
-pub read-sample : (b : List ℤ) → Small forwardLimit b → (k : ℕ) → rd (getD b k (pos 0)) ≡ getD b k (pos 0)
-read-sample b h k = same tt (small-at forwardLimit b h k)
+pub read-sample : {z : ℤ} → Sample z → rd z ≡ z
+read-sample h = same tt (record { le = h .small })
+
+pub sample-read : {z : ℤ} → Sample z → Sample (rd z)
+sample-read h = rw (read-sample h) h
 
 pub read-coefficient : (b : List ℤ) → Small coefficientLimit b → (k : ℕ) → rd (getD b k (pos 0)) ≡ getD b k (pos 0)
 read-coefficient b h k = same tt (small-at coefficientLimit b h k)

@@ -4,3 +4,4 @@ pub mod Tables
 pub mod Block
 pub mod Score
 pub mod Legible
+pub mod Levels

@@ -6,12 +6,13 @@ ghost use mathlib.Core.Path.{_≡_};
 ghost use Prim.Native.Nat.{_+_, _<_, _≤_};
 ghost use lib.ListN.{length};
 ghost use Rattle.plane.specs.Plane.{planeOf, samplesOf};
-ghost use Rattle.dct.specs.Limits.{blockSize, forwardLimit, coefficientLimit};
+ghost use Rattle.dct.specs.Limits.{blockSize, coefficientLimit};
 ghost use Rattle.dct.specs.Call.{Within, Small};
 ghost use Rattle.psnr_hvs.specs.Block as Block;
 ghost use Rattle.psnr_hvs.specs.Block.{distance};
 ghost use Rattle.psnr_hvs.specs.Score.{blockAt};
 ghost use Rattle.psnr_hvs.specs.Legible.{Legible};
+ghost use Rattle.psnr_hvs.specs.Levels.{Samples};
 
 // The block whose first sample is (x, y).
 fn loaded(
@@ -80,8 +81,8 @@ fn larger(m1: f64, m2: f64) -> f64
 // The mask of two blocks p1 and p2, of which d1 and d2 are the coefficients.
 fn mask_of_both(p1: &[i32], p2: &[i32], d1: &[i32], d2: &[i32], mask: &[[f64; 8]; 8]) -> f64
     requires { ⌜ (length (now p1) ≡ blockSize) × (length (now p2) ≡ blockSize) ⌝ }
-    requires { ⌜ Small forwardLimit (now p1) ⌝ }
-    requires { ⌜ Small forwardLimit (now p2) ⌝ }
+    requires { ⌜ Samples (now p1) ⌝ }
+    requires { ⌜ Samples (now p2) ⌝ }
     requires { ⌜ (length (now d1) ≡ blockSize) × (length (now d2) ≡ blockSize) ⌝ }
     requires { ⌜ Small coefficientLimit (now d1) ⌝ }
     requires { ⌜ Small coefficientLimit (now d2) ⌝ }
@@ -147,8 +148,8 @@ fn errors(
 // One block of each plane, added to `result`.
 fn with_block(result: f64, p1: &[i32], p2: &[i32], mask: &[[f64; 8]; 8], csf: &[[f64; 8]; 8]) -> f64
     requires { ⌜ (length (now p1) ≡ blockSize) × (length (now p2) ≡ blockSize) ⌝ }
-    requires { ⌜ Small forwardLimit (now p1) ⌝ }
-    requires { ⌜ Small forwardLimit (now p2) ⌝ }
+    requires { ⌜ Samples (now p1) ⌝ }
+    requires { ⌜ Samples (now p2) ⌝ }
     ensures { λ r. ⌜ r ≡ Block.withBlock (now (csf .entry)) (now (mask .entry)) (now (p1 .entry)) (now (p2 .entry)) result ⌝ }
 {
     let d1 = dct::transform(p1);

@@ -1,5 +1,5 @@
 -- `block_at` loads two blocks and takes them in. Assumes nothing.
-use Rattle.psnr_hvs.proofs.Blocks.{block-length, block-small}
+use Rattle.psnr_hvs.proofs.Blocks.{block-length, block-samples}
 use borrow.Author.Needs.{needs}
 use Rattle.psnr_hvs.proofs.block.block_at.Statement.{statement}
 use Rattle.psnr_hvs.proofs.block.block_at.Tie as tie
@@ -32,8 +32,8 @@ with-block-requires c κs =
     let two = c .before .before .loaded2 .ensures in (
       (rw one (block-length _ _ _), rw two (block-length _ _ _)),
       (
-        rw one (block-small _ _ _ (s .pre .1 .0) (s .pre .0 .0) (s .pre .0 .1)),
-        rw two (block-small _ _ _ (s .pre .1 .1) (s .pre .0 .0) (s .pre .0 .1)),
+        rw one (block-samples _ _ _ (s .pre .1 .0) (s .pre .0 .0) (s .pre .0 .1)),
+        rw two (block-samples _ _ _ (s .pre .1 .1) (s .pre .0 .0) (s .pre .0 .1)),
       ),
     )
 

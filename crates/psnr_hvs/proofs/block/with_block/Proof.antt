@@ -4,7 +4,7 @@ use lib.ListN.{length}
 use Rattle.dct.proofs.Bound.{coefficient-bound}
 use Rattle.psnr_hvs.specs.Block.{withBlock}
 use borrow.Author.Needs.{needs}
-use Rattle.psnr_hvs.proofs.Blocks.{coefficients-length}
+use Rattle.psnr_hvs.proofs.Blocks.{coefficients-length, samples-small}
 use Rattle.psnr_hvs.proofs.block.with_block.Statement.{statement}
 use Rattle.psnr_hvs.proofs.block.with_block.Tie as tie
 use Rattle.psnr_hvs.proofs.block.with_block.Reads as reads
@@ -15,11 +15,11 @@ use Rattle.psnr_hvs.proofs.block.mask_of_both.Reads as mask-of-both-rea
 
 -- src/block.rt:154:14
 transform-requires : tie.Need-transform-requires
-transform-requires c κs = search needs
+transform-requires c κs = (c .pre .0 .0, samples-small (c .args .p1 .now) (c .pre .1 .0))
 
 -- src/block.rt:155:14
 transform-requires-2 : tie.Need-transform-requires-2
-transform-requires-2 c κs = search needs
+transform-requires-2 c κs = let s = c .before in (s .pre .0 .1, samples-small (s .args .p2 .now) (s .pre .1 .1))
 
 -- src/block.rt:156:34
 slice-aggregate-mask-of-both : tie.Need-slice-aggregate-mask-of-both
@@ -42,7 +42,7 @@ mask-of-both-requires c κs =
           s .pre .1 .1,
           (
             (rw one (coefficients-length _), rw two (coefficients-length _)),
-            (rw one (coefficient-bound _ (s .pre .1 .0)), rw two (coefficient-bound _ (s .pre .1 .1))),
+            (rw one (coefficient-bound _ (samples-small (s .args .p1 .now) (s .pre .1 .0))), rw two (coefficient-bound _ (samples-small (s .args .p2 .now) (s .pre .1 .1)))),
           ),
         ),
       ),
@@ -63,7 +63,7 @@ errors-requires c κs =
     let one = c .before .before .before .before .before .before .transform .ensures in
     let two = c .before .before .before .before .before .transform2 .ensures in (
       (rw one (coefficients-length _), rw two (coefficients-length _)),
-      (rw one (coefficient-bound _ (s .pre .1 .0)), rw two (coefficient-bound _ (s .pre .1 .1))),
+      (rw one (coefficient-bound _ (samples-small (s .args .p1 .now) (s .pre .1 .0))), rw two (coefficient-bound _ (samples-small (s .args .p2 .now) (s .pre .1 .1)))),
     )
 
 -- src/block.rt:148:1

@@ -1,25 +1,31 @@
--- `gvar` is the definition's steps. Assumes nothing.
-use Rattle.psnr_hvs.specs.Block.{gvar, gmean}
+-- `gvar` is one exact number and two rounded steps. Assumes nothing.
+use native.Mathlib.Omega.{arith}
 use borrow.Author.Needs.{needs}
 use Rattle.psnr_hvs.proofs.spread.gvar.Statement.{statement}
 use Rattle.psnr_hvs.proofs.spread.gvar.Tie as tie
 use Rattle.psnr_hvs.proofs.spread.gvar.Reads as reads
 use Rattle.psnr_hvs.proofs.spread.gvar.Lts as lts
-use Rattle.psnr_hvs.proofs.spread.spread_all.Reads as spread-all-reads
-use Rattle.psnr_hvs.proofs.spread.sum_all.Reads as sum-all-reads
+use Rattle.number.proofs.exact.Reads as exact-reads
 
--- src/spread.rt:73:13
-sum-all-requires : tie.Need-sum-all-requires
-sum-all-requires c κs = search needs
+-- src/spread.rt:68:19
+mul-exact : tie.Need-mul-exact
+mul-exact c = search needs
 
--- src/spread.rt:74:5
-spread-all-requires : tie.Need-spread-all-requires
-spread-all-requires c κs = search needs
+-- src/spread.rt:68:37
+mul-exact-2 : tie.Need-mul-exact-2
+mul-exact-2 c = search needs
 
--- src/spread.rt:68:1
+-- src/spread.rt:68:19
+sub-exact : tie.Need-sub-exact
+sub-exact c = search needs
+
+-- src/spread.rt:68:5
+exact-requires : tie.Need-exact-requires
+exact-requires c κs = search needs
+
+-- src/spread.rt:63:1
 returns : tie.Need-returns
-unfolding gvar gmean
-returns c = rw (c .spread-all .ensures, c .before .sum-all .ensures)
+returns c = rw (c .exact .ensures)
 
 pub gvar-spec : {M : Type 1} → statement M
-gvar-spec = tie.close (tie.spec sum-all-requires spread-all-requires returns)
+gvar-spec = tie.close (tie.spec mul-exact mul-exact-2 sub-exact exact-requires returns)
