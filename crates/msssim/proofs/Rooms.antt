@@ -91,6 +91,14 @@ module _ (old l : List ℕ) (width j c : ℕ) (g : ℕ → ℕ) (p : Put old l (
   pub sum-small : ((k : ℕ) → j * (width / 2) ≤ k → at old k ≤ mostSample) → (k : ℕ) → 2 * j * width + 2 * c ≤ k → at l k ≤ mostSample
   sum-small h k m = rw (ahead k m) (h k (omega (arith, half-le j width)))
 
+-- where the places from row j on are as they were, so is what row j of the scale below is made of
+pub sum-still : (old l : List ℕ) (width j : ℕ) → ((i : ℕ) → j * (width / 2) ≤ i → at l i ≡ at old i) → (c : ℕ)
+    → summedOf (viewOf (planeOf l width)) j c ≡ summedOf (viewOf (planeOf old width)) j c
+sum-still old l width j h c =
+    let from = half-le j width in
+    rw (h (2 * j * width + 2 * c) (omega arith), h (2 * j * width + (2 * c + 1)) (omega arith), h ((2 * j + 1) * width + 2 * c) (omega arith),
+    h ((2 * j + 1) * width + (2 * c + 1)) (omega arith))
+
 -- four samples fit 32 bits
 pub four-room : 4 * mostSample < 2 ^ 32
 unfolding mostSample

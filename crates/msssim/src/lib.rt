@@ -2,3 +2,4 @@
 // 2×2 samples, and the pair of SSIM at each, under a kernel of its own.
 
 pub mod room;
+pub mod scale;
