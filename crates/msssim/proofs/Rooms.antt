@@ -2,7 +2,7 @@
 use mathlib.Core.Path.{_≡_, refl, sym, _∙_}
 use mathlib.Core.List.{List}
 use Prim.Native.Nat.{ℕ, zero, suc, _+_, _-_, _*_, _/_, _≤_, _<_, _^_}
-use native.Mathlib.Nat.{ne-of-lt, add-mul, one-mul, mul-le-mul-left, mul-le-mul-right, le-refl}
+use native.Mathlib.Nat.{ne-of-lt, add-mul, one-mul, mul-le-mul-left, mul-le-mul-right, mul-sub, le-refl, le-trans}
 use native.Mathlib.Decide.{decLt}
 use native.Mathlib.Numerals.{add-one}
 use native.Mathlib.Omega.{arith}
@@ -11,9 +11,9 @@ use lib.Dec.{lit<}
 use lib.ListN.{length, set}
 use lib.Seq.{getD-set-same, getD-set-other}
 use Rattle.plane.specs.Plane.{at, planeOf}
-use Rattle.window.specs.Columns.{viewOf, mostSample}
+use Rattle.window.specs.Columns.{viewOf, mostSample, Readable}
 use Rattle.msssim.specs.Scale.{summedOf}
-use Rattle.msssim.specs.Rooms.{Put, Filled}
+use Rattle.msssim.specs.Rooms.{Put, Filled, Held}
 
 -- ---- a row
 pub put-none : (l : List ℕ) (from : ℕ) (g : ℕ → ℕ) → Put l l from 0 g
@@ -85,8 +85,16 @@ module _ (old l : List ℕ) (width j c : ℕ) (g : ℕ → ℕ) (p : Put old l (
       let right : 2 * j * width + 2 * c + 1 ≡ 2 * j * width + (2 * c + 1) = omega arith in
       let under : 2 * j * width + 2 * c + width ≡ (2 * j + 1) * width + 2 * c = omega arith in
       let across : 2 * j * width + 2 * c + width + 1 ≡ (2 * j + 1) * width + (2 * c + 1) = omega arith in
-      rw (e, ahead _ (le-refl _), ahead (2 * j * width + 2 * c + 1) (omega arith), ahead (2 * j * width + 2 * c + width) (omega arith),
-      ahead (2 * j * width + 2 * c + width + 1) (omega arith), across, under, right)
+      rw (
+        e,
+        ahead _ (le-refl _),
+        ahead (2 * j * width + 2 * c + 1) (omega arith),
+        ahead (2 * j * width + 2 * c + width) (omega arith),
+        ahead (2 * j * width + 2 * c + width + 1) (omega arith),
+        across,
+        under,
+        right,
+      )
 
   pub sum-small : ((k : ℕ) → j * (width / 2) ≤ k → at old k ≤ mostSample) → (k : ℕ) → 2 * j * width + 2 * c ≤ k → at l k ≤ mostSample
   sum-small h k m = rw (ahead k m) (h k (omega (arith, half-le j width)))
@@ -96,10 +104,24 @@ pub sum-still : (old l : List ℕ) (width j : ℕ) → ((i : ℕ) → j * (width
     → summedOf (viewOf (planeOf l width)) j c ≡ summedOf (viewOf (planeOf old width)) j c
 sum-still old l width j h c =
     let from = half-le j width in
-    rw (h (2 * j * width + 2 * c) (omega arith), h (2 * j * width + (2 * c + 1)) (omega arith), h ((2 * j + 1) * width + 2 * c) (omega arith),
-    h ((2 * j + 1) * width + (2 * c + 1)) (omega arith))
+    rw (
+      h (2 * j * width + 2 * c) (omega arith),
+      h (2 * j * width + (2 * c + 1)) (omega arith),
+      h ((2 * j + 1) * width + 2 * c) (omega arith),
+      h ((2 * j + 1) * width + (2 * c + 1)) (omega arith),
+    )
 
 -- four samples fit 32 bits
 pub four-room : 4 * mostSample < 2 ^ 32
 unfolding mostSample
 four-room = lit< tt
+
+-- ---- a scale's plane
+
+-- it can be read
+pub readable : {width height : ℕ} {room : List ℕ} → Held mostSample width height room → 1 ≤ height → Readable width height (planeOf room width)
+readable {width} {height} h some =
+    record { long = omega (arith, h .long, mul-sub width height 1, mul-le-mul-left width some); small = h .small }
+
+pub held-small : {max width height : ℕ} {room : List ℕ} → max ≤ mostSample → Held max width height room → Held mostSample width height room
+held-small m h = record { long = h .long; small = λ i. le-trans (h .small i) m }

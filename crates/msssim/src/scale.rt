@@ -9,7 +9,7 @@ ghost use Rattle.plane.specs.Plane.{planeOf};
 ghost use Rattle.plane.specs.Sums.{sumTo};
 ghost use Rattle.window.specs.Kernel.{tap};
 ghost use Rattle.window.specs.Parts.{Kernel};
-ghost use Rattle.window.specs.Columns.{viewOf, Readable, mostSample};
+ghost use Rattle.window.specs.Columns.{viewOf, mostSample};
 ghost use Rattle.ssim.specs.Score.{totalsOf};
 ghost use Rattle.msssim.specs.Scale.{scaleOf, sumsOf, ssimOf, csOf, pairsFrom};
 ghost use Rattle.msssim.specs.Rooms.{Held};
@@ -33,8 +33,8 @@ fn rows(
     requires { ⌜ (width ≤ sideLimit) × (height ≤ sideLimit) × (5 * width ≤ length (now cols)) ⌝ }
     requires { ⌜ Kernel (now kernel) ⌝ }
     requires { ⌜ total ≡ sumTo (tap (now kernel)) (length (now kernel)) ⌝ }
-    requires { ⌜ Readable width height (planeOf (now a) width) ⌝ }
-    requires { ⌜ Readable width height (planeOf (now b) width) ⌝ }
+    requires { ⌜ Held mostSample width height (now a) ⌝ }
+    requires { ⌜ Held mostSample width height (now b) ⌝ }
     ensures { λ r. ⌜ r ≡ totalsOf max2 (now (kernel .entry)) width height (viewOf (planeOf (now (a .entry)) width))
         (viewOf (planeOf (now (b .entry)) width)) height ⌝ }
 {
@@ -71,4 +71,41 @@ fn put_pair(pairs: &mut [f64], t: Totals)
 {
     pairs[0] = t.ssim / t.ssimw;
     pairs[1] = t.cs / t.ssimw;
+}
+
+// The pairs of a scale and of the `left - 1` below it: this one is scored, the planes are downscaled in place, and the same is done to
+// what is left. `max` is the scale's largest sample.
+pub fn scales(
+    pairs: &mut [f64],
+    cols: &mut [i64],
+    a: &mut [u32],
+    b: &mut [u32],
+    left: usize,
+    max: u32,
+    width: usize,
+    height: usize,
+)
+    requires { ⌜ (width ≤ sideLimit) × (height ≤ sideLimit) × (5 * width ≤ length (now cols)) ⌝ }
+    requires { ⌜ (length (now pairs) ≡ 2 * left) × (max * 4 ^ left ≤ 4 * mostSample) ⌝ }
+    requires { ⌜ Held max width height (now a) ⌝ }
+    requires { ⌜ Held max width height (now b) ⌝ }
+    ensures { λ _. ⌜ now (pairs .exit) ≡ pairsFrom left (scaleOf max width height (viewOf (planeOf (now (a .entry)) width))
+        (viewOf (planeOf (now (b .entry)) width))) ⌝ }
+{
+    if 0 < left {
+        let t = sums(cols, a, b, max, width, height);
+        put_pair(pairs, t);
+        room::downscale(a, width, height);
+        room::downscale(b, width, height);
+        scales(
+            &mut pairs[2..],
+            cols,
+            a,
+            b,
+            left - 1,
+            4 * max,
+            width / 2,
+            height / 2,
+        );
+    }
 }

@@ -40,8 +40,7 @@ mul-widen-row-2 c =
 
 widen-row-requires : tie.Need-widen-row-requires Inv-loop μ-loop
 widen-row-requires c κs =
-    let s = c .before .before .before .before .before .before in
-    (
+    let s = c .before .before .before .before .before .before in (
       omega (arith, mul-le-mul-right (s .args .width) (c .before .loop-test .taken)),
       row-inside (s .args .width) (s .args .stride) (s .pre .1) (c .before .loop-test .taken),
     )

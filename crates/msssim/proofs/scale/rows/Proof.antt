@@ -10,6 +10,7 @@ use Rattle.window.specs.Columns.{viewOf}
 use Rattle.window.proofs.Windows.{weight-le}
 use Rattle.window.proofs.Held.{all-small}
 use Rattle.ssim.specs.Score.{totalsOf}
+use Rattle.msssim.proofs.Rooms.{readable}
 use Rattle.ssim.proofs.Same.{totals-none, totals-more}
 use Rattle.msssim.proofs.scale.rows.Statement.{statement}
 use Rattle.msssim.proofs.scale.rows.Tie as tie
@@ -31,15 +32,18 @@ loop-holds c = (search needs, refl, sym (totals-none _ _ _ _ _ _))
 
 fill32-requires : tie.Need-fill32-requires Inv-loop μ-loop
 fill32-requires c κs =
-    let s = c .before .before .before .before .before .before in (omega arith, (s .pre .1 .0, s .pre .1 .1 .1))
+    let s = c .before .before .before .before .before .before in (
+      omega arith,
+      (s .pre .1 .0, (readable (s .pre .1 .1 .1 .0) (omega arith), readable (s .pre .1 .1 .1 .1) (omega arith))),
+    )
 
 weight-requires : tie.Need-weight-requires Inv-loop μ-loop
 weight-requires c κs =
-    let s = c .before .before .before .before .before .before in§ (omega arith, (s .pre .1 .0, s .pre .1 .1 .0))
+    let s = c .before .before .before .before .before .before .before .before in (omega arith, (s .pre .1 .0, s .pre .1 .1 .0))
 
 centres-requires : tie.Need-centres-requires Inv-loop μ-loop
 centres-requires c κs =
-    let s = c .before .before .before .before .before .before in§§
+    let s = c .before .before .before .before .before .before .before .before .before .before in
     let f = c .before .before .before .fill32 in
     let y = c .before .before .before .before .before .before .loop .y in (
       omega (arith, f .kept .0, weight-le (now (s .args .kernel)) (s .args .height) y (s .pre .1 .0)),

@@ -1,3 +1,11 @@
+-- `msssim::scale::sums` meets its contract. Assumes nothing.
+use mathlib.Core.Path.{_≡_, refl, sym}
+use native.Mathlib.Nat.{le-refl}
+use native.Mathlib.Omega.{arith}
+use borrow.Author.Needs.{needs}
+use Rattle.window.specs.Kernel.{fixedKernel, fixedTotal}
+use Rattle.window.proofs.KernelSays.{kernel-says, kernel-serves, fixed-lawful}
+use Rattle.msssim.proofs.Rooms.{held-small}
 use Rattle.msssim.proofs.scale.sums.Statement.{statement}
 use Rattle.msssim.proofs.scale.sums.Tie as tie
 use Rattle.msssim.proofs.scale.sums.Reads as reads
@@ -5,25 +13,31 @@ use Rattle.msssim.proofs.scale.sums.Lts as lts
 use Rattle.msssim.proofs.scale.rows.Reads as rows-reads
 use Rattle.ssim.proofs.score.squared.Reads as squared-reads
 
--- src/scale.rt:63:9
 squared-requires : tie.Need-squared-requires
-squared-requires c κs = ?
+squared-requires c κs = search needs
 
--- src/scale.rt:64:22
 slice-aggregate-rows : tie.Need-slice-aggregate-rows
-slice-aggregate-rows c = ?
+slice-aggregate-rows c = refl
 
--- src/scale.rt:64:5
 rows-requires : tie.Need-rows-requires
-rows-requires c κs = ?
+unfolding fixedTotal
+rows-requires c κs =
+    let s = c .before .before .before .before .before in (
+      (s .pre .0 .0, s .pre .0 .1, s .pre .0 .2),
+      (
+        kernel-serves fixedTotal fixedKernel (le-refl fixedTotal) fixed-lawful,
+        (
+          sym (kernel-says fixedTotal fixedKernel fixed-lawful .sum),
+          (held-small (s .pre .0 .3) (s .pre .1 .0), held-small (s .pre .0 .3) (s .pre .1 .1)),
+        ),
+      ),
+    )
 
--- src/scale.rt:55:1
 same-length : tie.Need-same-length
-same-length c = ?
+same-length c = search needs
 
--- src/scale.rt:55:1
 returns : tie.Need-returns
-returns c = ?
+returns c = rw (c .before .rows .ensures, c .before .before .before .before .squared .ensures)
 
 pub sums-spec : {M : Type 1} → statement M
 sums-spec =
