@@ -1,2 +1,3 @@
 pub mod Rooms
-pub mod Pairs
+pub mod Scales
+pub mod Accept

@@ -7,7 +7,7 @@ use native.Mathlib.Omega.{arith}
 use denote.Ref.{now}
 use lib.ListN.{length}
 use Rattle.msssim.proofs.Rooms.{four-room}
-use Rattle.msssim.proofs.Pairs.{left-room, held-below, rest-length, pairs-step, pairs-none}
+use Rattle.msssim.proofs.Scales.{left-room, held-below, rest-length, pairs-step, pairs-none}
 use borrow.Fn.Kinds.{In}
 use borrow.Fn.PlainCycle.{Measures, is, falls, and}
 use Rattle.msssim.proofs.scale.scales.Reads as scales
