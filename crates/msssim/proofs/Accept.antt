@@ -22,7 +22,7 @@ use Rattle.window.specs.Columns.{viewOf, mostSample}
 use Rattle.window.proofs.Demand.{scales, scaleMax, scale-small}
 use Rattle.ssim.proofs.Accept.{halves}
 use Rattle.msssim.specs.Rooms.{Filled, Held}
-use Rattle.msssim.specs.Answer.{leastSide, placesOf, roomOf, lentEnough, msssimRefusal, answerFor, roomAfter}
+use Rattle.msssim.specs.Answer.{leastSide, placesOf, roomOf, lentEnough, msssimRefusal, answerFor, Lent, lentAfter}
 use Rattle.msssim.specs.declared.MsSsim.{MsSsim}
 use Rattle.msssim.specs.declared.MsSsim.the-variants.{Refused}
 use Rattle.msssim.proofs.Rooms.{rows-all}
@@ -90,6 +90,6 @@ pub refused : (n : ℕ) (score : MsSsim) → (n ≡ 0 → ⊥) → Refused n ≡
 refused zero score h = absurd (h refl)
 refused (suc n) score h = refl
 
-pub untouched : (n need : ℕ) (s : List ℕ) → (n ≡ 0 → ⊥) → s ≡ roomAfter n need s
-untouched zero need s h = absurd (h refl)
-untouched (suc n) need s h = refl
+pub untouched : (n width height : ℕ) (l : Lent) → (n ≡ 0 → ⊥) → l ≡ lentAfter n width height l
+untouched zero width height l h = absurd (h refl)
+untouched (suc n) width height l h = refl

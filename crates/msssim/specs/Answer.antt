@@ -6,12 +6,14 @@ use Prim.Native.Nat.{ℕ, zero, suc, _*_}
 use lib.Dec.{leb}
 use lib.Ieee.{Float, nan}
 use lib.Ieee.Scale as Ieee
+use lib.IntN.{ℤ}
 use lib.ListN.{length, getD, replicate, drop}
 use Rattle.refusal.specs.Numbers.{scratchNo, notFiniteNo}
 use Rattle.refusal.specs.First.{firstBroken}
 use Rattle.plane.specs.Plane.{Plane, maxOf, allTo}
 use Rattle.plane.specs.Tests.{planeTests}
 use Rattle.window.specs.Columns.{viewOf}
+use Rattle.ssim.specs.Scratch.{cleared}
 use Rattle.msssim.specs.Scale.{Scale, scaleOf, scaleCount, pairsFrom}
 use Rattle.msssim.specs.declared.Pairs.{Pairs}
 use Rattle.msssim.specs.declared.MsSsim.{MsSsim}
@@ -83,16 +85,29 @@ abbrev pub answerFor : ℕ → MsSsim → MsSsim
 answerFor zero score = score
 answerFor (suc n) score = Refused (suc n)
 
-abbrev pub msssimOf : Bool → Plane → Plane → ℕ → ℕ → ℕ → ℕ → ℕ → ℕ → MsSsim
-msssimOf wide a b width height depth places room-a room-b =
-    answerFor (msssimRefusal wide (a ∷ b ∷ []) width height depth places room-a room-b) (scoreOf a b width height depth)
+-- ---- what is lent beside the planes: the 64-bit places, and the 32-bit places of each plane
+pub record Lent : Type 0 where
+  pub scratch : List ℤ
+  pub room-a : List ℕ
+  pub room-b : List ℕ
 
--- ---- the 32-bit places afterwards: "the needed part all zero, the rest unchanged", or all as it was
+abbrev pub lentOf : List ℤ → List ℕ → List ℕ → Lent
+lentOf scratch room-a room-b = record { scratch = scratch; room-a = room-a; room-b = room-b }
 
+abbrev pub refusalOf : Bool → Plane → Plane → ℕ → ℕ → ℕ → Lent → ℕ
+refusalOf wide a b width height depth l =
+    msssimRefusal wide (a ∷ b ∷ []) width height depth (length (l .scratch)) (length (l .room-a)) (length (l .room-b))
+
+-- the answer of a call
+abbrev pub msssimOf : Bool → Plane → Plane → ℕ → ℕ → ℕ → Lent → MsSsim
+msssimOf wide a b width height depth l = answerFor (refusalOf wide a b width height depth l) (scoreOf a b width height depth)
+
+-- "the needed part all zero, the rest unchanged"
 abbrev pub roomCleared : ℕ → List ℕ → List ℕ
 roomCleared need s = replicate need 0 ++ drop need s
 
--- after a call that found this refusal before it scored: 0 is none
-abbrev pub roomAfter : ℕ → ℕ → List ℕ → List ℕ
-roomAfter zero need s = roomCleared need s
-roomAfter (suc n) need s = s
+-- what then stands in what was lent, after a call that found this refusal before it scored: 0 is none
+abbrev pub lentAfter : ℕ → ℕ → ℕ → Lent → Lent
+lentAfter zero width height l =
+    lentOf (cleared (placesOf width) (l .scratch)) (roomCleared (roomOf width height) (l .room-a)) (roomCleared (roomOf width height) (l .room-b))
+lentAfter (suc n) width height l = l

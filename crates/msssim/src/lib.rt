@@ -8,9 +8,9 @@ ghost use lib.ListN.{length};
 ghost use Rattle.plane.specs.Limits.{sideLimit};
 ghost use Rattle.plane.specs.Plane.{planeOf, samplesOf};
 ghost use Rattle.plane.specs.Lawful.{Accepted};
-ghost use Rattle.ssim.specs.Scratch.{cleared, scratchAfter};
-ghost use Rattle.msssim.specs.Answer.{leastSide, placesOf, roomOf, lentEnough, msssimRefusal, scoreOf, msssimOf};
-ghost use Rattle.msssim.specs.Answer.{roomCleared, roomAfter};
+ghost use Rattle.ssim.specs.Scratch.{cleared};
+ghost use Rattle.msssim.specs.Answer.{leastSide, placesOf, roomOf, lentEnough, msssimRefusal, scoreOf, roomCleared};
+ghost use Rattle.msssim.specs.Answer.{lentOf, refusalOf, msssimOf, lentAfter};
 
 pub mod gather;
 pub mod room;
@@ -154,23 +154,13 @@ fn of_either(
     depth: u32,
 ) -> MsSsim
     ensures { λ r. ⌜ r ≡ msssimOf wide (planeOf (samplesOf wide (now (a8 .entry)) (now (a16 .entry))) «stride_a»)
-        (planeOf (samplesOf wide (now (b8 .entry)) (now (b16 .entry))) «stride_b») width height depth (length (now
-        (scratch .entry))) (length (now («room_a» .entry))) (length (now («room_b» .entry))) ⌝ }
-    ensures { λ _. ⌜ now (scratch .exit) ≡ scratchAfter (msssimRefusal wide (planeOf (samplesOf wide (now (a8 .entry)) (now
-        (a16 .entry))) «stride_a»
-        ∷ planeOf (samplesOf wide (now (b8 .entry)) (now (b16 .entry))) «stride_b» ∷ []) width height depth (length (now
-        (scratch .entry))) (length (now («room_a» .entry))) (length (now («room_b» .entry))))
-        (placesOf width) (now (scratch .entry)) ⌝ }
-    ensures { λ _. ⌜ now («room_a» .exit) ≡ roomAfter (msssimRefusal wide (planeOf (samplesOf wide (now (a8 .entry)) (now
-        (a16 .entry))) «stride_a»
-        ∷ planeOf (samplesOf wide (now (b8 .entry)) (now (b16 .entry))) «stride_b» ∷ []) width height depth (length (now
-        (scratch .entry))) (length (now («room_a» .entry))) (length (now («room_b» .entry))))
-        (roomOf width height) (now («room_a» .entry)) ⌝ }
-    ensures { λ _. ⌜ now («room_b» .exit) ≡ roomAfter (msssimRefusal wide (planeOf (samplesOf wide (now (a8 .entry)) (now
-        (a16 .entry))) «stride_a»
-        ∷ planeOf (samplesOf wide (now (b8 .entry)) (now (b16 .entry))) «stride_b» ∷ []) width height depth (length (now
-        (scratch .entry))) (length (now («room_a» .entry))) (length (now («room_b» .entry))))
-        (roomOf width height) (now («room_b» .entry)) ⌝ }
+        (planeOf (samplesOf wide (now (b8 .entry)) (now (b16 .entry))) «stride_b») width height depth
+        (lentOf (now (scratch .entry)) (now («room_a» .entry)) (now («room_b» .entry))) ⌝ }
+    ensures { λ _. ⌜ lentOf (now (scratch .exit)) (now («room_a» .exit)) (now («room_b» .exit)) ≡ lentAfter
+        (refusalOf wide (planeOf (samplesOf wide (now (a8 .entry)) (now (a16 .entry))) «stride_a»)
+        (planeOf (samplesOf wide (now (b8 .entry)) (now (b16 .entry))) «stride_b») width height depth
+        (lentOf (now (scratch .entry)) (now («room_a» .entry)) (now («room_b» .entry))))
+        width height (lentOf (now (scratch .entry)) (now («room_a» .entry)) (now («room_b» .entry))) ⌝ }
 {
     let no = refusal(
         a8,
@@ -221,19 +211,11 @@ pub fn msssim8(
     room_b: &mut [u32],
 ) -> MsSsim
     ensures { λ r. ⌜ r ≡ msssimOf false (planeOf (now (a .entry)) «stride_a») (planeOf (now (b .entry)) «stride_b») width height depth
-        (length (now (scratch .entry))) (length (now («room_a» .entry))) (length (now («room_b» .entry))) ⌝ }
-    ensures { λ _. ⌜ now (scratch .exit) ≡ scratchAfter (msssimRefusal false (planeOf (now (a .entry)) «stride_a»
-        ∷ planeOf (now (b .entry)) «stride_b» ∷ []) width height depth (length (now (scratch .entry))) (length (now
-        («room_a» .entry))) (length (now («room_b» .entry))))
-        (placesOf width) (now (scratch .entry)) ⌝ }
-    ensures { λ _. ⌜ now («room_a» .exit) ≡ roomAfter (msssimRefusal false (planeOf (now (a .entry)) «stride_a»
-        ∷ planeOf (now (b .entry)) «stride_b» ∷ []) width height depth (length (now (scratch .entry))) (length (now
-        («room_a» .entry))) (length (now («room_b» .entry))))
-        (roomOf width height) (now («room_a» .entry)) ⌝ }
-    ensures { λ _. ⌜ now («room_b» .exit) ≡ roomAfter (msssimRefusal false (planeOf (now (a .entry)) «stride_a»
-        ∷ planeOf (now (b .entry)) «stride_b» ∷ []) width height depth (length (now (scratch .entry))) (length (now
-        («room_a» .entry))) (length (now («room_b» .entry))))
-        (roomOf width height) (now («room_b» .entry)) ⌝ }
+        (lentOf (now (scratch .entry)) (now («room_a» .entry)) (now («room_b» .entry))) ⌝ }
+    ensures { λ _. ⌜ lentOf (now (scratch .exit)) (now («room_a» .exit)) (now («room_b» .exit)) ≡ lentAfter
+        (refusalOf false (planeOf (now (a .entry)) «stride_a») (planeOf (now (b .entry)) «stride_b») width height depth
+        (lentOf (now (scratch .entry)) (now («room_a» .entry)) (now («room_b» .entry))))
+        width height (lentOf (now (scratch .entry)) (now («room_a» .entry)) (now («room_b» .entry))) ⌝ }
 {
     of_either(
         scratch,
@@ -266,19 +248,11 @@ pub fn msssim16(
     room_b: &mut [u32],
 ) -> MsSsim
     ensures { λ r. ⌜ r ≡ msssimOf true (planeOf (now (a .entry)) «stride_a») (planeOf (now (b .entry)) «stride_b») width height depth
-        (length (now (scratch .entry))) (length (now («room_a» .entry))) (length (now («room_b» .entry))) ⌝ }
-    ensures { λ _. ⌜ now (scratch .exit) ≡ scratchAfter (msssimRefusal true (planeOf (now (a .entry)) «stride_a»
-        ∷ planeOf (now (b .entry)) «stride_b» ∷ []) width height depth (length (now (scratch .entry))) (length (now
-        («room_a» .entry))) (length (now («room_b» .entry))))
-        (placesOf width) (now (scratch .entry)) ⌝ }
-    ensures { λ _. ⌜ now («room_a» .exit) ≡ roomAfter (msssimRefusal true (planeOf (now (a .entry)) «stride_a»
-        ∷ planeOf (now (b .entry)) «stride_b» ∷ []) width height depth (length (now (scratch .entry))) (length (now
-        («room_a» .entry))) (length (now («room_b» .entry))))
-        (roomOf width height) (now («room_a» .entry)) ⌝ }
-    ensures { λ _. ⌜ now («room_b» .exit) ≡ roomAfter (msssimRefusal true (planeOf (now (a .entry)) «stride_a»
-        ∷ planeOf (now (b .entry)) «stride_b» ∷ []) width height depth (length (now (scratch .entry))) (length (now
-        («room_a» .entry))) (length (now («room_b» .entry))))
-        (roomOf width height) (now («room_b» .entry)) ⌝ }
+        (lentOf (now (scratch .entry)) (now («room_a» .entry)) (now («room_b» .entry))) ⌝ }
+    ensures { λ _. ⌜ lentOf (now (scratch .exit)) (now («room_a» .exit)) (now («room_b» .exit)) ≡ lentAfter
+        (refusalOf true (planeOf (now (a .entry)) «stride_a») (planeOf (now (b .entry)) «stride_b») width height depth
+        (lentOf (now (scratch .entry)) (now («room_a» .entry)) (now («room_b» .entry))))
+        width height (lentOf (now (scratch .entry)) (now («room_a» .entry)) (now («room_b» .entry))) ⌝ }
 {
     of_either(
         scratch,
