@@ -3,12 +3,19 @@
 //! judge [--full] [--seed N] [FAMILY..]
 
 mod family;
+mod hvs;
+mod hvs_ways;
 mod lifting;
 mod model;
 mod plane;
 mod published_numbers;
 mod random;
 mod root;
+mod samples;
+mod series;
+mod squared;
+mod ssim;
+mod ssim_ways;
 mod start;
 mod transform;
 
@@ -18,11 +25,15 @@ use std::process::exit;
 /// A family's name, and what runs it.
 type Named = (&'static str, fn(Run) -> bool);
 
-const FAMILIES: [Named; 4] = [
+const FAMILIES: [Named; 8] = [
     ("published", published_numbers::compare),
     ("root", root::compare),
     ("plane", plane::compare),
     ("transform", transform::compare),
+    ("squared", squared::compare),
+    ("series", series::compare),
+    ("ssim", ssim::compare),
+    ("hvs", hvs::compare),
 ];
 
 fn main() {

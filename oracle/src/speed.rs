@@ -1,8 +1,10 @@
 //! The product beside the published Rust, in one run: each side's best time of many rounds, taken in turn, and the ratio.
 
+#[allow(dead_code)]
 mod random;
 
-use published::video::psnr_hvs;
+use published::plane::Plane;
+use published::video::{psnr, psnr_hvs, ssim};
 use random::Random;
 use std::hint::black_box;
 use std::time::Instant;
@@ -10,13 +12,62 @@ use std::time::Instant;
 extern "C" {
     fn fuavelino_root(x: f64, out: *mut f64) -> u8;
     fn fuavelino_forward(block: *const i32, block_len: usize, out: *mut i32, out_len: usize) -> u8;
+    fn fuavelino_squared_error8(
+        a: *const u8,
+        a_len: usize,
+        b: *const u8,
+        b_len: usize,
+        width: usize,
+        height: usize,
+        stride_a: usize,
+        stride_b: usize,
+        depth: u32,
+        sq_err: *mut f64,
+        n: *mut u64,
+        sample_max: *mut u32,
+    ) -> u8;
+    fn fuavelino_ssim8(
+        a: *const u8,
+        a_len: usize,
+        b: *const u8,
+        b_len: usize,
+        width: usize,
+        height: usize,
+        stride_a: usize,
+        stride_b: usize,
+        depth: u32,
+        kernel: *const u16,
+        kernel_len: usize,
+        scratch: *mut i64,
+        scratch_len: usize,
+        ssim: *mut f64,
+        cs: *mut f64,
+    ) -> u8;
+    fn fuavelino_psnr_hvs_y_8(
+        a: *const u8,
+        a_len: usize,
+        b: *const u8,
+        b_len: usize,
+        width: usize,
+        height: usize,
+        stride_a: usize,
+        stride_b: usize,
+        depth: u32,
+        score: *mut f64,
+    ) -> u8;
 }
 
 const ROUNDS: usize = 60;
 
 type Named = (&'static str, fn());
 
-const ALL: [Named; 2] = [("root", root), ("forward", forward)];
+const ALL: [Named; 5] =
+    [("root", root), ("forward", forward), ("squared", squared), ("ssim", similarity), ("hvs", visual)];
+
+/// The sides of the planes.
+const WIDTH: usize = 640;
+const HEIGHT: usize = 360;
+const COUNT: usize = WIDTH * HEIGHT;
 
 fn main() {
     let names: Vec<String> = std::env::args().skip(1).collect();
@@ -38,7 +89,7 @@ fn beside(count: usize, other_name: &str, mut product: impl FnMut(), mut other: 
         best[1] = best[1].min(began.elapsed().as_secs_f64());
     }
     let each = |i: usize| best[i] * 1e9 / count as f64;
-    println!("product {:.1} ns, {} {:.1} ns, ratio {:.2}", each(0), other_name, each(1), best[0] / best[1]);
+    println!("product {:.2} ns, {} {:.2} ns, ratio {:.2}", each(0), other_name, each(1), best[0] / best[1]);
 }
 
 /// Random normal numbers; beside the quick guess alone, as the product makes it.
@@ -88,4 +139,70 @@ fn forward() {
         }
     };
     beside(blocks.len(), "published", product, other);
+}
+
+/// Two planes of bytes: a sloping picture with some noise, and the same with other noise.
+fn planes() -> [Plane<u8>; 2] {
+    let mut r = Random::of(1, "speed", 2);
+    [0, 1].map(|_| {
+        let sample = |i: usize| ((i % WIDTH + i / WIDTH) / 5 + r.below(40)) as u8;
+        Plane::new((0..COUNT).map(sample).collect(), WIDTH, HEIGHT)
+    })
+}
+
+/// Time for each sample.
+fn squared() {
+    let [a, b] = planes();
+    let (x, y) = (a.data.as_ptr(), b.data.as_ptr());
+    let product = || {
+        let (mut error, mut n, mut max) = (0.0, 0, 0);
+        let (w, h) = (black_box(WIDTH), black_box(HEIGHT));
+        let answer = unsafe { fuavelino_squared_error8(x, COUNT, y, COUNT, w, h, w, w, 8, &mut error, &mut n, &mut max) };
+        assert_eq!(answer, 0);
+        black_box(error);
+    };
+    let other = || {
+        black_box(psnr::probe_squared_error(black_box(&a), black_box(&b)));
+    };
+    beside(COUNT, "published", product, other);
+}
+
+/// Time for each sample, with the 15 taps that the published code builds for 405 rows. It is lent planes of wider samples, made beforehand.
+fn similarity() {
+    let [a, b] = planes();
+    let kernel = ssim::probe_kernel(405.0 * 1.5 / 256.0, 405, 256);
+    assert_eq!(kernel.len(), 15);
+    let taps: Vec<u16> = kernel.iter().map(|t| *t as u16).collect();
+    let [u, v] = [&a, &b].map(|p| p.data.iter().map(|s| u32::from(*s)).collect::<Vec<u32>>());
+    let (x, y) = (a.data.as_ptr(), b.data.as_ptr());
+    let mut scratch = vec![0i64; 6 * WIDTH * 16];
+    let product = || {
+        let (mut s, mut c) = (0.0, 0.0);
+        let (k, places, room) = (taps.as_ptr(), scratch.len(), scratch.as_mut_ptr());
+        let (w, h) = (black_box(WIDTH), black_box(HEIGHT));
+        let answer = unsafe { fuavelino_ssim8(x, COUNT, y, COUNT, w, h, w, w, 8, k, 15, room, places, &mut s, &mut c) };
+        assert_eq!(answer, 0);
+        black_box((s, c));
+    };
+    let other = || {
+        black_box(ssim::probe_pair(black_box(&u), black_box(&v), WIDTH, HEIGHT, 255, black_box(&kernel)));
+    };
+    beside(COUNT, "published", product, other);
+}
+
+/// Time for each sample, of luma.
+fn visual() {
+    let [a, b] = planes();
+    let (x, y) = (a.data.as_ptr(), b.data.as_ptr());
+    let product = || {
+        let mut score = 0.0;
+        let (w, h) = (black_box(WIDTH), black_box(HEIGHT));
+        let answer = unsafe { fuavelino_psnr_hvs_y_8(x, COUNT, y, COUNT, w, h, w, w, 8, &mut score) };
+        assert_eq!(answer, 0);
+        black_box(score);
+    };
+    let other = || {
+        black_box(psnr_hvs::probe_plane(black_box(&a), black_box(&b), 0, 8));
+    };
+    beside(COUNT, "published", product, other);
 }

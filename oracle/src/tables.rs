@@ -51,7 +51,8 @@ fn row(c: &Check) -> Vec<usize> {
         let (at, value) = plane.odd.first().copied().unwrap_or((ROOM, 0));
         list.extend([plane.stride, plane.len, at, usize::from(value)]);
     }
-    list.push(usize::from(c.refusal()));
+    let [a, b] = c.planes().map(|p| p.samples(c.width, c.height));
+    list.push(usize::from(c.lent(&a, &b).refusal()));
     list
 }
 

@@ -1,15 +1,11 @@
 -- What the answers about squared errors are at the face: a number, 0 where it is accepted, and what is written. Definitions only.
 use Prim.Native.Nat.{ℕ}
-use lib.IntN.{pos}
-use lib.Ieee.{binary64, ofInt}
-use mathlib.Core.Bool.{false}
 use Rattle.psnr.specs.declared.Record.{Record}
 use Rattle.psnr.specs.declared.SquaredError.{SquaredError}
 use Rattle.psnr.specs.declared.SquaredError.the-variants as compared
 use Rattle.psnr.specs.declared.Total.{Total}
 use Rattle.psnr.specs.declared.Summed.{Summed}
 use Rattle.psnr.specs.declared.Summed.the-variants as summed
-use Rattle.face.specs.declared.squared.Series.{Series}
 
 -- the refusal's number, and 0 where there is none
 abbrev pub errorNumber : SquaredError → ℕ
@@ -23,12 +19,13 @@ errorWritten (compared.Differs r) old = r
 errorWritten (compared.Identical r) old = r
 errorWritten (compared.Refused k) old = old
 
--- a total that is not refused
-abbrev pub totalled : Total → Series
-totalled t = record { «sq_err» = t .«sq_err»; n = t .n; «sample_max» = t .«sample_max»; refusal = 0 }
+-- the same of a series
+abbrev pub seriesNumber : Summed → ℕ
+seriesNumber (summed.Differs t) = 0
+seriesNumber (summed.Identical t) = 0
+seriesNumber (summed.Refused k) = k
 
--- a series' answer: its total, or zeros beside the refusal's number
-abbrev pub seriesTold : Summed → Series
-seriesTold (summed.Differs t) = totalled t
-seriesTold (summed.Identical t) = totalled t
-seriesTold (summed.Refused k) = record { «sq_err» = ofInt binary64 (pos 0); n = 0; «sample_max» = 0; refusal = k }
+abbrev pub seriesWritten : Summed → Total → Total
+seriesWritten (summed.Differs t) old = t
+seriesWritten (summed.Identical t) old = t
+seriesWritten (summed.Refused k) old = old

@@ -30,9 +30,11 @@ pub extern "C" fn fuavelino_ssim8(
         (ssimRefusal false (planeOf (now (a .entry)) «stride_a» ∷ planeOf (now (b .entry)) «stride_b» ∷ [])
         width height depth (now (kernel .entry)) (length (now (scratch .entry))))
         (placesOf width (length (now (kernel .entry)))) (now (scratch .entry)) ⌝ }
-    ensures { λ _. ⌜ now (ssim .exit) ≡ ssimWritten (ssimOf false (planeOf (now (a .entry)) «stride_a») (planeOf (now (b .entry)) «stride_b»)
+    ensures { λ _. ⌜ now (ssim .exit) ≡ ssimWritten
+        (ssimOf false (planeOf (now (a .entry)) «stride_a») (planeOf (now (b .entry)) «stride_b»)
         width height depth (now (kernel .entry)) (length (now (scratch .entry)))) (now (ssim .entry)) ⌝ }
-    ensures { λ _. ⌜ now (cs .exit) ≡ csWritten (ssimOf false (planeOf (now (a .entry)) «stride_a») (planeOf (now (b .entry)) «stride_b»)
+    ensures { λ _. ⌜ now (cs .exit) ≡ csWritten
+        (ssimOf false (planeOf (now (a .entry)) «stride_a») (planeOf (now (b .entry)) «stride_b»)
         width height depth (now (kernel .entry)) (length (now (scratch .entry)))) (now (cs .entry)) ⌝ }
 {
     match ssim::ssim8(
@@ -76,9 +78,11 @@ pub extern "C" fn fuavelino_ssim16(
         (ssimRefusal true (planeOf (now (a .entry)) «stride_a» ∷ planeOf (now (b .entry)) «stride_b» ∷ [])
         width height depth (now (kernel .entry)) (length (now (scratch .entry))))
         (placesOf width (length (now (kernel .entry)))) (now (scratch .entry)) ⌝ }
-    ensures { λ _. ⌜ now (ssim .exit) ≡ ssimWritten (ssimOf true (planeOf (now (a .entry)) «stride_a») (planeOf (now (b .entry)) «stride_b»)
+    ensures { λ _. ⌜ now (ssim .exit) ≡ ssimWritten
+        (ssimOf true (planeOf (now (a .entry)) «stride_a») (planeOf (now (b .entry)) «stride_b»)
         width height depth (now (kernel .entry)) (length (now (scratch .entry)))) (now (ssim .entry)) ⌝ }
-    ensures { λ _. ⌜ now (cs .exit) ≡ csWritten (ssimOf true (planeOf (now (a .entry)) «stride_a») (planeOf (now (b .entry)) «stride_b»)
+    ensures { λ _. ⌜ now (cs .exit) ≡ csWritten
+        (ssimOf true (planeOf (now (a .entry)) «stride_a») (planeOf (now (b .entry)) «stride_b»)
         width height depth (now (kernel .entry)) (length (now (scratch .entry)))) (now (cs .entry)) ⌝ }
 {
     match ssim::ssim16(

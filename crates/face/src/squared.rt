@@ -4,23 +4,13 @@ ghost use mathlib.Core.Bool.{true, false};
 ghost use Rattle.plane.specs.Plane.{planeOf};
 ghost use Rattle.psnr.specs.Squared.{squaredErrorOf};
 ghost use Rattle.psnr.specs.Series.{seriesOf};
-ghost use Rattle.face.specs.Squared.{errorNumber, errorWritten, totalled, seriesTold};
+ghost use Rattle.face.specs.Squared.{errorNumber, errorWritten, seriesNumber, seriesWritten};
 use psnr::Record;
 use psnr::SquaredError;
 use psnr::Summed;
-use psnr::Total;
-
-// What a series answers: the number of the refusal, or 0 and the total.
-#[repr(C)]
-pub struct Series {
-    pub sq_err: f64,
-    pub n: u64,
-    pub sample_max: u32,
-    pub refusal: u8,
-}
 
 // Writes a record where there is one.
-fn put(answer: SquaredError, sq_err: &mut f64, n: &mut u64, sample_max: &mut u32) -> u8
+fn put_record(answer: SquaredError, sq_err: &mut f64, n: &mut u64, sample_max: &mut u32) -> u8
     ensures { λ r. ⌜ r ≡ errorNumber answer ⌝ }
     ensures { λ _. ⌜ record { «sq_err» = now («sq_err» .exit); n = now (n .exit); «sample_max» = now («sample_max» .exit) }
         ≡ errorWritten answer
@@ -64,7 +54,7 @@ pub extern "C" fn fuavelino_squared_error8(
         width height depth) (record { «sq_err» = now («sq_err» .entry); n = now (n .entry); «sample_max» = now («sample_max» .entry) }) ⌝ }
 {
     let answer = psnr::squared_error8(a, b, width, height, stride_a, stride_b, depth);
-    put(answer, sq_err, n, sample_max)
+    put_record(answer, sq_err, n, sample_max)
 }
 
 // The same of words.
@@ -88,41 +78,46 @@ pub extern "C" fn fuavelino_squared_error16(
         width height depth) (record { «sq_err» = now («sq_err» .entry); n = now (n .entry); «sample_max» = now («sample_max» .entry) }) ⌝ }
 {
     let answer = psnr::squared_error16(a, b, width, height, stride_a, stride_b, depth);
-    put(answer, sq_err, n, sample_max)
+    put_record(answer, sq_err, n, sample_max)
 }
 
-// A total that is not refused.
-fn accepted(t: Total) -> Series
-    ensures { λ s. ⌜ s ≡ totalled t ⌝ }
-{
-    Series {
-        sq_err: t.sq_err,
-        n: t.n,
-        sample_max: t.sample_max,
-        refusal: 0,
-    }
-}
-
-// The answer by its numbers.
-fn told(answer: Summed) -> Series
-    ensures { λ s. ⌜ s ≡ seriesTold answer ⌝ }
+// Writes a total where there is one.
+fn put_total(answer: Summed, sq_err: &mut f64, n: &mut u64, sample_max: &mut u32) -> u8
+    ensures { λ r. ⌜ (r ≡ seriesNumber answer)
+        × (record { «sq_err» = now («sq_err» .exit); n = now (n .exit); «sample_max» = now («sample_max» .exit) }
+        ≡ seriesWritten answer
+        (record { «sq_err» = now («sq_err» .entry); n = now (n .entry); «sample_max» = now («sample_max» .entry) })) ⌝ }
 {
     match answer {
-        Summed::Differs(t) => accepted(t),
-        Summed::Identical(t) => accepted(t),
-        Summed::Refused(k) => Series {
-            sq_err: 0.0,
-            n: 0,
-            sample_max: 0,
-            refusal: k,
-        },
+        Summed::Differs(t) => {
+            *sq_err = t.sq_err;
+            *n = t.n;
+            *sample_max = t.sample_max;
+            0
+        }
+        Summed::Identical(t) => {
+            *sq_err = t.sq_err;
+            *n = t.n;
+            *sample_max = t.sample_max;
+            0
+        }
+        Summed::Refused(k) => k,
     }
 }
 
-// The total of a run of records.
+// The total of a run of records: its error, its count of samples and its one sample_max, written to the three places.
 #[no_mangle]
-pub extern "C" fn fuavelino_series(records: &[Record]) -> Series
-    ensures { λ s. ⌜ s ≡ seriesTold (seriesOf (now (records .entry))) ⌝ }
+pub extern "C" fn fuavelino_series(
+    records: &[Record],
+    sq_err: &mut f64,
+    n: &mut u64,
+    sample_max: &mut u32,
+) -> u8
+    ensures { λ r. ⌜ (r ≡ seriesNumber (seriesOf (now (records .entry))))
+        × (record { «sq_err» = now («sq_err» .exit); n = now (n .exit); «sample_max» = now («sample_max» .exit) }
+        ≡ seriesWritten (seriesOf (now (records .entry)))
+        (record { «sq_err» = now («sq_err» .entry); n = now (n .entry); «sample_max» = now («sample_max» .entry) })) ⌝ }
 {
-    told(psnr::series(records))
+    let answer = psnr::series(records);
+    put_total(answer, sq_err, n, sample_max)
 }

@@ -81,3 +81,40 @@ pub sum-swap : (f : ℕ → ℕ → ℕ) (m n : ℕ) → sumTo (λ (i : ℕ). su
 unfolding sumTo
 sum-swap f zero n = sym (sum-zero _ n (λ k l. refl))
 sum-swap f (suc m) n = rw (sum-swap f m n) (sym (sum-add _ (f m) n))
+
+module _ (f : ℕ → ℕ) where
+  -- a sum in two parts
+  pub sum-split : (a b : ℕ) → sumTo f (a + b) ≡ sumTo f a + sumTo (λ (k : ℕ). f (a + k)) b
+  unfolding sumTo
+  sum-split a zero = rw (add-zero, add-zero)
+  sum-split a (suc b) = rw add-suc (omega (arith, sum-split a b))
+
+-- backwards
+pub sum-back : (f : ℕ → ℕ) (n : ℕ) → sumTo f n ≡ sumTo (λ (k : ℕ). f (n - 1 - k)) n
+unfolding sumTo
+sum-back f zero = refl
+sum-back f (suc n) =
+    let g : ℕ → ℕ = λ (k : ℕ). f (suc n - 1 - k) in
+    let last : suc n - 1 - 0 ≡ n = omega arith in
+    let one : 1 + n ≡ suc n = omega arith in
+    let rest : sumTo (λ (k : ℕ). g (1 + k)) n ≡ sumTo f n =
+    sum-ext _ _ n (λ k l. let q : suc n - 1 - (1 + k) ≡ n - 1 - k = omega arith in ap f q) ∙ sym (sum-back f n) in
+    let whole : sumTo g (suc n) ≡ sumTo g 1 + sumTo (λ (k : ℕ). g (1 + k)) n = rw one at (sum-split g 1 n) in
+    let first : sumTo g 1 ≡ f n = omega (arith, sum-more g 0, ap f last) in
+    omega (arith, rest, whole, first)
+
+-- from both ends to the middle
+pub sum-fold : (f : ℕ → ℕ) (o : ℕ) → sumTo f (2 * o + 1) ≡ f o + sumTo (λ (k : ℕ). f k + f (2 * o - k)) o
+sum-fold f o =
+    let whole : o + (o + 1) ≡ 2 * o + 1 = omega arith in
+    let parts : sumTo f (2 * o + 1) ≡ sumTo f o + sumTo (λ (k : ℕ). f (o + k)) (o + 1) = rw whole at (sum-split f o (o + 1)) in
+    let turned : o + 1 ≡ 1 + o = omega arith in
+    let tail : sumTo (λ (k : ℕ). f (o + k)) (o + 1) ≡ sumTo (λ (k : ℕ). f (o + k)) 1 + sumTo (λ (k : ℕ). f (o + (1 + k))) o =
+    rw turned (sum-split (λ (k : ℕ). f (o + k)) 1 o) in
+    let none : o + 0 ≡ o = omega arith in
+    let middle : sumTo (λ (k : ℕ). f (o + k)) 1 ≡ f o =
+    omega (arith, sum-more (λ (k : ℕ). f (o + k)) 0, sum-none (λ (k : ℕ). f (o + k)), ap f none) in
+    let back : sumTo (λ (k : ℕ). f (o + (1 + k))) o ≡ sumTo (λ (k : ℕ). f (2 * o - k)) o =
+    sum-back (λ (k : ℕ). f (o + (1 + k))) o
+    ∙ sum-ext _ _ o (λ k l. let q : o + (1 + (o - 1 - k)) ≡ 2 * o - k = omega arith in ap f q) in
+    omega (arith, parts, tail, middle, back, sum-add f (λ (k : ℕ). f (2 * o - k)) o)

@@ -3,8 +3,8 @@
 use mathlib.Core.Path.{_≡_, refl, sym, ap, ap₂, _∙_}
 use mathlib.Core.Bool.{Bool, true, false, _&&_, and-false}
 use mathlib.Core.List.{List, [], _∷_, _++_}
-use Prim.Native.Nat.{ℕ, zero, suc, _+_, _*_, _≤_, _<_, min}
-use native.Mathlib.Nat.{mul-le-mul-right, le-trans, add-assoc}
+use Prim.Native.Nat.{ℕ, _+_, _*_, _≤_, min}
+use native.Mathlib.Nat.{mul-le-mul-right, le-trans}
 use native.Mathlib.Decide.{decLe}
 use native.Mathlib.Omega.{arith}
 use borrow.Author.Tests.{le-leb, lt-leb, leb-true, ltb-true, ltb-false}
@@ -17,10 +17,9 @@ use Rattle.psnr.specs.declared.Record.{Record}
 use Rattle.psnr.specs.declared.Sums.{Sums}
 use Rattle.psnr.specs.declared.Run.{Run}
 use Rattle.psnr.specs.declared.Run.the-variants.{Sound, Spoiled}
-use Rattle.psnr.specs.declared.Summed.{Summed}
 use Rattle.psnr.specs.Limits.{countLimit, recordLimit, totalLimit}
-use Rattle.psnr.specs.Record.{wholeOf, joins}
-use Rattle.psnr.specs.Series.{firstMax, allJoin, runSuits, errorTotal, countTotal, summed, seriesOf}
+use Rattle.psnr.specs.Record.{joins}
+use Rattle.psnr.specs.Series.{allJoin, runSuits, errorTotal, countTotal, summed, seriesOf}
 use Rattle.psnr.specs.Fold.{noneYet, added, addBy, addOf, startOf, stepOf, foldFrom, finishOf}
 use Rattle.psnr.proofs.Lawful.{joins-lawful, lawful-count}
 

@@ -1,5 +1,5 @@
 -- What the tests of a record say where they pass, and that n × max² then stays below 2 ^ 53. Assumes nothing.
-use mathlib.Core.Path.{_≡_, refl, sym, _∙_}
+use mathlib.Core.Path.{_≡_, refl}
 use mathlib.Core.Bool.{Bool, true, false, _&&_, _||_, or-true}
 use Prim.Native.Nat.{ℕ, zero, suc, _+_, _*_, _^_, _≤_, _<_}
 use native.Mathlib.Nat.{mul-le-mul, lt-of-le-of-lt, not-suc-le-zero}
@@ -16,6 +16,7 @@ use Rattle.psnr.specs.Limits.{countLimit, totalLimit}
 use Rattle.psnr.specs.declared.Record.{Record}
 use Rattle.psnr.specs.Record.{isWhole, someTo, countSuits, maxSuits, errorSuits, lawful, joins}
 use Rattle.psnr.specs.Rows.{topSample}
+use Rattle.psnr.proofs.Squares.{total-fits}
 
 -- ---- some index below n
 module _ (f : ℕ → Bool) where
@@ -63,10 +64,6 @@ max-says max =
 pub squares-fit : countLimit * (topSample * topSample) < totalLimit
 unfolding countLimit mostDepth maxOf totalLimit
 squares-fit = lit< tt
-
-total-fits : totalLimit < 2 ^ 64
-unfolding totalLimit
-total-fits = lit< tt
 
 top-fits : topSample * topSample < 2 ^ 64
 unfolding mostDepth maxOf

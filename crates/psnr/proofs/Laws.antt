@@ -1,13 +1,13 @@
 -- What a user may count on, stated about the definitions: only visible samples count, equal planes differ by 0, it does not matter which
 -- plane comes first, and the record that a call answers is never bad. Assumes nothing.
-use mathlib.Core.Path.{_≡_, refl, sym, ap, _∙_}
+use mathlib.Core.Path.{_≡_, refl}
 use mathlib.Core.Bool.{Bool, true, false, _&&_}
 use mathlib.Core.List.{[], _∷_}
 use Prim.Native.Nat.{ℕ, _+_, _-_, _*_, _^_, _≤_, _<_}
 use native.Mathlib.Nat.{le-trans, mul-pos, mul-comm, mul-assoc}
 use native.Mathlib.Omega.{arith}
 use borrow.Author.Tests.{eq-eqb, le-leb}
-use lib.Dec.{leb, eqb, lit≤}
+use lib.Dec.{lit≤}
 use lib.IntN.{pos}
 use lib.Ieee.{binary64, ofInt}
 use Rattle.plane.specs.Limits.{sideLimit, leastDepth, mostDepth}
@@ -18,8 +18,8 @@ use Rattle.plane.specs.Lawful.{Accepted}
 use Rattle.plane.proofs.Sums.{sum-ext, sum-zero}
 use Rattle.psnr.specs.Limits.{countLimit, totalLimit}
 use Rattle.psnr.specs.Squared.{squareOf, rowError, errorOf, recordOf, squaredErrorOf}
-use Rattle.psnr.specs.Record.{someTo, countSuits, maxSuits, errorSuits, lawful}
-use Rattle.psnr.proofs.Squares.{error-le, error-below, walkable, count-le}
+use Rattle.psnr.specs.Record.{countSuits, maxSuits, errorSuits, lawful}
+use Rattle.psnr.proofs.Squares.{error-le, error-below, deepest, walkable, count-le}
 use Rattle.psnr.proofs.Lawful.{some-true}
 use Rattle.psnr.proofs.Whole.{whole-back}
 
@@ -92,11 +92,6 @@ one-depth : (wide : Bool) → 1 ≤ leastDepth wide
 unfolding leastDepth
 one-depth true = lit≤ tt
 one-depth false = lit≤ tt
-
-deepest : (wide : Bool) → mostDepth wide ≤ mostDepth true
-unfolding mostDepth
-deepest true = lit≤ tt
-deepest false = lit≤ tt
 
 module _ {wide : Bool} {a b : Plane} {width height depth least : ℕ} (c : Accepted wide (a ∷ b ∷ []) width height depth least) where
   abbrev count : ℕ

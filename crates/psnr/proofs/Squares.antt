@@ -3,7 +3,7 @@ use mathlib.Core.Path.{_≡_}
 use mathlib.Core.Bool.{Bool, true, false}
 use mathlib.Core.List.{[], _∷_}
 use Prim.Native.Nat.{ℕ, _+_, _-_, _*_, _^_, _≤_, _<_}
-use native.Mathlib.Nat.{mul-le-mul, mul-le-mul-left, mul-le-mul-right, le-trans, lt-of-le-of-lt}
+use native.Mathlib.Nat.{mul-le-mul, mul-le-mul-right, le-trans, lt-of-le-of-lt}
 use native.Mathlib.Omega.{arith}
 use lib.Dec.{lit<, lit≤}
 use Rattle.plane.specs.Limits.{sideLimit, mostDepth}
@@ -69,7 +69,7 @@ row-fits : sideLimit * top < 2 ^ 64
 unfolding sideLimit mostDepth maxOf
 row-fits = lit< tt
 
-total-fits : totalLimit < 2 ^ 64
+pub total-fits : totalLimit < 2 ^ 64
 unfolding totalLimit
 total-fits = lit< tt
 
@@ -92,10 +92,10 @@ pub error-room : {width height : ℕ} {a b : Plane} → PlanePair width height a
 error-room p y l = omega (arith, error-below p y l, total-fits)
 
 -- ---- what the walk may count on
-deep : (wide : Bool) → mostDepth wide ≤ mostDepth true
+pub deepest : (wide : Bool) → mostDepth wide ≤ mostDepth true
 unfolding mostDepth
-deep true = lit≤ tt
-deep false = lit≤ tt
+deepest true = lit≤ tt
+deepest false = lit≤ tt
 
 row-there : {width height depth y : ℕ} {p : Plane} → depth ≤ mostDepth true → Lawful width height depth p → y < height → RowThere width p y
 row-there {width} {y = y} {p} d l m =
@@ -107,7 +107,7 @@ row-there {width} {y = y} {p} d l m =
 pub walkable : {wide : Bool} {a b : Plane} {width height depth least : ℕ} → Accepted wide (a ∷ b ∷ []) width height depth least
     → PlanePair width height a b
 walkable {wide} {width = width} {height} {depth} c =
-    let d : depth ≤ mostDepth true = le-trans (c .depth-most) (deep wide) in
+    let d : depth ≤ mostDepth true = le-trans (c .depth-most) (deepest wide) in
     record {
       width-most = c .width-most;
       height-most = c .height-most;

@@ -1,6 +1,6 @@
 -- Document 01, "Squared error": "A series takes a lent run of plane records and adds errors and counts, under their one max." Its
 -- refusals are 10 and 11. Definitions only.
-use mathlib.Core.Bool.{Bool, true, false, _&&_}
+use mathlib.Core.Bool.{Bool, true, _&&_}
 use mathlib.Core.List.{List, [], _∷_}
 use Prim.Native.Nat.{ℕ, zero, suc, _+_}
 use lib.Dec.{leb}

@@ -1,5 +1,5 @@
 -- Document 01, "HVS, SSIM and scales": "The three tables of eight rows by eight are copied from the Rust; y uses CSF_Y, u uses CSF_CB420,
--- v uses CSF_CR420." Each figure as the bits of the signed nearest to it, with the decimals of its row above it. Definitions only.
+-- v uses CSF_CR420." Each figure as the bits of the double nearest to it, with the decimals of its row above it. Definitions only.
 use mathlib.Core.List.{List, [], _∷_}
 use Prim.Native.Nat.{ℕ}
 use lib.Ieee.{Float, nan, binary64, ofBits}

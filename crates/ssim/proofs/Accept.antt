@@ -2,26 +2,22 @@
 use mathlib.Core.Path.{_≡_, refl, sym, _∙_}
 use mathlib.Core.Bool.{Bool, true, false}
 use mathlib.Core.List.{List, [], _∷_, _++_}
-use Prim.Native.Nat.{ℕ, zero, suc, _+_, _*_, _≤_, _<_, _^_}
-use native.Mathlib.Nat.{mul-le-mul-left}
+use Prim.Native.Nat.{ℕ, zero, suc, _+_, _*_, _/_, _≤_, _<_}
+use native.Mathlib.Nat.{mul-le-mul-left, mul-add, mul-comm, mul-assoc}
 use native.Mathlib.Omega.{arith}
 use borrow.Author.Tests.{leb-true, le-leb, lt-leb}
-use lib.Dec.{leb, lit≤}
+use lib.Dec.{lit≤}
 use lib.IntN.{ℤ}
 use lib.ListN.{length, getD}
 use Rattle.refusal.specs.Numbers.{kernelNo, scratchNo}
 use Rattle.refusal.specs.First.{firstBroken}
 use Rattle.refusal.proofs.Chain.{Named, passed, stop, go-on}
-use Rattle.plane.specs.Limits.{sideLimit}
-use Rattle.plane.specs.Plane.{Plane, samplesOf, needed}
-use Rattle.plane.specs.Sums.{sumTo}
+use Rattle.plane.specs.Plane.{Plane, samplesOf}
 use Rattle.plane.specs.Tests.{planeTests, planeRefusal}
-use Rattle.plane.specs.Lawful.{Accepted}
 use Rattle.plane.proofs.Accept.{accepted, plane-named}
 use Rattle.plane.proofs.Depth.{depth-small}
-use Rattle.window.specs.Kernel.{tap, mostTaps, lawful, lentTotal}
-use Rattle.window.specs.Parts.{Kernel}
-use Rattle.window.specs.Columns.{mostSample}
+use Rattle.window.specs.Kernel.{mostTaps, lawful, lentTotal}
+use Rattle.window.specs.Columns.{columnsOf, mostSample}
 use Rattle.window.proofs.KernelSays.{kernel-says, kernel-serves, lent-total}
 use Rattle.ssim.specs.Scratch.{linesOf, placesOf, scratchAfter}
 use Rattle.ssim.specs.Answer.{lentTests, ssimRefusal, Sound, answerFor}
@@ -64,17 +60,20 @@ module _ (wide : Bool) (planes : List Plane) (width height depth : ℕ) (ker : L
 -- ---- none of them refuses
 
 -- none of two lists of tests refuses, so neither does
-halves : (ts more : List (ℕ × Bool)) → Named ts → firstBroken (ts ++ more) ≡ 0 → (firstBroken ts ≡ 0) × (firstBroken more ≡ 0)
+pub halves : (ts more : List (ℕ × Bool)) → Named ts → firstBroken (ts ++ more) ≡ 0 → (firstBroken ts ≡ 0) × (firstBroken more ≡ 0)
 halves [] more named e = (refl, e)
 halves ((n, true) ∷ later) more named e = halves later more (named .1) e
 halves ((n, false) ∷ later) more named e = absurd (omega (arith, named .0, e))
 
 module _ (wide : Bool) (a b : Plane) (width height depth : ℕ) (ker : List ℕ) (lent : ℕ) where
-  -- a column needs five places, and six times L are there
-  room : 1 ≤ length ker → 5 * width ≤ placesOf width (length ker)
-  room l =
-      let reach : 1 ≤ linesOf (length ker) = omega (arith, lines-reach (length ker)) in
-      omega (arith, mul-le-mul-left (6 * width) reach)
+  -- the columns and their margins, five places each: width + 2 off is at most width × (2 off + 1), so at most width × L
+  room : 1 ≤ width → length ker ≡ 2 * (length ker / 2) + 1 → 5 * columnsOf ker width ≤ placesOf width (length ker)
+  room l odd =
+      let off = length ker / 2 in
+      let reach : 2 * off + 1 ≤ linesOf (length ker) = omega (arith, lines-reach (length ker)) in
+      let margins : 2 * off * 1 ≤ 2 * off * width = mul-le-mul-left (2 * off) l in
+      let all : width * (2 * off + 1) ≤ width * linesOf (length ker) = mul-le-mul-left width reach in
+      omega (arith, mul-add width (2 * off) 1, mul-comm width (2 * off), mul-assoc 6 width (linesOf (length ker)))
 
   pub sound : {n : ℕ} → n ≡ ssimRefusal wide (a ∷ b ∷ []) width height depth ker lent → n ≡ 0 → Sound a b width height depth ker lent
   unfolding lentTests
@@ -95,7 +94,7 @@ module _ (wide : Bool) (a b : Plane) (width height depth : ℕ) (ker : List ℕ)
         long-a = p .each .0 .long;
         long-b = p .each .1 .0 .long;
         lent-enough = leb-true _ _ (t .1 .0);
-        columns-fit = room (omega (arith, k .odd));
+        columns-fit = room (p .width-least) (k .odd);
       }
 
 -- samples of either width are small enough to be summed

@@ -1,7 +1,7 @@
 -- Document 01, "HVS, SSIM and scales": the double steps of `calculate_plane_ssim_internal`, each rounded once, in its order, row by
 -- row over every centre. Names are those of the Rust. Definitions only.
 use mathlib.Core.List.{List}
-use Prim.Native.Nat.{ℕ, _*_}
+use Prim.Native.Nat.{ℕ}
 use lib.Ieee.{Float, binary64, ofBits}
 use Rattle.number.specs.Steps.{_⊕_, _⊖_, _⊗_, _⊘_, double, foldTo}
 use Rattle.window.specs.Parts.{momentsAt}

@@ -1,14 +1,15 @@
 -- Five sums at once: the laws of one window, at each of the five. Assumes nothing.
-use mathlib.Core.Path.{_≡_, refl, sym, ap, _∙_}
+use mathlib.Core.Path.{_≡_, refl}
 use mathlib.Core.List.{List}
-use Prim.Native.Nat.{ℕ, zero, suc, _+_, _-_, _*_, _/_, _%_, _≤_, _<_, _^_}
-use native.Mathlib.Nat.{mul-le-mul, lt-of-le-of-lt, le-trans, le-refl, mul-le-mul-left}
+use Prim.Native.Nat.{ℕ, zero, suc, _+_, _-_, _*_, _/_, _≤_, _<_, _^_}
+use native.Mathlib.Nat.{mul-le-mul, lt-of-le-of-lt, le-trans, le-refl}
 use native.Mathlib.Omega.{arith}
 use lib.Dec.{lit<, lit≤}
+use lib.IntN.{ℤ}
 use lib.ListN.{length}
 use Rattle.window.specs.Kernel.{tap, fixedTotal}
 use Rattle.window.specs.Parts.{partOf, Kernel, quantOf, fiveOf, nth, tappedOf, Room, partsOf}
-use Rattle.window.specs.Columns.{mostSample, Fits}
+use Rattle.window.specs.Columns.{mostSample, Fits, cellOf, AllSmall}
 use Rattle.window.specs.declared.Sums.{Sums}
 use Rattle.window.proofs.Windows.{part-more, part-first, part-last, part-room, part-le}
 
@@ -17,7 +18,7 @@ pub five-ext : (g h : ℕ → ℕ) → ((m : ℕ) → g m ≡ h m) → fiveOf g 
 five-ext g h e = simp (e 0, e 1, e 2, e 3, e 4)
 
 -- number m of five is what stands there
-nth-of : (P : ℕ → ℕ → Type 0) (g : ℕ → ℕ) → ((m : ℕ) → m < 5 → P m (g m)) → (m : ℕ) → m < 5 → P m (nth (fiveOf g) m)
+pub nth-of : (P : ℕ → ℕ → Type 0) (g : ℕ → ℕ) → ((m : ℕ) → m < 5 → P m (g m)) → (m : ℕ) → m < 5 → P m (nth (fiveOf g) m)
 nth-of P g h zero l = h 0 l
 nth-of P g h (suc zero) l = h 1 l
 nth-of P g h (suc (suc zero)) l = h 2 l
@@ -95,3 +96,9 @@ module _ (ker : List ℕ) (side : ℕ) (f : ℕ → ℕ → ℕ) (x : ℕ) where
   parts-low t e r h =
       rw e (nth-all (λ (v : ℕ). v < 2 ^ 63) _
       (λ m. lt-of-le-of-lt (le-trans (part-le ker side (f m) x (2 ^ 40) r (h m) _ (le-refl _)) column-room) (lit< tt)))
+
+-- what was read from scratch is small
+pub cells-low : (s : List ℤ) (n c : ℕ) (t : Sums) → t ≡ fiveOf (λ (m : ℕ). cellOf s m c) → AllSmall s (5 * n) → c < n
+    → (m : ℕ) → m < 5 → nth t m ≤ 2 ^ 50
+cells-low s n c t e small l =
+    rw e (nth-of (λ (m v : ℕ). v ≤ 2 ^ 50) (λ (m : ℕ). cellOf s m c) (λ m q. small (5 * c + m) (omega arith) .low))

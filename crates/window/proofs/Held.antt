@@ -1,60 +1,140 @@
 -- What column sums in scratch say: the moments made from them are those of the definition. Assumes nothing.
-use mathlib.Core.Path.{_≡_, refl, sym, ap, _∙_}
-use mathlib.Core.List.{List}
+use mathlib.Core.Path.{_≡_, refl, ap, _∙_}
+use mathlib.Core.List.{List, _++_}
 use Prim.Native.Nat.{ℕ, _+_, _-_, _*_, _/_, _%_, _≤_, _<_, _^_}
 use native.Mathlib.Nat.{le-trans, le-refl, ne-of-lt, add-zero}
+use native.Mathlib.Decide.{decLt}
 use native.Mathlib.Omega.{arith}
+use borrow.Rule.Slice.PartMut.{putMid, postOf}
 use borrow.Author.Count.{below-more, below-none}
-use lib.Dec.{lit<}
+use lib.Dec.{lit<, lit≤}
 use lib.IntN.{ℤ, pos, natAbs}
-use lib.ListN.{length, getD, set, length-set}
-use lib.Seq.{getD-set-same, getD-set-other}
-use Rattle.window.specs.Moments.{momentAt}
-use Rattle.window.specs.Parts.{partOf, partsOf, windowOf, weightOf, Kernel, quantOf, fiveOf, nth, momentsAt}
-use Rattle.window.specs.Columns.{atZ, cellOf, columnAt, mostSample, Holds, Small, AllSmall, momentsIn}
+use lib.ListN.{length, set, take, drop, replicate, length-set, length-drop, length-replicate, getD-replicate, List·getD-eq-default, List·getD-append}
+use lib.Seq.{getD-set-same, getD-set-other, getD-append-add, getD-take, getD-drop, length-take-le}
+use Rattle.plane.proofs.Sums.{sum-ext}
+use Rattle.window.specs.Kernel.{tap}
+use Rattle.window.specs.Moments.{inside, momentAt}
+use Rattle.window.specs.Parts.{partOf, partsOf, windowOf, weightOf, acrossOf, Kernel, quantOf, nth, momentsAt}
+use Rattle.window.specs.Columns.{atZ, cellOf, columnAt, columnsOf, mostSample, Holds, Margins, Small, AllSmall, momentsIn}
 use Rattle.window.specs.declared.Sums.{Sums}
-use Rattle.window.proofs.Windows.{part-le, window-ext}
+use Rattle.window.proofs.Windows.{inside-in, inside-below, inside-above, part-le}
 use Rattle.window.proofs.Separable.{separable, weights}
 use Rattle.window.proofs.Five.{quant-le, column-room, nth-five}
 
--- ---- the columns stand there
-module _ (s : List ℤ) (n : ℕ) (ker : List ℕ) (height : ℕ) (a b : ℕ → ℕ → ℕ) (y : ℕ) (held : Holds s n ker height a b y) where
-  -- so they can be read
-  pub all-small : Kernel ker → ((r c : ℕ) → a r c ≤ mostSample) → ((r c : ℕ) → b r c ≤ mostSample) → AllSmall s n
+-- ---- a part from a on, of k places, has come back as ys: the places in it, before it and after it
+module _ (a k : ℕ) (xs ys : List ℤ) (room : a + k ≤ length xs) (same : length ys ≡ k) where
+  before : length (take a xs) ≡ a
+  before = length-take-le a xs (omega arith)
+
+  put-in : (i : ℕ) → i < k → atZ (putMid a k xs ys) (a + i) ≡ atZ ys i
+  put-in i h =
+      rw before at (getD-append-add (take a xs) (ys ++ postOf a k xs) i (pos 0)) ∙ List·getD-append ys (postOf a k xs) (pos 0) i (omega arith)
+
+  put-before : (p : ℕ) → p < a → atZ (putMid a k xs ys) p ≡ atZ xs p
+  put-before p h =
+      List·getD-append (take a xs) (ys ++ postOf a k xs) (pos 0) p (omega (arith, before)) ∙ getD-take a xs p (pos 0) h
+
+  put-after : (p : ℕ) → a + k ≤ p → atZ (putMid a k xs ys) p ≡ atZ xs p
+  put-after p h =
+      let e : a + (k + (p - (a + k))) ≡ p = omega arith in
+      rw (before, e) at (getD-append-add (take a xs) (ys ++ postOf a k xs) (k + (p - (a + k))) (pos 0))
+      ∙ rw same at (getD-append-add ys (postOf a k xs) (p - (a + k)) (pos 0))
+      ∙ getD-drop k (drop a xs) _ (pos 0) ∙ getD-drop a xs _ (pos 0) ∙ ap (λ (n : ℕ). atZ xs n) e
+
+-- a part that is lent has as many places as it asks for
+pub part-length : (a k : ℕ) (xs : List ℤ) → a + k ≤ length xs → length (take k (drop a xs)) ≡ k
+part-length a k xs room = length-take-le k (drop a xs) (simp length-drop (omega arith))
+
+-- ---- the columns stand between their margins
+module _ (s cols : List ℤ) (k : ℕ) (ker : List ℕ) (width height : ℕ) (a b : ℕ → ℕ → ℕ) (y : ℕ) (held : Holds cols (5 * width) ker height a b y)
+    (old : Margins s ker width) (room : 5 * columnsOf ker width ≤ length s) (count : k ≡ 5 * width) (same : length cols ≡ k) where
+  abbrev start : ℕ
+  start = 5 * (length ker / 2)
+
+  -- with the columns put back between them
+  abbrev now′ : List ℤ
+  now′ = putMid (5 * (length ker / 2)) k s cols
+
+  -- the margins are as they were
+  pub margins-kept : Margins now′ ker width
+  margins-kept =
+      record {
+        left = λ j l. put-before start k s cols (omega arith) same j l ∙ old .left j l;
+        right = λ j l. put-after start k s cols (omega arith) same j (omega arith) ∙ old .right j l;
+      }
+
+  -- a place between them is a column's
+  between : (i : ℕ) → i < 5 * width → atZ now′ (start + i) ≡ pos (columnAt ker height a b y i)
   unfolding Holds
+  between i l = put-in start k s cols (omega arith) same i (omega arith) ∙ held i l
+
+  -- what zero and every column's place has, every place has
+  every-place : (P : ℤ → Type 0) → P (pos 0) → ((i : ℕ) → P (pos (columnAt ker height a b y i))) → (j : ℕ) → P (atZ now′ j)
+  every-place P none some j = go (decLt j start) (decLt j (start + 5 * width))
+    where
+      go : Dec (j < start) → Dec (j < start + 5 * width) → P (atZ now′ j)
+      go (yes m) d = rw (margins-kept .left j m) none
+      go (no m) (no n) = rw (margins-kept .right j (omega arith)) none
+      go (no m) (yes n) = let e : start + (j - start) ≡ j = omega arith in rw (rw e at (between (j - start) (omega arith))) (some (j - start))
+
+  -- so all of them can be read
+  pub all-small : Kernel ker → ((r c : ℕ) → a r c ≤ mostSample) → ((r c : ℕ) → b r c ≤ mostSample) → AllSmall now′ (5 * columnsOf ker width)
   all-small r sa sb j l =
-      rw (held j l) (record {
+      every-place Small (record { sign = tt; low = lit≤ tt }) (λ i.
+      record {
         sign = tt;
         low = le-trans
-            (part-le ker height _ y (2 ^ 40) r (λ k f g d. quant-le (j % 5) _ _ (sa _ _) (sb _ _)) (length ker) (le-refl _)) column-room;
-      })
+            (part-le ker height _ y (2 ^ 40) r (λ k f g d. quant-le (i % 5) _ _ (sa _ _) (sb _ _)) (length ker) (le-refl _)) column-room;
+      }) j
+
+  -- sum m of column c, as a window along the row sees it
+  seen : (m c : ℕ) → m < 5
+      → cellOf now′ m c ≡ inside (length ker / 2) width (λ (i : ℕ). windowOf ker height (λ (r : ℕ). quantOf m (a r i) (b r i)) y) c
+  seen m c l = go (decLt c (length ker / 2)) (decLt c (length ker / 2 + width))
+    where
+      go : Dec (c < length ker / 2) → Dec (c < length ker / 2 + width)
+          → cellOf now′ m c ≡ inside (length ker / 2) width (λ (i : ℕ). windowOf ker height (λ (r : ℕ). quantOf m (a r i) (b r i)) y) c
+      go (yes u) d = rw (inside-below (length ker / 2) width _ c u) (ap natAbs (margins-kept .left (5 * c + m) (omega arith)))
+      go (no u) (no v) =
+          rw (inside-above (length ker / 2) width _ c (omega arith)) (ap natAbs (margins-kept .right (5 * c + m) (omega arith)))
+      go (no u) (yes v) =
+          let i = c - length ker / 2 in
+          let e : start + (5 * i + m) ≡ 5 * c + m = omega arith in
+          let p : (5 * i + m) % 5 ≡ m = omega arith in
+          let q : (5 * i + m) / 5 ≡ i = omega arith in
+          rw (inside-in (length ker / 2) width _ c (omega arith) v)
+          (ap natAbs (rw (e, p, q) at (between (5 * i + m) (omega arith))))
 
   -- sum m at x
-  moment-same : (m width x : ℕ) → m < 5 → 5 * width ≤ n
-      → windowOf ker width (cellOf s m) x ≡ momentAt ker width height (λ (r c : ℕ). quantOf m (a r c) (b r c)) x y
-  unfolding Holds
-  moment-same m width x l w =
-      window-ext ker width _ (λ (c : ℕ). windowOf ker height (λ (r : ℕ). quantOf m (a r c) (b r c)) y) x
-      (λ k f g d. there (x + k - length ker / 2) (omega arith))
+  moment-same : (m x : ℕ) → m < 5 → acrossOf ker (cellOf now′ m) x ≡ momentAt ker width height (λ (r c : ℕ). quantOf m (a r c) (b r c)) x y
+  unfolding acrossOf partOf
+  moment-same m x l =
+      sum-ext _ _ (length ker) (λ k n. ap (λ (v : ℕ). tap ker k * v) (seen m (x + k) l))
       ∙ separable ker width height (λ (r c : ℕ). quantOf m (a r c) (b r c)) x y
-    where
-      there : (c : ℕ) → c < width → cellOf s m c ≡ windowOf ker height (λ (r : ℕ). quantOf m (a r c) (b r c)) y
-      there c q =
-          let u : (5 * c + m) % 5 ≡ m = omega arith in
-          let v : (5 * c + m) / 5 ≡ c = omega arith in
-          rw (held (5 * c + m) (omega arith), u, v)
 
-  pub moments-same : (width x : ℕ) → 5 * width ≤ n → momentsIn ker s width (weightOf ker height y) x ≡ momentsAt ker width height a b x y
+  -- the moments made from them are those of the definition
+  pub moments-same : (x : ℕ) → momentsIn ker now′ width (weightOf ker height y) x ≡ momentsAt ker width height a b x y
   unfolding momentsIn
-  moments-same width x w =
+  moments-same x =
       simp (
-        moment-same 0 width x (omega arith) w,
-        moment-same 1 width x (omega arith) w,
-        moment-same 2 width x (omega arith) w,
-        moment-same 3 width x (omega arith) w,
-        moment-same 4 width x (omega arith) w,
+        moment-same 0 x (lit< tt),
+        moment-same 1 x (lit< tt),
+        moment-same 2 x (lit< tt),
+        moment-same 3 x (lit< tt),
+        moment-same 4 x (lit< tt),
         weights ker width height a b x y,
       )
+
+-- all zero, so the margins are
+pub margins-zero : (s : List ℤ) (n : ℕ) (ker : List ℕ) (width : ℕ) → s ≡ replicate n (pos 0) → Margins s ker width
+margins-zero s n ker width e = record { left = λ j l. zero-at j; right = λ j l. zero-at j }
+  where
+    zero-at : (j : ℕ) → atZ s j ≡ pos 0
+    zero-at j = go (decLt j n)
+      where
+        go : Dec (j < n) → atZ s j ≡ pos 0
+        go (yes l) = rw e (getD-replicate n j (pos 0) (pos 0) l)
+        go (no l) = rw e (List·getD-eq-default (replicate n (pos 0)) (pos 0) (omega (arith, length-replicate n (pos 0))))
 
 -- ---- one column more
 set-more : (l l′ : List ℤ) (i : ℕ) (g : ℕ → ℤ) → l′ ≡ set l i (g i) → ((j : ℕ) → j < i → atZ l j ≡ g j) → i < length l

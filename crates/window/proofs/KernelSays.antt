@@ -1,12 +1,11 @@
 -- What a lawful kernel is like, as facts: what the sums need of it, and what its taps are. Assumes nothing.
 use mathlib.Core.Path.{_≡_, refl}
-use mathlib.Core.Bool.{Bool, true, _&&_}
+use mathlib.Core.Bool.{true}
 use mathlib.Core.List.{List}
 use Prim.Native.Nat.{ℕ, _+_, _-_, _*_, _/_, _%_, _≤_, _<_}
-use native.Mathlib.Nat.{div-add-mod'}
 use native.Mathlib.Omega.{arith}
 use borrow.Author.Tests.{leb-true, eqb-true}
-use lib.Dec.{leb, eqb, lit≤}
+use lib.Dec.{eqb, lit≤}
 use lib.ListN.{length}
 use Rattle.refusal.proofs.Chain.{and-left, and-right}
 use Rattle.plane.specs.Plane.{allTo}
@@ -66,7 +65,13 @@ kernel-says total ker e =
 -- so the sums can be made with any lawful kernel, up to the fixed one's total
 pub kernel-serves : (total : ℕ) (ker : List ℕ) → total ≤ fixedTotal → lawful total ker ≡ true → Kernel ker
 kernel-serves total ker l e =
-    let s = kernel-says total ker e in record { odd = s .odd; short = s .short; light = omega (arith, s .sum) }
+    let s = kernel-says total ker e in
+    record {
+      odd = s .odd;
+      short = s .short;
+      light = omega (arith, s .sum);
+      mirror = s .mirror;
+    }
 
 pub lent-total : lentTotal ≤ fixedTotal
 unfolding lentTotal fixedTotal

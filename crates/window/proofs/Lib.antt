@@ -2,7 +2,9 @@ pub mod KernelSays
 pub mod Windows
 pub mod Separable
 pub mod Five
+pub mod Folded
 pub mod Held
 pub mod Cauchy
 pub mod DemandMoments
 pub mod Demand
+pub mod Worked

@@ -7,7 +7,7 @@ use lib.IntN.{ℤ, pos, natAbs}
 use lib.ListN.{length, getD}
 use lib.Signed.{nonNeg}
 use Rattle.plane.specs.Plane.{Plane, sampleAt, needed}
-use Rattle.window.specs.Parts.{windowOf, weightOf, quantOf, nth}
+use Rattle.window.specs.Parts.{windowOf, weightOf, acrossOf, quantOf, nth}
 use Rattle.window.specs.declared.Sums.{Sums}
 use Rattle.window.specs.declared.Moments.{Moments}
 
@@ -32,7 +32,7 @@ pub record Readable (width height : ℕ) (p : Plane) : Type 0 where
 abbrev pub atZ : List ℤ → ℕ → ℤ
 atZ s p = getD s p (pos 0)
 
--- sum m of column c
+-- sum m of column c of those that stand there, margins and all
 abbrev pub cellOf : List ℤ → ℕ → ℕ → ℕ
 cellOf s m c = natAbs (atZ s (5 * c + m))
 
@@ -43,6 +43,15 @@ columnAt ker height a b y j = windowOf ker height (λ (r : ℕ). quantOf (j % 5)
 -- the first n places hold them
 unfoldable pub Holds : List ℤ → ℕ → List ℕ → ℕ → (ℕ → ℕ → ℕ) → (ℕ → ℕ → ℕ) → ℕ → Type 0
 Holds s n ker height a b y = (j : ℕ) → j < n → atZ s j ≡ pos (columnAt ker height a b y j)
+
+-- how many columns stand there: those of the plane, and half a kernel of zeros before and after
+abbrev pub columnsOf : List ℕ → ℕ → ℕ
+columnsOf ker width = width + 2 * (length ker / 2)
+
+-- the margins are zero
+pub record Margins (s : List ℤ) (ker : List ℕ) (width : ℕ) : Type 0 where
+  pub left : (j : ℕ) → j < 5 * (length ker / 2) → atZ s j ≡ pos 0
+  pub right : (j : ℕ) → 5 * (length ker / 2) + 5 * width ≤ j → atZ s j ≡ pos 0
 
 -- five sums that places of 64 signed bits can hold
 abbrev pub Fits : Sums → Type 0
@@ -60,10 +69,10 @@ AllSmall s n = (j : ℕ) → j < n → Small (atZ s j)
 unfoldable pub momentsIn : List ℕ → List ℤ → ℕ → ℕ → ℕ → Moments
 momentsIn ker s width down x =
     record {
-      mux = windowOf ker width (cellOf s 0) x;
-      muy = windowOf ker width (cellOf s 1) x;
-      x2 = windowOf ker width (cellOf s 2) x;
-      xy = windowOf ker width (cellOf s 3) x;
-      y2 = windowOf ker width (cellOf s 4) x;
+      mux = acrossOf ker (cellOf s 0) x;
+      muy = acrossOf ker (cellOf s 1) x;
+      x2 = acrossOf ker (cellOf s 2) x;
+      xy = acrossOf ker (cellOf s 3) x;
+      y2 = acrossOf ker (cellOf s 4) x;
       w = down * weightOf ker width x;
     }

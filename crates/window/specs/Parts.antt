@@ -2,7 +2,7 @@
 -- `proofs/Separable.antt` shows that a window along a row of windows down the columns is the sum of Moments. Definitions only.
 use mathlib.Core.List.{List}
 use mathlib.Core.Path.{_≡_}
-use Prim.Native.Nat.{ℕ, zero, suc, _+_, _*_, _/_, _≤_, _<_, _^_}
+use Prim.Native.Nat.{ℕ, zero, suc, _+_, _-_, _*_, _/_, _≤_, _<_, _^_}
 use lib.ListN.{length}
 use Rattle.plane.specs.Sums.{sumTo}
 use Rattle.window.specs.Kernel.{tap, mostTaps, fixedTotal}
@@ -24,11 +24,22 @@ windowOf ker side f x = partOf ker side f x (length ker)
 abbrev pub weightOf : List ℕ → ℕ → ℕ → ℕ
 weightOf ker side x = windowOf ker side (λ (i : ℕ). 1) x
 
+-- all taps over g from x on: a window over numbers that have their margins of zeros with them
+unfoldable pub acrossOf : List ℕ → (ℕ → ℕ) → ℕ → ℕ
+acrossOf ker g x = sumTo (λ (k : ℕ). tap ker k * g (x + k)) (length ker)
+
+-- the same from the middle and the ends at once: the middle tap and the n outermost pairs
+unfoldable pub foldedOf : List ℕ → (ℕ → ℕ) → ℕ → ℕ → ℕ
+foldedOf ker g x n =
+    let off = length ker / 2 in
+    tap ker off * g (x + off) + sumTo (λ (k : ℕ). tap ker k * (g (x + k) + g (x + 2 * off - k))) n
+
 -- What the sums need of a kernel. Any lawful kernel has it, lent or fixed (`kernel-says`).
 pub record Kernel (ker : List ℕ) : Type 0 where
   pub odd : length ker ≡ 2 * (length ker / 2) + 1
   pub short : length ker ≤ mostTaps
   pub light : sumTo (tap ker) (length ker) ≤ fixedTotal
+  pub mirror : (k : ℕ) → k < length ker → tap ker k ≡ tap ker (length ker - 1 - k)
 
 -- ---- five at once
 
@@ -63,6 +74,10 @@ Room t k g = (m : ℕ) → m < 5 → nth t m + k * g m < 2 ^ 64
 -- the first n taps over five functions
 unfoldable pub partsOf : List ℕ → ℕ → (ℕ → ℕ → ℕ) → ℕ → ℕ → Sums
 partsOf ker side f x n = fiveOf (λ (m : ℕ). partOf ker side (f m) x n)
+
+-- five folded sums
+unfoldable pub foldsOf : List ℕ → (ℕ → ℕ → ℕ) → ℕ → ℕ → Sums
+foldsOf ker g x n = fiveOf (λ (m : ℕ). foldedOf ker (g m) x n)
 
 -- ---- the six at a centre, of two views a and b
 abbrev pub momentsAt : List ℕ → ℕ → ℕ → (ℕ → ℕ → ℕ) → (ℕ → ℕ → ℕ) → ℕ → ℕ → Moments

@@ -44,19 +44,24 @@ fn sample16(p: &[u16], stride: usize, r: usize, c: usize) -> u64
 }
 
 // One tap more over a pair of samples.
-fn tapped(t: Sums, tap: u16, a: u64, b: u64) -> Sums
+pub fn tapped(t: Sums, tap: u16, a: u64, b: u64) -> Sums
     requires { ⌜ Room t tap (λ (m : ℕ). quantOf m a b) ⌝ }
     ensures { λ r. ⌜ r ≡ tappedOf t tap (λ (m : ℕ). quantOf m a b) ⌝ }
 {
     let k = tap as u64;
     let ka = k * a;
     let kb = k * b;
+    let mux = t.mux + ka;
+    let muy = t.muy + kb;
+    let x2 = t.x2 + ka * a;
+    let xy = t.xy + ka * b;
+    let y2 = t.y2 + kb * b;
     Sums {
-        mux: t.mux + ka,
-        muy: t.muy + kb,
-        x2: t.x2 + ka * a,
-        xy: t.xy + ka * b,
-        y2: t.y2 + kb * b,
+        mux,
+        muy,
+        x2,
+        xy,
+        y2,
     }
 }
 

@@ -1,6 +1,7 @@
-// Along the row: at each centre the five sums over the column sums, and the weight.
+// Along the row: at each centre the five sums over the column sums, and the weight. The columns stand between margins of zeros, half a
+// kernel wide, so that the sums need no limits.
 ghost use mathlib.Core.Path.{_≡_};
-ghost use Prim.Native.Nat.{ℕ, _+_, _*_, _<_, _≤_};
+ghost use Prim.Native.Nat.{ℕ, _+_, _*_, _/_, _<_, _≤_, _^_};
 ghost use lib.Dec.{T};
 ghost use lib.IntN.{pos, natAbs};
 ghost use lib.ListN.{length};
@@ -8,8 +9,8 @@ ghost use lib.Signed.{nonNeg};
 ghost use Rattle.plane.specs.Limits.{sideLimit};
 ghost use Rattle.plane.specs.Sums.{sumTo};
 ghost use Rattle.window.specs.Kernel.{tap, fixedTotal};
-ghost use Rattle.window.specs.Parts.{Kernel, tappedOf, Room, nth, fiveOf, partsOf, weightOf};
-ghost use Rattle.window.specs.Columns.{atZ, cellOf, Small, AllSmall, momentsIn};
+ghost use Rattle.window.specs.Parts.{Kernel, tappedOf, Room, nth, fiveOf, acrossOf, weightOf};
+ghost use Rattle.window.specs.Columns.{atZ, cellOf, columnsOf, Small, AllSmall, momentsIn};
 use crate::Moments;
 use crate::Sums;
 use crate::columns;
@@ -31,13 +32,13 @@ fn get(cols: &[i64], i: usize) -> u64
     up(cols[i])
 }
 
-// The five sums of column x.
-fn cells(cols: &[i64], x: usize, width: usize) -> Sums
-    requires { ⌜ (x < width) × (5 * width ≤ length (now cols)) ⌝ }
-    requires { ⌜ AllSmall (now cols) (5 * width) ⌝ }
-    ensures { λ r. ⌜ r ≡ fiveOf (λ (m : ℕ). cellOf (now (cols .entry)) m x) ⌝ }
+// The five sums of column c, of n that stand there.
+fn cells(cols: &[i64], n: usize, c: usize) -> Sums
+    requires { ⌜ (c < n) × (5 * n ≤ length (now cols)) ⌝ }
+    requires { ⌜ AllSmall (now cols) (5 * n) ⌝ }
+    ensures { λ r. ⌜ r ≡ fiveOf (λ (m : ℕ). cellOf (now (cols .entry)) m c) ⌝ }
 {
-    let at = 5 * x;
+    let at = 5 * c;
     Sums {
         mux: get(cols, at),
         muy: get(cols, at + 1),
@@ -47,39 +48,73 @@ fn cells(cols: &[i64], x: usize, width: usize) -> Sums
     }
 }
 
+// The five sums of columns i and j together.
+fn pair(cols: &[i64], n: usize, i: usize, j: usize) -> Sums
+    requires { ⌜ (i < n) × (j < n) × (5 * n ≤ length (now cols)) ⌝ }
+    requires { ⌜ AllSmall (now cols) (5 * n) ⌝ }
+    ensures { λ r. ⌜ r ≡ fiveOf (λ (m : ℕ). cellOf (now (cols .entry)) m i + cellOf (now (cols .entry)) m j) ⌝ }
+{
+    let s = cells(cols, n, i);
+    let u = cells(cols, n, j);
+    let mux = s.mux + u.mux;
+    let muy = s.muy + u.muy;
+    let x2 = s.x2 + u.x2;
+    let xy = s.xy + u.xy;
+    let y2 = s.y2 + u.y2;
+    Sums {
+        mux,
+        muy,
+        x2,
+        xy,
+        y2,
+    }
+}
+
 // One tap more of each sum.
 fn tapped(t: Sums, tap: u16, s: Sums) -> Sums
     requires { ⌜ Room t tap (nth s) ⌝ }
     ensures { λ r. ⌜ r ≡ tappedOf t tap (nth s) ⌝ }
 {
     let k = tap as u64;
+    let mux = t.mux + k * s.mux;
+    let muy = t.muy + k * s.muy;
+    let x2 = t.x2 + k * s.x2;
+    let xy = t.xy + k * s.xy;
+    let y2 = t.y2 + k * s.y2;
     Sums {
-        mux: t.mux + k * s.mux,
-        muy: t.muy + k * s.muy,
-        x2: t.x2 + k * s.x2,
-        xy: t.xy + k * s.xy,
-        y2: t.y2 + k * s.y2,
+        mux,
+        muy,
+        x2,
+        xy,
+        y2,
     }
 }
 
-// The five sums along the columns, the middle at x.
-fn along(kernel: &[u16], cols: &[i64], width: usize, x: usize) -> Sums
-    requires { ⌜ (x < width) × (width ≤ sideLimit) × (5 * width ≤ length (now cols)) ⌝ }
-    requires { ⌜ Kernel (now kernel) ⌝ }
-    requires { ⌜ AllSmall (now cols) (5 * width) ⌝ }
-    ensures { λ r. ⌜ r ≡ partsOf (now (kernel .entry)) width (cellOf (now (cols .entry))) x (length (now (kernel .entry))) ⌝ }
+// No tap yet.
+fn none() -> Sums
+    ensures { λ r. ⌜ r ≡ fiveOf (λ (m : ℕ). 0) ⌝ }
 {
-    let n = kernel.len();
-    let off = n / 2;
-    let mut t = Sums {
+    Sums {
         mux: 0,
         muy: 0,
         x2: 0,
         xy: 0,
         y2: 0,
-    };
-    for k in columns::first(n, x)..columns::past(n, x, width) {
-        t = tapped(t, kernel[k], cells(cols, x + k - off, width));
+    }
+}
+
+// The five sums along the columns from x on, which begin with half a kernel of zeros and end with as many. A kernel is the same from both
+// ends, so that two columns share each tap but the middle one.
+fn along(kernel: &[u16], cols: &[i64], n: usize, x: usize) -> Sums
+    requires { ⌜ (x + 2 * (length (now kernel) / 2) < n) × (5 * n ≤ length (now cols)) ⌝ }
+    requires { ⌜ Kernel (now kernel) ⌝ }
+    requires { ⌜ AllSmall (now cols) (5 * n) ⌝ }
+    ensures { λ r. ⌜ r ≡ fiveOf (λ (m : ℕ). acrossOf (now (kernel .entry)) (cellOf (now (cols .entry)) m) x) ⌝ }
+{
+    let off = kernel.len() / 2;
+    let mut t = tapped(none(), kernel[off], cells(cols, n, x + off));
+    for k in 0..off {
+        t = tapped(t, kernel[k], pair(cols, n, x + k, x + 2 * off - k));
     }
     t
 }
@@ -121,20 +156,20 @@ pub fn moments_at(
     down: u64,
     x: usize,
 ) -> Moments
-    requires { ⌜ (x < width) × (width ≤ sideLimit) × (5 * width ≤ length (now cols)) × (down ≤ fixedTotal) ⌝ }
+    requires { ⌜ (x < width) × (width ≤ sideLimit) × (5 * columnsOf (now kernel) width ≤ length (now cols)) × (down ≤ fixedTotal) ⌝ }
     requires { ⌜ Kernel (now kernel) ⌝ }
     requires { ⌜ total ≡ sumTo (tap (now kernel)) (length (now kernel)) ⌝ }
-    requires { ⌜ AllSmall (now cols) (5 * width) ⌝ }
+    requires { ⌜ AllSmall (now cols) (5 * columnsOf (now kernel) width) ⌝ }
     ensures { λ r. ⌜ r ≡ momentsIn (now (kernel .entry)) (now (cols .entry)) width down x ⌝ }
 {
-    let t = along(kernel, cols, width, x);
-    let across = weight(kernel, total, width, x);
+    let t = along(kernel, cols, width + 2 * (kernel.len() / 2), x);
+    let w = down * weight(kernel, total, width, x);
     Moments {
         mux: t.mux,
         muy: t.muy,
         x2: t.x2,
         xy: t.xy,
         y2: t.y2,
-        w: down * across,
+        w,
     }
 }

@@ -1,10 +1,10 @@
 -- `psnr::add_record` meets its contract. Assumes nothing.
 use mathlib.Core.Path.{_≡_, sym, subst}
 use mathlib.Core.Bool.{true, false, and-false}
-use Prim.Native.Nat.{ℕ, _≤_, _<_, _+_, _*_}
+use Prim.Native.Nat.{_≤_, _<_}
 use borrow.Author.Needs.{needs}
 use borrow.Author.Tests.{le-ltb, lt-ltb}
-use lib.Dec.{T, ltb}
+use lib.Dec.{T}
 use Rattle.refusal.proofs.Chain.{fails, holds}
 use Rattle.psnr.specs.declared.Record.{Record}
 use Rattle.psnr.specs.declared.Sums.{Sums}

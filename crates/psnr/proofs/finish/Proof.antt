@@ -1,16 +1,13 @@
 -- `psnr::finish` meets its contract. Assumes nothing.
 use mathlib.Core.Path.{_≡_, refl, sym, ap, _∙_}
-use mathlib.Core.Bool.{true, false}
 use Prim.Native.Nat.{ℕ, zero, suc, _≤_, _<_}
 use native.Mathlib.Omega.{arith}
 use borrow.Author.Needs.{needs}
 use borrow.Author.Tests.{lt-leb, le-leb}
-use lib.Dec.{leb}
 use Rattle.refusal.specs.Numbers.{totalNo}
 use Rattle.psnr.specs.declared.Run.{Run}
 use Rattle.psnr.specs.declared.Run.the-variants.{Sound}
 use Rattle.psnr.specs.declared.Sums.{Sums}
-use Rattle.psnr.specs.declared.Summed.{Summed}
 use Rattle.psnr.specs.declared.Summed.the-variants.{Differs, Identical, Refused}
 use Rattle.psnr.specs.Limits.{totalLimit}
 use Rattle.psnr.specs.Series.{totalOf, summed}

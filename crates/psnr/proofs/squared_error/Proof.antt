@@ -1,7 +1,7 @@
 -- `psnr::squared_error` meets its contract. Assumes nothing.
 use mathlib.Core.Path.{_≡_, refl, sym, _∙_}
 use mathlib.Core.List.{[], _∷_}
-use Prim.Native.Nat.{ℕ, zero, suc, _≤_, _^_}
+use Prim.Native.Nat.{ℕ, zero, suc}
 use native.Mathlib.Nat.{lt-of-le-of-lt, le-of-lt, le-refl}
 use native.Mathlib.Omega.{arith}
 use borrow.Author.Needs.{needs}

@@ -1,5 +1,5 @@
 -- `psnr::step` meets its contract. Assumes nothing.
-use mathlib.Core.Path.{_≡_, sym, ap, _∙_}
+use mathlib.Core.Path.{sym, ap, _∙_}
 use borrow.Author.Needs.{needs}
 use Rattle.psnr.specs.declared.Run.{Run}
 use Rattle.psnr.specs.Fold.{stepOf}

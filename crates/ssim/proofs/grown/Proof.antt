@@ -5,8 +5,6 @@ use Rattle.window.proofs.Windows.{taps-room}
 use Rattle.ssim.proofs.Powers.{grown-below, grown-there}
 use Rattle.ssim.proofs.grown.Statement.{statement}
 use Rattle.ssim.proofs.grown.Tie as tie
-use Rattle.ssim.proofs.grown.Reads as reads
-use Rattle.ssim.proofs.grown.Lts as lts
 
 mul-result : tie.Need-mul-result
 mul-result c = omega (arith, taps-room)

@@ -1,5 +1,5 @@
 -- `ssim::lines` meets its contract. Assumes nothing.
-use mathlib.Core.Path.{_≡_, sym, _∙_, ap}
+use mathlib.Core.Path.{_≡_, sym}
 use Prim.Native.Nat.{ℕ, _≤_, _-_, _*_}
 use native.Mathlib.Omega.{arith}
 use borrow.Author.Needs.{needs}
@@ -9,9 +9,6 @@ use Rattle.ssim.specs.Scratch.{grownOf, linesOf}
 use Rattle.ssim.proofs.Powers.{grown-le}
 use Rattle.ssim.proofs.lines.Statement.{statement}
 use Rattle.ssim.proofs.lines.Tie as tie
-use Rattle.ssim.proofs.lines.Reads as reads
-use Rattle.ssim.proofs.lines.Lts as lts
-use Rattle.ssim.proofs.grown.Reads as grown-reads
 
 abbrev Inv-loop : tie.InvT-loop
 Inv-loop taps p₀ i₀ p i = (i ≤ taps) × (p ≤ 2 * taps) × (p ≡ foldTo (λ (q j : ℕ). grownOf taps q) 1 i)

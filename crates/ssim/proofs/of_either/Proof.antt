@@ -4,10 +4,6 @@ use borrow.Author.Needs.{needs}
 use Rattle.ssim.proofs.Accept.{sound, refused, untouched}
 use Rattle.ssim.proofs.of_either.Statement.{statement}
 use Rattle.ssim.proofs.of_either.Tie as tie
-use Rattle.ssim.proofs.of_either.Reads as reads
-use Rattle.ssim.proofs.of_either.Lts as lts
-use Rattle.ssim.proofs.refusal.Reads as refusal-reads
-use Rattle.ssim.proofs.scored.Reads as scored-reads
 
 refusal-requires : tie.Need-refusal-requires
 refusal-requires c κs = search needs

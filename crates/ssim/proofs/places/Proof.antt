@@ -8,9 +8,6 @@ use Rattle.window.proofs.Windows.{taps-room}
 use Rattle.ssim.proofs.Powers.{lines-le}
 use Rattle.ssim.proofs.places.Statement.{statement}
 use Rattle.ssim.proofs.places.Tie as tie
-use Rattle.ssim.proofs.places.Reads as reads
-use Rattle.ssim.proofs.places.Lts as lts
-use Rattle.ssim.proofs.lines.Reads as lines-reads
 
 mul-result : tie.Need-mul-result
 mul-result c = omega (arith, side-small)

@@ -1,20 +1,11 @@
 -- `ssim::refusal` meets its contract. Assumes nothing.
-use native.Mathlib.Omega.{arith}
 use borrow.Author.Needs.{needs}
-use denote.Ref.{now}
 use mathlib.Core.Path.{sym, _∙_}
-use mathlib.Core.List.{[], _∷_}
-use Rattle.plane.specs.Plane.{planeOf, samplesOf}
 use Rattle.refusal.proofs.Chain.{fails, holds}
 use Rattle.plane.proofs.Accept.{accepted}
 use Rattle.ssim.proofs.Accept.{planes-refuse, kernel-refuses, scratch-refuses, none-refuses, taps-count}
 use Rattle.ssim.proofs.refusal.Statement.{statement}
 use Rattle.ssim.proofs.refusal.Tie as tie
-use Rattle.ssim.proofs.refusal.Reads as reads
-use Rattle.ssim.proofs.refusal.Lts as lts
-use Rattle.plane.proofs.check.Reads as check-reads
-use Rattle.ssim.proofs.places.Reads as places-reads
-use Rattle.window.proofs.kernel_lawful.Reads as kernel-lawful-reads
 
 check-requires : tie.Need-check-requires
 check-requires c κs = search needs

@@ -1,6 +1,5 @@
 -- `ssim::scored` meets its contract. Assumes nothing.
-use mathlib.Core.Path.{refl, sym, _∙_}
-use Prim.Native.Nat.{ℕ}
+use mathlib.Core.Path.{sym}
 use native.Mathlib.Omega.{arith}
 use borrow.Author.Needs.{needs}
 use denote.Ref.{now}
@@ -9,13 +8,6 @@ use Rattle.window.specs.Kernel.{lentTotal}
 use Rattle.ssim.proofs.Accept.{either-small}
 use Rattle.ssim.proofs.scored.Statement.{statement}
 use Rattle.ssim.proofs.scored.Tie as tie
-use Rattle.ssim.proofs.scored.Reads as reads
-use Rattle.ssim.proofs.scored.Lts as lts
-use Rattle.plane.proofs.sample_max.Reads as sample-max-reads
-use Rattle.ssim.proofs.places.Reads as places-reads
-use Rattle.ssim.proofs.score.pair.Reads as pair-reads
-use Rattle.ssim.proofs.score.squared.Reads as squared-reads
-use Rattle.ssim.proofs.walk.totals.Reads as totals-reads
 
 places-requires : tie.Need-places-requires
 places-requires c κs = search needs

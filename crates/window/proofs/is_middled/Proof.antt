@@ -4,8 +4,6 @@ use mathlib.Core.Path.{refl}
 use Rattle.window.specs.Kernel.{middled}
 use Rattle.window.proofs.is_middled.Statement.{statement}
 use Rattle.window.proofs.is_middled.Tie as tie
-use Rattle.window.proofs.is_middled.Reads as reads
-use Rattle.window.proofs.is_middled.Lts as lts
 
 mul-result : tie.Need-mul-result
 mul-result c = search needs

@@ -1,18 +1,16 @@
 -- `window::is_mirrored` meets its contract. Assumes nothing.
-use mathlib.Core.Path.{_≡_, sym, ap, _∙_}
-use Prim.Native.Nat.{ℕ, _≤_, _-_, _+_, _*_}
+use mathlib.Core.Path.{_≡_, sym}
+use Prim.Native.Nat.{ℕ, _≤_, _-_}
 use native.Mathlib.Omega.{arith}
 use borrow.Author.Needs.{needs}
 use denote.Ref.{now}
-use lib.Dec.{leb, eqb}
+use lib.Dec.{eqb}
 use lib.ListN.{length}
 use Rattle.plane.specs.Plane.{allTo}
 use Rattle.plane.proofs.All.{all-none, all-more}
 use Rattle.window.specs.Kernel.{tap, mirrored}
 use Rattle.window.proofs.is_mirrored.Statement.{statement}
 use Rattle.window.proofs.is_mirrored.Tie as tie
-use Rattle.window.proofs.is_mirrored.Reads as reads
-use Rattle.window.proofs.is_mirrored.Lts as lts
 
 abbrev Inv-loop : tie.InvT-loop
 Inv-loop taps n ok₀ k₀ ok k = (k ≤ length taps) × (ok ≡ allTo (λ (i : ℕ). eqb (tap taps i) (tap taps (length taps - 1 - i))) k)

@@ -6,13 +6,6 @@ use Rattle.window.specs.Kernel.{lawful, lentTotal}
 use Rattle.window.proofs.KernelSays.{odd-says}
 use Rattle.window.proofs.kernel_lawful.Statement.{statement}
 use Rattle.window.proofs.kernel_lawful.Tie as tie
-use Rattle.window.proofs.kernel_lawful.Reads as reads
-use Rattle.window.proofs.kernel_lawful.Lts as lts
-use Rattle.window.proofs.is_middled.Reads as is-middled-reads
-use Rattle.window.proofs.is_mirrored.Reads as is-mirrored-reads
-use Rattle.window.proofs.odd_count.Reads as odd-count-reads
-use Rattle.window.proofs.sums_to.Reads as sums-to-reads
-use Rattle.window.proofs.taps_suit.Reads as taps-suit-reads
 
 odd-count-requires : tie.Need-odd-count-requires
 odd-count-requires c κs = search needs

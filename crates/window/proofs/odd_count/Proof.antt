@@ -3,8 +3,6 @@ use mathlib.Core.Path.{refl}
 use Rattle.window.specs.Kernel.{oddCount, mostTaps}
 use Rattle.window.proofs.odd_count.Statement.{statement}
 use Rattle.window.proofs.odd_count.Tie as tie
-use Rattle.window.proofs.odd_count.Reads as reads
-use Rattle.window.proofs.odd_count.Lts as lts
 
 returns : tie.Need-returns
 unfolding oddCount mostTaps

@@ -1,20 +1,16 @@
 -- `window::sums_to` meets its contract. Assumes nothing.
-use mathlib.Core.Path.{_≡_, sym, ap, _∙_}
-use Prim.Native.Nat.{ℕ, _≤_, _<_, _-_, _+_, _*_}
+use mathlib.Core.Path.{_≡_, sym}
+use Prim.Native.Nat.{ℕ, _≤_, _<_, _-_}
 use native.Mathlib.Omega.{arith}
 use borrow.Author.Needs.{needs}
 use denote.Ref.{now}
-use lib.Dec.{leb, eqb}
 use lib.ListN.{length}
 use Rattle.plane.specs.Sums.{sumTo}
 use Rattle.plane.proofs.Sums.{sum-none, sum-more, sum-bound}
 use Rattle.window.proofs.Windows.{taps-room}
-use Rattle.window.specs.Kernel.{tap, sumsTo, mostTaps}
+use Rattle.window.specs.Kernel.{tap, sumsTo}
 use Rattle.window.proofs.sums_to.Statement.{statement}
 use Rattle.window.proofs.sums_to.Tie as tie
-use Rattle.window.proofs.sums_to.Reads as reads
-use Rattle.window.proofs.sums_to.Lts as lts
-use Rattle.window.proofs.wide.Reads as wide-reads
 
 abbrev Inv-loop : tie.InvT-loop
 Inv-loop taps total sum₀ k₀ k-end sum k = (k ≤ length taps) × (sum ≡ sumTo (tap taps) k)

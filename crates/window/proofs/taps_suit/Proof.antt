@@ -1,19 +1,16 @@
 -- `window::taps_suit` meets its contract. Assumes nothing.
-use mathlib.Core.Path.{_≡_, sym, ap, _∙_}
-use Prim.Native.Nat.{ℕ, _≤_, _-_, _+_, _*_}
+use mathlib.Core.Path.{_≡_, sym}
+use Prim.Native.Nat.{ℕ, _≤_, _-_}
 use native.Mathlib.Omega.{arith}
 use borrow.Author.Needs.{needs}
 use denote.Ref.{now}
-use lib.Dec.{leb, eqb}
+use lib.Dec.{leb}
 use lib.ListN.{length}
 use Rattle.plane.specs.Plane.{allTo}
 use Rattle.plane.proofs.All.{all-none, all-more}
 use Rattle.window.specs.Kernel.{tap, tapsSuit}
 use Rattle.window.proofs.taps_suit.Statement.{statement}
 use Rattle.window.proofs.taps_suit.Tie as tie
-use Rattle.window.proofs.taps_suit.Reads as reads
-use Rattle.window.proofs.taps_suit.Lts as lts
-use Rattle.window.proofs.wide.Reads as wide-reads
 
 abbrev Inv-loop : tie.InvT-loop
 Inv-loop taps total ok₀ k₀ k-end ok k = (k ≤ length taps) × (ok ≡ allTo (λ (i : ℕ). leb (tap taps i) total) k)

@@ -1,5 +1,5 @@
 -- `psnr::judge::is_whole` meets its contract. Assumes nothing.
-use mathlib.Core.Path.{_≡_, sym, ap, _∙_, subst}
+use mathlib.Core.Path.{sym, subst}
 use lib.Dec.{T}
 use lib.Ieee.{binary64, neg, ofBits, fits}
 use borrow.Author.Tests.{not-true, not-false}

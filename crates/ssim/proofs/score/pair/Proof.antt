@@ -2,9 +2,6 @@
 use borrow.Author.Needs.{needs}
 use Rattle.ssim.proofs.score.pair.Statement.{statement}
 use Rattle.ssim.proofs.score.pair.Tie as tie
-use Rattle.ssim.proofs.score.pair.Reads as reads
-use Rattle.ssim.proofs.score.pair.Lts as lts
-use Rattle.number.proofs.finite.Reads as finite-reads
 
 finite-requires : tie.Need-finite-requires
 finite-requires c κs = search needs

@@ -5,9 +5,6 @@ use native.Mathlib.Omega.{arith}
 use borrow.Author.Needs.{needs}
 use Rattle.ssim.proofs.score.squared.Statement.{statement}
 use Rattle.ssim.proofs.score.squared.Tie as tie
-use Rattle.ssim.proofs.score.squared.Reads as reads
-use Rattle.ssim.proofs.score.squared.Lts as lts
-use Rattle.ssim.proofs.score.double.Reads as double-reads
 
 mul-double : tie.Need-mul-double
 mul-double c =

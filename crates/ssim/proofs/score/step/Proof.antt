@@ -3,9 +3,6 @@ use borrow.Author.Needs.{needs}
 use Rattle.ssim.specs.Score.{stepOf}
 use Rattle.ssim.proofs.score.step.Statement.{statement}
 use Rattle.ssim.proofs.score.step.Tie as tie
-use Rattle.ssim.proofs.score.step.Reads as reads
-use Rattle.ssim.proofs.score.step.Lts as lts
-use Rattle.ssim.proofs.score.double.Reads as double-reads
 
 double-requires : tie.Need-double-requires
 double-requires c κs = search needs

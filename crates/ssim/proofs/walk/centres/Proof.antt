@@ -8,10 +8,6 @@ use Rattle.window.specs.Columns.{momentsIn}
 use Rattle.ssim.specs.Score.{rowOf}
 use Rattle.ssim.proofs.walk.centres.Statement.{statement}
 use Rattle.ssim.proofs.walk.centres.Tie as tie
-use Rattle.ssim.proofs.walk.centres.Reads as reads
-use Rattle.ssim.proofs.walk.centres.Lts as lts
-use Rattle.ssim.proofs.score.step.Reads as step-reads
-use Rattle.window.proofs.row.moments_at.Reads as moments-at-reads
 
 abbrev Inv-loop : tie.InvT-loop
 Inv-loop max2 kernel total cols width down t₀ x₀ t x = (x ≤ width) × (t ≡ rowOf max2 (momentsIn kernel cols width down) t₀ x)

@@ -10,8 +10,6 @@ use lib.ListN.{length, replicate, drop, length-set, drop-of-length-le}
 use Rattle.ssim.proofs.Zeros.{fill-more}
 use Rattle.ssim.proofs.walk.clear.Statement.{statement}
 use Rattle.ssim.proofs.walk.clear.Tie as tie
-use Rattle.ssim.proofs.walk.clear.Reads as reads
-use Rattle.ssim.proofs.walk.clear.Lts as lts
 
 abbrev Inv-loop : tie.InvT-loop
 Inv-loop s₀ i₀ i-end s i = (i ≤ length s₀) × (length s ≡ length s₀) × (s ≡ replicate i (pos 0) ++ drop i s₀)

@@ -1,10 +1,6 @@
 -- `window::columns::column` meets its contract. Assumes nothing.
 use Rattle.window.proofs.columns.column.Statement.{statement}
 use Rattle.window.proofs.columns.column.Tie as tie
-use Rattle.window.proofs.columns.column.Reads as reads
-use Rattle.window.proofs.columns.column.Lts as lts
-use Rattle.window.proofs.columns.column16.Reads as column16-reads
-use Rattle.window.proofs.columns.column8.Reads as column8-reads
 
 column16-requires : tie.Need-column16-requires
 column16-requires c κs = rw (c .if1 .taken) at (c .before .before .before .before .before .before .pre)

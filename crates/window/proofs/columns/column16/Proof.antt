@@ -1,24 +1,18 @@
 -- `window::columns::column16` meets its contract. Assumes nothing.
-use mathlib.Core.Path.{_≡_, sym, ap, _∙_}
-use Prim.Native.Nat.{ℕ, _≤_, _<_, _-_, _+_, _*_, _/_, _^_}
+use mathlib.Core.Path.{_≡_, sym}
+use Prim.Native.Nat.{ℕ, _≤_, _-_}
 use native.Mathlib.Omega.{arith}
 use borrow.Author.Needs.{needs}
 use denote.Ref.{now}
-use lib.ListN.{length}
 use Rattle.plane.specs.Plane.{planeOf}
 use Rattle.plane.proofs.Rows as rows
 use Rattle.window.specs.Parts.{partsOf, quantOf}
 use Rattle.window.specs.Columns.{viewOf}
-use Rattle.window.proofs.Windows.{side-room, taps-room}
+use Rattle.plane.proofs.Limits.{side-small}
+use Rattle.window.proofs.Windows.{taps-room}
 use Rattle.window.proofs.Five.{quant-small, parts-more, parts-first, parts-last, parts-room}
 use Rattle.window.proofs.columns.column16.Statement.{statement}
 use Rattle.window.proofs.columns.column16.Tie as tie
-use Rattle.window.proofs.columns.column16.Reads as reads
-use Rattle.window.proofs.columns.column16.Lts as lts
-use Rattle.window.proofs.columns.first.Reads as first-reads
-use Rattle.window.proofs.columns.past.Reads as past-reads
-use Rattle.window.proofs.columns.sample16.Reads as sample16-reads
-use Rattle.window.proofs.columns.tapped.Reads as tapped-reads
 
 abbrev Inv-loop : tie.InvT-loop
 Inv-loop kernel a b stride-a stride-b width height x y n off t₀ k₀ k-end t k = (k₀ ≤ k) × (k ≤ k-end) × (t ≡ partsOf kernel height (λ (m i : ℕ). quantOf m (viewOf (planeOf a stride-a) i x) (viewOf (planeOf b stride-b) i x)) y k)
@@ -36,7 +30,7 @@ loop-holds : tie.Need-loop-holds Inv-loop μ-loop
 loop-holds c = (omega arith, omega arith, sym (parts-first _ _ _ _ _ (omega arith)))
 
 add-r : tie.Need-add-r Inv-loop μ-loop
-add-r c = omega (arith, side-room, taps-room)
+add-r c = omega (arith, side-small, taps-room)
 
 sub-r : tie.Need-sub-r Inv-loop μ-loop
 sub-r c = search needs

@@ -1,6 +1,6 @@
 -- `window::columns::fill` meets its contract: the columns before x stand there. Assumes nothing.
 use mathlib.Core.Path.{_≡_, refl, _∙_}
-use Prim.Native.Nat.{ℕ, _≤_, _-_, _*_, _^_}
+use Prim.Native.Nat.{ℕ, _≤_, _-_, _*_}
 use native.Mathlib.Omega.{arith}
 use borrow.Author.Needs.{needs}
 use denote.Ref.{now}
@@ -12,10 +12,6 @@ use Rattle.window.proofs.Five.{quant-le, parts-low}
 use Rattle.window.proofs.Held.{holds-none, holds-more}
 use Rattle.window.proofs.columns.fill.Statement.{statement}
 use Rattle.window.proofs.columns.fill.Tie as tie
-use Rattle.window.proofs.columns.fill.Reads as reads
-use Rattle.window.proofs.columns.fill.Lts as lts
-use Rattle.window.proofs.columns.column.Reads as column-reads
-use Rattle.window.proofs.columns.put.Reads as put-reads
 
 abbrev Inv-loop : tie.InvT-loop
 Inv-loop cols₀ kernel a8 a16 b8 b16 wide stride-a stride-b width height y x₀ cols x =

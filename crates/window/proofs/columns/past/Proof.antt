@@ -1,17 +1,16 @@
 -- `window::columns::past` meets its contract. Assumes nothing.
 use native.Mathlib.Omega.{arith}
 use borrow.Author.Needs.{needs}
-use Rattle.window.proofs.Windows.{side-room, taps-room}
+use Rattle.plane.proofs.Limits.{side-small}
+use Rattle.window.proofs.Windows.{taps-room}
 use Rattle.window.proofs.columns.past.Statement.{statement}
 use Rattle.window.proofs.columns.past.Tie as tie
-use Rattle.window.proofs.columns.past.Reads as reads
-use Rattle.window.proofs.columns.past.Lts as lts
 
 add-reach : tie.Need-add-reach
-add-reach c = omega (arith, side-room, taps-room)
+add-reach c = omega (arith, side-small, taps-room)
 
 add-reach-2 : tie.Need-add-reach-2
-add-reach-2 c = omega (arith, side-room, taps-room)
+add-reach-2 c = omega (arith, side-small, taps-room)
 
 sub-result : tie.Need-sub-result
 sub-result c = search needs

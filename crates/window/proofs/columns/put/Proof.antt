@@ -6,8 +6,6 @@ use mir.Syntax.{w64}
 use mir.ValLaws.{toZ-pos}
 use Rattle.window.proofs.columns.put.Statement.{statement}
 use Rattle.window.proofs.columns.put.Tie as tie
-use Rattle.window.proofs.columns.put.Reads as reads
-use Rattle.window.proofs.columns.put.Lts as lts
 
 cast-cols : tie.Need-cast-cols
 cast-cols c = record { sfits = c .before .pre .1 0 }

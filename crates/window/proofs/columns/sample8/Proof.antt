@@ -4,8 +4,6 @@ use native.Mathlib.Omega.{arith}
 use borrow.Author.Needs.{needs}
 use Rattle.window.proofs.columns.sample8.Statement.{statement}
 use Rattle.window.proofs.columns.sample8.Tie as tie
-use Rattle.window.proofs.columns.sample8.Reads as reads
-use Rattle.window.proofs.columns.sample8.Lts as lts
 
 mul-result : tie.Need-mul-result
 mul-result c = search needs

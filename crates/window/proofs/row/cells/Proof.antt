@@ -1,13 +1,9 @@
 -- `window::row::cells` meets its contract. Assumes nothing.
-use Prim.Native.Nat.{_+_, _*_}
 use native.Mathlib.Nat.{add-zero}
 use native.Mathlib.Omega.{arith}
 use borrow.Author.Needs.{needs}
 use Rattle.window.proofs.row.cells.Statement.{statement}
 use Rattle.window.proofs.row.cells.Tie as tie
-use Rattle.window.proofs.row.cells.Reads as reads
-use Rattle.window.proofs.row.cells.Lts as lts
-use Rattle.window.proofs.row.get.Reads as get-reads
 
 mul-at : tie.Need-mul-at
 mul-at c = search needs

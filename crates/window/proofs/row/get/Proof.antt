@@ -8,9 +8,6 @@ use mir.ValLaws.{toZ-ofZ}
 use Rattle.window.specs.Columns.{atZ}
 use Rattle.window.proofs.row.get.Statement.{statement}
 use Rattle.window.proofs.row.get.Tie as tie
-use Rattle.window.proofs.row.get.Reads as reads
-use Rattle.window.proofs.row.get.Lts as lts
-use Rattle.window.proofs.row.up.Reads as up-reads
 
 mul-up : tie.Need-mul-up
 mul-up c = search needs

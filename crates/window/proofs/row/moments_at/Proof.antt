@@ -3,15 +3,16 @@ use native.Mathlib.Nat.{mul-le-mul}
 use native.Mathlib.Omega.{arith}
 use borrow.Author.Needs.{needs}
 use denote.Ref.{now}
-use Rattle.window.specs.Parts.{partsOf}
 use Rattle.window.specs.Columns.{momentsIn}
 use Rattle.window.proofs.Windows.{weight-le, total-room}
 use Rattle.window.proofs.row.moments_at.Statement.{statement}
 use Rattle.window.proofs.row.moments_at.Tie as tie
-use Rattle.window.proofs.row.moments_at.Reads as reads
-use Rattle.window.proofs.row.moments_at.Lts as lts
-use Rattle.window.proofs.row.along.Reads as along-reads
-use Rattle.window.proofs.row.weight.Reads as weight-reads
+
+mul-along : tie.Need-mul-along
+mul-along c = search needs
+
+add-along : tie.Need-add-along
+add-along c = search needs
 
 along-requires : tie.Need-along-requires
 along-requires c κs = search needs
@@ -19,15 +20,16 @@ along-requires c κs = search needs
 weight-requires : tie.Need-weight-requires
 weight-requires c κs = search needs
 
-mul-t9 : tie.Need-mul-t9
-mul-t9 c =
+mul-w : tie.Need-mul-w
+mul-w c =
     let s = c .before .before .before in
     let across = rw (← (c .weight .ensures)) at (weight-le (now (s .args .kernel)) (s .args .width) (s .args .x) (s .pre .1 .0)) in
     omega (arith, mul-le-mul (s .pre .0 .3) across, mul-le-mul total-room total-room)
 
 returns : tie.Need-returns
-unfolding momentsIn partsOf
+unfolding momentsIn
 returns c = simp (c .before .along .ensures, c .weight .ensures)
 
 pub moments-at-spec : {M : Type 1} → statement M
-moments-at-spec = tie.close (tie.spec along-requires weight-requires mul-t9 returns)
+moments-at-spec =
+    tie.close (tie.spec mul-along add-along along-requires weight-requires mul-w returns)

@@ -1,20 +1,13 @@
 -- `window::row::taps_inside` meets its contract. Assumes nothing.
-use mathlib.Core.Path.{_≡_, sym, ap, _∙_}
-use Prim.Native.Nat.{ℕ, _≤_, _<_, _-_, _+_, _*_, _/_, _^_}
+use mathlib.Core.Path.{_≡_, sym, _∙_}
+use Prim.Native.Nat.{ℕ, _≤_, _-_}
 use native.Mathlib.Omega.{arith}
 use borrow.Author.Needs.{needs}
-use denote.Ref.{now}
-use lib.ListN.{length}
 use native.Mathlib.Nat.{mul-one, le-refl}
 use Rattle.window.specs.Parts.{partOf}
 use Rattle.window.proofs.Windows.{part-more, part-first, part-last, part-room, total-room}
 use Rattle.window.proofs.row.taps_inside.Statement.{statement}
 use Rattle.window.proofs.row.taps_inside.Tie as tie
-use Rattle.window.proofs.row.taps_inside.Reads as reads
-use Rattle.window.proofs.row.taps_inside.Lts as lts
-use Rattle.window.proofs.columns.first.Reads as first-reads
-use Rattle.window.proofs.columns.past.Reads as past-reads
-use Rattle.window.proofs.wide.Reads as wide-reads
 
 abbrev Inv-loop : tie.InvT-loop
 Inv-loop kernel side x n sum₀ k₀ k-end sum k = (k₀ ≤ k) × (k ≤ k-end) × (sum ≡ partOf kernel side (λ (i : ℕ). 1) x k)

@@ -5,8 +5,6 @@ use mir.Syntax.{w64}
 use mir.ValLaws.{toZ-ofZ}
 use Rattle.window.proofs.row.up.Statement.{statement}
 use Rattle.window.proofs.row.up.Tie as tie
-use Rattle.window.proofs.row.up.Reads as reads
-use Rattle.window.proofs.row.up.Lts as lts
 
 cast-result : tie.Need-cast-result
 cast-result c = rw (toZ-ofZ w64 (c .args .z) (c .fits .z)) (c .pre, omega (arith, natAbs-le (c .args .z) (c .fits .z .sfits)))

@@ -8,15 +8,13 @@ use lib.ListN.{length}
 use borrow.Author.Needs.{needs}
 use borrow.Author.Tests.{leb-true, ltb-true}
 use Rattle.refusal.proofs.Chain.{and-left, and-right}
-use Rattle.window.proofs.Windows.{weight-whole, side-room, taps-room}
+use Rattle.plane.proofs.Limits.{side-small}
+use Rattle.window.proofs.Windows.{weight-whole, taps-room}
 use Rattle.window.proofs.row.weight.Statement.{statement}
 use Rattle.window.proofs.row.weight.Tie as tie
-use Rattle.window.proofs.row.weight.Reads as reads
-use Rattle.window.proofs.row.weight.Lts as lts
-use Rattle.window.proofs.row.taps_inside.Reads as taps-inside-reads
 
 add-if1 : tie.Need-add-if1
-add-if1 c = omega (arith, side-room, taps-room)
+add-if1 c = omega (arith, side-small, taps-room)
 
 returns : tie.Need-returns
 returns c =

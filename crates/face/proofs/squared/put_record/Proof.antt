@@ -1,8 +1,8 @@
--- `face::squared::put` meets its contract. Assumes nothing.
+-- `face::squared::put_record` meets its contract. Assumes nothing.
 use mathlib.Core.Path.{refl}
 use borrow.Author.Needs.{needs}
-use Rattle.face.proofs.squared.put.Statement.{statement}
-use Rattle.face.proofs.squared.put.Tie as tie
+use Rattle.face.proofs.squared.put_record.Statement.{statement}
+use Rattle.face.proofs.squared.put_record.Tie as tie
 
 enum-known-answer : tie.Need-enum-known-answer
 enum-known-answer c = search needs
@@ -22,8 +22,8 @@ returns-2 c = rw (c .before .answer2 .given .1) (refl, refl)
 returns-3 : tie.Need-returns-3
 returns-3 c = rw (c .before .answer3 .given .1) (refl, refl)
 
-pub put-spec : {M : Type 1} → statement M
-put-spec =
+pub put-record-spec : {M : Type 1} → statement M
+put-record-spec =
     tie.close
     (tie.spec
     enum-known-answer
