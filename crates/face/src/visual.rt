@@ -21,10 +21,10 @@ fn told8(
     kind: Kind,
     score: &mut f64,
 ) -> u8
-    ensures { λ r. ⌜ r ≡ hvsNumber (hvsOf false kind (planeOf (now (a .entry)) «stride_a») (planeOf (now (b .entry)) «stride_b»)
-        width height depth) ⌝ }
-    ensures { λ _. ⌜ now (score .exit) ≡ hvsWritten (hvsOf false kind (planeOf (now (a .entry)) «stride_a») (planeOf (now (b .entry)) «stride_b»)
-        width height depth) (now (score .entry)) ⌝ }
+    ensures { λ r. ⌜ r ≡ hvsNumber (hvsOf false kind
+        (planeOf (now (a .entry)) «stride_a») (planeOf (now (b .entry)) «stride_b») width height depth) ⌝ }
+    ensures { λ _. ⌜ now (score .exit) ≡ hvsWritten (hvsOf false kind
+        (planeOf (now (a .entry)) «stride_a») (planeOf (now (b .entry)) «stride_b») width height depth) (now (score .entry)) ⌝ }
 {
     match psnr_hvs::psnr_hvs8(a, b, width, height, stride_a, stride_b, depth, kind) {
         Hvs::Score(s) => {
@@ -47,10 +47,10 @@ fn told16(
     kind: Kind,
     score: &mut f64,
 ) -> u8
-    ensures { λ r. ⌜ r ≡ hvsNumber (hvsOf true kind (planeOf (now (a .entry)) «stride_a») (planeOf (now (b .entry)) «stride_b»)
-        width height depth) ⌝ }
-    ensures { λ _. ⌜ now (score .exit) ≡ hvsWritten (hvsOf true kind (planeOf (now (a .entry)) «stride_a») (planeOf (now (b .entry)) «stride_b»)
-        width height depth) (now (score .entry)) ⌝ }
+    ensures { λ r. ⌜ r ≡ hvsNumber (hvsOf true kind
+        (planeOf (now (a .entry)) «stride_a») (planeOf (now (b .entry)) «stride_b») width height depth) ⌝ }
+    ensures { λ _. ⌜ now (score .exit) ≡ hvsWritten (hvsOf true kind
+        (planeOf (now (a .entry)) «stride_a») (planeOf (now (b .entry)) «stride_b») width height depth) (now (score .entry)) ⌝ }
 {
     match psnr_hvs::psnr_hvs16(a, b, width, height, stride_a, stride_b, depth, kind) {
         Hvs::Score(s) => {
@@ -73,10 +73,10 @@ pub extern "C" fn fuavelino_psnr_hvs_y_8(
     depth: u32,
     score: &mut f64,
 ) -> u8
-    ensures { λ r. ⌜ r ≡ hvsNumber (hvsOf false Luma (planeOf (now (a .entry)) «stride_a») (planeOf (now (b .entry)) «stride_b»)
-        width height depth) ⌝ }
-    ensures { λ _. ⌜ now (score .exit) ≡ hvsWritten (hvsOf false Luma (planeOf (now (a .entry)) «stride_a») (planeOf (now (b .entry)) «stride_b»)
-        width height depth) (now (score .entry)) ⌝ }
+    ensures { λ r. ⌜ r ≡ hvsNumber (hvsOf false Luma
+        (planeOf (now (a .entry)) «stride_a») (planeOf (now (b .entry)) «stride_b») width height depth) ⌝ }
+    ensures { λ _. ⌜ now (score .exit) ≡ hvsWritten (hvsOf false Luma
+        (planeOf (now (a .entry)) «stride_a») (planeOf (now (b .entry)) «stride_b») width height depth) (now (score .entry)) ⌝ }
 {
     told8(
         a,
@@ -103,10 +103,10 @@ pub extern "C" fn fuavelino_psnr_hvs_u_8(
     depth: u32,
     score: &mut f64,
 ) -> u8
-    ensures { λ r. ⌜ r ≡ hvsNumber (hvsOf false Cb (planeOf (now (a .entry)) «stride_a») (planeOf (now (b .entry)) «stride_b»)
-        width height depth) ⌝ }
-    ensures { λ _. ⌜ now (score .exit) ≡ hvsWritten (hvsOf false Cb (planeOf (now (a .entry)) «stride_a») (planeOf (now (b .entry)) «stride_b»)
-        width height depth) (now (score .entry)) ⌝ }
+    ensures { λ r. ⌜ r ≡ hvsNumber (hvsOf false Cb
+        (planeOf (now (a .entry)) «stride_a») (planeOf (now (b .entry)) «stride_b») width height depth) ⌝ }
+    ensures { λ _. ⌜ now (score .exit) ≡ hvsWritten (hvsOf false Cb
+        (planeOf (now (a .entry)) «stride_a») (planeOf (now (b .entry)) «stride_b») width height depth) (now (score .entry)) ⌝ }
 {
     told8(
         a,
@@ -133,10 +133,10 @@ pub extern "C" fn fuavelino_psnr_hvs_v_8(
     depth: u32,
     score: &mut f64,
 ) -> u8
-    ensures { λ r. ⌜ r ≡ hvsNumber (hvsOf false Cr (planeOf (now (a .entry)) «stride_a») (planeOf (now (b .entry)) «stride_b»)
-        width height depth) ⌝ }
-    ensures { λ _. ⌜ now (score .exit) ≡ hvsWritten (hvsOf false Cr (planeOf (now (a .entry)) «stride_a») (planeOf (now (b .entry)) «stride_b»)
-        width height depth) (now (score .entry)) ⌝ }
+    ensures { λ r. ⌜ r ≡ hvsNumber (hvsOf false Cr
+        (planeOf (now (a .entry)) «stride_a») (planeOf (now (b .entry)) «stride_b») width height depth) ⌝ }
+    ensures { λ _. ⌜ now (score .exit) ≡ hvsWritten (hvsOf false Cr
+        (planeOf (now (a .entry)) «stride_a») (planeOf (now (b .entry)) «stride_b») width height depth) (now (score .entry)) ⌝ }
 {
     told8(
         a,
@@ -163,10 +163,10 @@ pub extern "C" fn fuavelino_psnr_hvs_y_16(
     depth: u32,
     score: &mut f64,
 ) -> u8
-    ensures { λ r. ⌜ r ≡ hvsNumber (hvsOf true Luma (planeOf (now (a .entry)) «stride_a») (planeOf (now (b .entry)) «stride_b»)
-        width height depth) ⌝ }
-    ensures { λ _. ⌜ now (score .exit) ≡ hvsWritten (hvsOf true Luma (planeOf (now (a .entry)) «stride_a») (planeOf (now (b .entry)) «stride_b»)
-        width height depth) (now (score .entry)) ⌝ }
+    ensures { λ r. ⌜ r ≡ hvsNumber (hvsOf true Luma
+        (planeOf (now (a .entry)) «stride_a») (planeOf (now (b .entry)) «stride_b») width height depth) ⌝ }
+    ensures { λ _. ⌜ now (score .exit) ≡ hvsWritten (hvsOf true Luma
+        (planeOf (now (a .entry)) «stride_a») (planeOf (now (b .entry)) «stride_b») width height depth) (now (score .entry)) ⌝ }
 {
     told16(
         a,
@@ -193,10 +193,10 @@ pub extern "C" fn fuavelino_psnr_hvs_u_16(
     depth: u32,
     score: &mut f64,
 ) -> u8
-    ensures { λ r. ⌜ r ≡ hvsNumber (hvsOf true Cb (planeOf (now (a .entry)) «stride_a») (planeOf (now (b .entry)) «stride_b»)
-        width height depth) ⌝ }
-    ensures { λ _. ⌜ now (score .exit) ≡ hvsWritten (hvsOf true Cb (planeOf (now (a .entry)) «stride_a») (planeOf (now (b .entry)) «stride_b»)
-        width height depth) (now (score .entry)) ⌝ }
+    ensures { λ r. ⌜ r ≡ hvsNumber (hvsOf true Cb
+        (planeOf (now (a .entry)) «stride_a») (planeOf (now (b .entry)) «stride_b») width height depth) ⌝ }
+    ensures { λ _. ⌜ now (score .exit) ≡ hvsWritten (hvsOf true Cb
+        (planeOf (now (a .entry)) «stride_a») (planeOf (now (b .entry)) «stride_b») width height depth) (now (score .entry)) ⌝ }
 {
     told16(
         a,
@@ -223,10 +223,10 @@ pub extern "C" fn fuavelino_psnr_hvs_v_16(
     depth: u32,
     score: &mut f64,
 ) -> u8
-    ensures { λ r. ⌜ r ≡ hvsNumber (hvsOf true Cr (planeOf (now (a .entry)) «stride_a») (planeOf (now (b .entry)) «stride_b»)
-        width height depth) ⌝ }
-    ensures { λ _. ⌜ now (score .exit) ≡ hvsWritten (hvsOf true Cr (planeOf (now (a .entry)) «stride_a») (planeOf (now (b .entry)) «stride_b»)
-        width height depth) (now (score .entry)) ⌝ }
+    ensures { λ r. ⌜ r ≡ hvsNumber (hvsOf true Cr
+        (planeOf (now (a .entry)) «stride_a») (planeOf (now (b .entry)) «stride_b») width height depth) ⌝ }
+    ensures { λ _. ⌜ now (score .exit) ≡ hvsWritten (hvsOf true Cr
+        (planeOf (now (a .entry)) «stride_a») (planeOf (now (b .entry)) «stride_b») width height depth) (now (score .entry)) ⌝ }
 {
     told16(
         a,

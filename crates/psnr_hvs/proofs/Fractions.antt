@@ -2,16 +2,16 @@
 -- Assumes nothing.
 use mathlib.Core.Path.{_≡_, refl, sym, ap, ap₂, _∙_}
 use mathlib.Core.Bool.{Bool, true, false}
-use Prim.Native.Nat.{ℕ, zero, suc, _+_, _-_, _*_, _≤_, _<_, _^_}
-use native.Mathlib.Nat.{mul-comm, mul-assoc, mul-one, one-mul, mul-right-comm, mul-mul-mul-comm, add-mul, mul-sub, mul-pos, mul-le-mul-right, le-of-mul-le-mul-right, le-of-lt, lt-of-lt-of-le, le-trans}
+use Prim.Native.Nat.{ℕ, _+_, _-_, _*_, _≤_, _<_, _^_}
+use native.Mathlib.Nat.{mul-comm, mul-assoc, mul-one, one-mul, mul-right-comm, mul-mul-mul-comm, add-mul, mul-sub, mul-pos, mul-le-mul-right, le-of-mul-le-mul-right, le-of-lt, lt-of-lt-of-le}
 use native.Mathlib.Omega.{arith}
 use borrow.Author.Tests.{ltb-true, ltb-false}
 use lib.Dec.{ltb, lit<, lit≤}
-use lib.IntN.{ℤ, pos}
+use lib.IntN.{pos}
 use lib.Pow.{pow-add, pow-pos, pow-mono, shl-lt}
 use lib.Ieee.{Float, nan, inf, fin, binary64, up, down, round, sum, add, sub, mul, div, neg, ofInt, ofBits}
 use lib.Ieee.Exact.{HasValue, round-exact}
-use lib.Ieee.Fits.{up-pos, down-pos}
+use lib.Ieee.Fits.{down-pos}
 use lib.Ieee.Scale.{round-same}
 use Rattle.psnr_hvs.specs.Rounded.{zero64}
 use Rattle.number.specs.Steps.{_⊕_, _⊖_, _⊗_, _⊘_, double}

@@ -9,7 +9,7 @@ use lib.Dec.{T, lit<, lit≤}
 use lib.IntN.{ℤ, pos, negsuc, natAbs}
 use lib.Signed.{nonNeg}
 use lib.Ieee.{Float, fin, ofBits}
-use Rattle.number.specs.Steps.{_⊕_, _⊖_, _⊗_, _⊘_, double}
+use Rattle.number.specs.Steps.{_⊕_, _⊗_, _⊘_, double}
 use Rattle.plane.specs.Sums.{sumTo}
 use Rattle.plane.proofs.Sums.{sum-bound}
 use Rattle.psnr_hvs.specs.Rounded.{signed, zero64, fifteen, sixteen, sixtyThree, sixtyFour}

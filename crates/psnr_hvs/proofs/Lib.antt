@@ -7,3 +7,4 @@ pub mod Fractions
 pub mod Variance
 pub mod Quarters
 pub mod Levels
+pub mod Held

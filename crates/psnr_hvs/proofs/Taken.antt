@@ -1,19 +1,17 @@
 -- What planes that no test refuses give the score, and the answer by cases. Assumes nothing.
-use mathlib.Core.Path.{_≡_, refl, sym, ap, _∙_}
-use mathlib.Core.Bool.{Bool, true, false}
-use Prim.Native.Nat.{ℕ, zero, suc, _+_, _-_, _*_, _/_, _≤_, _<_, _^_}
+use mathlib.Core.Path.{_≡_, refl}
+use mathlib.Core.Bool.{Bool}
+use Prim.Native.Nat.{ℕ, zero, suc, _-_, _*_, _≤_, _^_}
 use native.Mathlib.Nat.{mul-le-mul, le-trans}
 use native.Mathlib.Omega.{arith}
 use lib.Ieee.{Float}
-use lib.Ieee.Scale.{finite}
 use Rattle.plane.specs.Limits.{sideLimit, mostDepth}
 use Rattle.plane.specs.Plane.{Plane, maxOf}
 use Rattle.plane.specs.Lawful.{Lawful}
 use Rattle.plane.proofs.Limits.{side-small}
 use Rattle.plane.proofs.Depth.{max-small}
-use Rattle.psnr_hvs.specs.declared.Hvs.{Hvs}
-use Rattle.psnr_hvs.specs.declared.Hvs.the-variants.{Score, Refused}
-use Rattle.psnr_hvs.specs.Score.{blocksPerSide, answerFor, scored}
+use Rattle.psnr_hvs.specs.declared.Hvs.the-variants.{Refused}
+use Rattle.psnr_hvs.specs.Score.{blocksPerSide, answerFor}
 use Rattle.psnr_hvs.specs.Legible.{Legible}
 
 pub legible : (wide : Bool) {width height depth : ℕ} (p : Plane) → Lawful width height depth p → depth ≤ mostDepth wide → Legible width height p

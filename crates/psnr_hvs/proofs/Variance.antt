@@ -1,23 +1,21 @@
 -- A variance by whole numbers: of N = 2 ^ e samples g with the sum S and the sum of squares Q, the steps of the definition give
 -- exactly (N · Q - S²) / N. Assumes nothing.
-use mathlib.Core.Path.{_≡_, refl, sym, ap, ap₂, _∙_, subst}
-use mathlib.Core.Bool.{Bool, true, false}
+use mathlib.Core.Path.{_≡_, sym, ap, _∙_}
+use mathlib.Core.Bool.{false}
 use Prim.Native.Nat.{ℕ, zero, suc, _+_, _-_, _*_, _≤_, _<_, _^_}
-use native.Mathlib.Nat.{suc-mul, mul-comm, mul-assoc, mul-one, one-mul, mul-mul-mul-comm, add-mul, mul-add, mul-sub, mul-pos, mul-le-mul, mul-le-mul-left, mul-le-mul-right, le-of-mul-le-mul-left, mul-le-mul-right, le-trans, lt-of-le-of-lt}
-use native.Mathlib.Numerals.{add-one}
+use native.Mathlib.Nat.{suc-mul, mul-comm, mul-assoc, one-mul, mul-mul-mul-comm, add-mul, mul-add, mul-sub, mul-pos, mul-le-mul, mul-le-mul-right, le-of-mul-le-mul-left, mul-le-mul-right}
 use native.Mathlib.Decide.{decLe}
 use native.Mathlib.Omega.{arith}
-use lib.Dec.{lit<, lit≤}
-use lib.IntN.{ℤ, pos}
+use lib.Dec.{lit<}
+use lib.IntN.{pos}
 use lib.Pow.{pow-add, pow-pos, pow-mono}
-use lib.Ieee.{Float, fin, binary64, ofBits, ofInt, round}
-use lib.Ieee.Exact.{HasValue}
+use lib.Ieee.{Float, fin, binary64, ofInt}
 use lib.Ieee.Scale.{round-same}
 use Rattle.number.specs.Steps.{_⊕_, _⊖_, _⊗_, _⊘_, double, foldTo}
 use Rattle.plane.specs.Sums.{sumTo}
-use Rattle.plane.proofs.Sums.{sum-mul, sum-bound, sum-mono, sum-ext}
+use Rattle.plane.proofs.Sums.{sum-mul, sum-bound, sum-ext}
 use Rattle.psnr_hvs.specs.Levels.{squares}
-use Rattle.psnr_hvs.specs.Rounded.{zero64, signed}
+use Rattle.psnr_hvs.specs.Rounded.{zero64}
 use Rattle.psnr_hvs.proofs.Fractions.{frac, exact, double-is, zero-is, whole, add-at, over-at, difference-at}
 
 -- ---- whole numbers

@@ -1,8 +1,8 @@
 -- One turn more of the walks over a block's coefficients. Assumes nothing.
-use mathlib.Core.Path.{_≡_, refl, sym, ap, _∙_}
+use mathlib.Core.Path.{_≡_, refl}
 use mathlib.Core.Bool.{false}
 use mathlib.Core.List.{List}
-use Prim.Native.Nat.{ℕ, _+_, _*_, _/_, _%_, _≤_, _<_}
+use Prim.Native.Nat.{ℕ, _+_, _*_, _/_, _%_, _≤_}
 use native.Mathlib.Omega.{arith}
 use borrow.Author.Tests.{ne-eqb}
 use lib.Dec.{eqb}
@@ -10,7 +10,7 @@ use lib.IntN.{ℤ, pos, _*ℤ_}
 use lib.ListN.{getD}
 use lib.Ieee.{Float}
 use Rattle.number.specs.Steps.{foldTo, _⊕_, _⊗_}
-use Rattle.psnr_hvs.specs.Rounded.{signed, zero64}
+use Rattle.psnr_hvs.specs.Rounded.{signed}
 use Rattle.psnr_hvs.specs.Tables.{entry}
 use Rattle.psnr_hvs.specs.Block.{weigh, addTerm, term, distance}
 use Rattle.number.proofs.Folds.{fold-more}

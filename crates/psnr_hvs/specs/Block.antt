@@ -1,8 +1,8 @@
 -- Document 01, "HVS, SSIM and scales", one block of 8 by 8 of each plane: the lines of `calculate_plane_psnr_hvs` inside its two loops,
 -- in their order. Of what the Rust does for both planes at once, the definition says what it does for one. Definitions only.
-use mathlib.Core.Bool.{Bool, true, false, _&&_, cond}
+use mathlib.Core.Bool.{Bool, _&&_, cond}
 use mathlib.Core.List.{List}
-use Prim.Native.Nat.{ℕ, _+_, _*_, _/_, _%_}
+use Prim.Native.Nat.{ℕ, _+_, _*_, _/_}
 use lib.Dec.{eqb}
 use lib.IntN.{ℤ, pos, natAbs, _-ℤ_, _*ℤ_}
 use lib.ListN.{getD}
@@ -10,7 +10,7 @@ use lib.Ieee.{Float, nan, lt}
 use Rattle.number.specs.declared.Rooted.{Rooted}
 use Rattle.number.specs.declared.Rooted.the-variants.{Root, Refused}
 use Rattle.number.specs.Root.{rootOf}
-use Rattle.number.specs.Steps.{foldTo, _⊕_, _⊖_, _⊗_, _⊘_, double}
+use Rattle.number.specs.Steps.{_⊕_, _⊖_, _⊗_, _⊘_, double}
 use Rattle.dct.specs.Block.{transform}
 use Rattle.psnr_hvs.specs.Fold.{overSquare}
 use Rattle.psnr_hvs.specs.Rounded.{signed, zero64, fifteen, sixteen, thirtyTwo, sixtyThree, sixtyFour}

@@ -5,3 +5,4 @@ pub mod Block
 pub mod Score
 pub mod Legible
 pub mod Levels
+pub mod Numbers

@@ -57,7 +57,8 @@ fn along_row(
     requires { ⌜ (blockSide ≤ width) × (y + 8 ≤ height) ⌝ }
     requires { ⌜ Legible width height (planeOf (samplesOf wide (now a8) (now a16)) «stride_a») ⌝ }
     requires { ⌜ Legible width height (planeOf (samplesOf wide (now b8) (now b16)) «stride_b») ⌝ }
-    ensures { λ r. ⌜ r ≡ alongRow (now (csf .entry)) (now (mask .entry)) (planeOf (samplesOf wide (now (a8 .entry)) (now (a16 .entry))) «stride_a»)
+    ensures { λ r. ⌜ r ≡ alongRow (now (csf .entry)) (now (mask .entry))
+        (planeOf (samplesOf wide (now (a8 .entry)) (now (a16 .entry))) «stride_a»)
         (planeOf (samplesOf wide (now (b8 .entry)) (now (b16 .entry))) «stride_b») y result (blocksPerSide width) ⌝ }
 {
     let n = blocks_per_side(width);
@@ -100,7 +101,8 @@ fn down_rows(
     requires { ⌜ (blockSide ≤ width) × (blockSide ≤ height) ⌝ }
     requires { ⌜ Legible width height (planeOf (samplesOf wide (now a8) (now a16)) «stride_a») ⌝ }
     requires { ⌜ Legible width height (planeOf (samplesOf wide (now b8) (now b16)) «stride_b») ⌝ }
-    ensures { λ r. ⌜ r ≡ downRows (now (csf .entry)) (now (mask .entry)) (planeOf (samplesOf wide (now (a8 .entry)) (now (a16 .entry))) «stride_a»)
+    ensures { λ r. ⌜ r ≡ downRows (now (csf .entry)) (now (mask .entry))
+        (planeOf (samplesOf wide (now (a8 .entry)) (now (a16 .entry))) «stride_a»)
         (planeOf (samplesOf wide (now (b8 .entry)) (now (b16 .entry))) «stride_b») width (blocksPerSide height) ⌝ }
 {
     let n = blocks_per_side(height);

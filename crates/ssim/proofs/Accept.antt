@@ -61,7 +61,7 @@ module _ (wide : Bool) (planes : List Plane) (width height depth : ℕ) (ker : L
 -- ---- none of them refuses
 
 -- none of two lists of tests refuses, so neither does
-halves : (ts more : List (ℕ × Bool)) → Named ts → firstBroken (ts ++ more) ≡ 0 → (firstBroken ts ≡ 0) × (firstBroken more ≡ 0)
+pub halves : (ts more : List (ℕ × Bool)) → Named ts → firstBroken (ts ++ more) ≡ 0 → (firstBroken ts ≡ 0) × (firstBroken more ≡ 0)
 halves [] more named e = (refl, e)
 halves ((n, true) ∷ later) more named e = halves later more (named .1) e
 halves ((n, false) ∷ later) more named e = absurd (omega (arith, named .0, e))

@@ -44,7 +44,7 @@ fn sample16(p: &[u16], stride: usize, r: usize, c: usize) -> u64
 }
 
 // One tap more over a pair of samples.
-fn tapped(t: Sums, tap: u16, a: u64, b: u64) -> Sums
+pub fn tapped(t: Sums, tap: u16, a: u64, b: u64) -> Sums
     requires { ⌜ Room t tap (λ (m : ℕ). quantOf m a b) ⌝ }
     ensures { λ r. ⌜ r ≡ tappedOf t tap (λ (m : ℕ). quantOf m a b) ⌝ }
 {

@@ -1,11 +1,12 @@
 // Windows over planes: which kernels are lawful, and the six sums under a kernel at each centre. The sums are made a side at a time:
-// `columns` sums down the columns of one centre row into lent scratch, `row` sums along them at each centre.
+// `columns` (and `columns32`) sums down the columns of one centre row into lent scratch, `row` sums along them at each centre.
 ghost use mathlib.Core.Path.{_≡_};
 ghost use Prim.Native.Nat.{_≤_, _<_};
 ghost use lib.ListN.{length};
 ghost use Rattle.window.specs.Kernel.{mostTaps, lentTotal, oddCount, tapsSuit, sumsTo, mirrored, middled, lawful};
 
 pub mod columns;
+pub mod columns32;
 pub mod row;
 
 // The largest count of taps.

@@ -1,30 +1,18 @@
 use borrow.Author.Needs.{needs}
-use mathlib.Core.Path.{_≡_, refl, sym, ap, _∙_}
-use Prim.Native.Nat.{ℕ, _+_, _-_, _*_, _/_, _≤_, _<_, _^_}
+use Prim.Native.Nat.{_-_, _*_, _≤_, _^_}
 use native.Mathlib.Omega.{arith}
 use Rattle.plane.proofs.Depth.{depth-small}
 use Rattle.psnr_hvs.specs.Score.{hvsScore}
 use Rattle.psnr_hvs.proofs.Taken.{legible, blocks-few, max-square}
 use Rattle.psnr_hvs.proofs.score.Statement.{statement}
 use Rattle.psnr_hvs.proofs.score.Tie as tie
-use Rattle.psnr_hvs.proofs.score.Reads as reads
-use Rattle.psnr_hvs.proofs.score.Lts as lts
-use Rattle.number.proofs.exact.Reads as exact-reads
-use Rattle.plane.proofs.sample_max.Reads as sample-max-reads
-use Rattle.psnr_hvs.proofs.blocks_per_side.Reads as blocks-per-side-reads
-use Rattle.psnr_hvs.proofs.down_rows.Reads as down-rows-reads
-use Rattle.psnr_hvs.proofs.tables.csf_of.Reads as csf-of-reads
-use Rattle.psnr_hvs.proofs.tables.masks.Reads as masks-reads
 
--- src/lib.rt:147:15
 csf-of-requires : tie.Need-csf-of-requires
 csf-of-requires c κs = search needs
 
--- src/lib.rt:148:16
 masks-requires : tie.Need-masks-requires
 masks-requires c κs = search needs
 
--- src/lib.rt:149:9
 down-rows-requires : tie.Need-down-rows-requires
 down-rows-requires c κs =
     let a = c .before .before .before .before .before .before .before .before .pre in (
@@ -32,15 +20,12 @@ down-rows-requires c κs =
       (legible _ _ (a .each .0) (a .depth-most), legible _ _ (a .each .1 .0) (a .depth-most)),
     )
 
--- src/lib.rt:152:19
 blocks-per-side-requires : tie.Need-blocks-per-side-requires
 blocks-per-side-requires c κs = search needs
 
--- src/lib.rt:152:44
 blocks-per-side-requires-2 : tie.Need-blocks-per-side-requires-2
 blocks-per-side-requires-2 c κs = search needs
 
--- src/lib.rt:152:19
 -- the two divisors
 few : (c : tie.After-blocks-per-side2) → c .before .blocks-per-side .result * c .blocks-per-side2 .result ≤ 2 ^ 28
 few c =
@@ -56,31 +41,24 @@ square c =
 mul-blocks : tie.Need-mul-blocks
 mul-blocks c = omega (arith, few c)
 
--- src/lib.rt:153:15
 sample-max-requires : tie.Need-sample-max-requires
 sample-max-requires c κs = let s = c .before .before .before .before .before .before .before .before .before .before .before in omega (arith, s .pre .depth-most, depth-small (s .args .wide))
 
--- src/lib.rt:153:15
 cast-max : tie.Need-cast-max
 cast-max c = search needs
 
--- src/lib.rt:154:25
 mul-exact : tie.Need-mul-exact
 mul-exact c = omega (arith, few (c .before))
 
--- src/lib.rt:154:11
 exact-requires : tie.Need-exact-requires
 exact-requires c κs = omega (arith, few (c .before))
 
--- src/lib.rt:154:54
 mul-exact-2 : tie.Need-mul-exact-2
 mul-exact-2 c = omega (arith, square (c .before))
 
--- src/lib.rt:154:40
 exact-requires-2 : tie.Need-exact-requires-2
 exact-requires-2 c κs = omega (arith, square (c .before))
 
--- src/lib.rt:129:1
 returns : tie.Need-returns
 unfolding hvsScore
 returns c =

@@ -1,35 +1,23 @@
 -- `with_block` is the definition's steps. Assumes nothing.
-use mathlib.Core.Path.{_≡_}
-use lib.ListN.{length}
 use Rattle.dct.proofs.Bound.{coefficient-bound}
 use Rattle.psnr_hvs.specs.Block.{withBlock}
 use borrow.Author.Needs.{needs}
 use Rattle.psnr_hvs.proofs.Blocks.{coefficients-length, samples-small}
 use Rattle.psnr_hvs.proofs.block.with_block.Statement.{statement}
 use Rattle.psnr_hvs.proofs.block.with_block.Tie as tie
-use Rattle.psnr_hvs.proofs.block.with_block.Reads as reads
-use Rattle.psnr_hvs.proofs.block.with_block.Lts as lts
-use Rattle.dct.proofs.transform.Reads as transform-reads
-use Rattle.psnr_hvs.proofs.block.errors.Reads as errors-reads
-use Rattle.psnr_hvs.proofs.block.mask_of_both.Reads as mask-of-both-reads
 
--- src/block.rt:154:14
 transform-requires : tie.Need-transform-requires
 transform-requires c κs = (c .pre .0 .0, samples-small (c .args .p1 .now) (c .pre .1 .0))
 
--- src/block.rt:155:14
 transform-requires-2 : tie.Need-transform-requires-2
 transform-requires-2 c κs = let s = c .before in (s .pre .0 .1, samples-small (s .args .p2 .now) (s .pre .1 .1))
 
--- src/block.rt:156:34
 slice-aggregate-mask-of-both : tie.Need-slice-aggregate-mask-of-both
 slice-aggregate-mask-of-both c = search needs
 
--- src/block.rt:156:39
 slice-aggregate-mask-of-both-2 : tie.Need-slice-aggregate-mask-of-both-2
 slice-aggregate-mask-of-both-2 c = search needs
 
--- src/block.rt:156:9
 mask-of-both-requires : tie.Need-mask-of-both-requires
 mask-of-both-requires c κs =
     let s = c .before .before .before .before in
@@ -48,15 +36,12 @@ mask-of-both-requires c κs =
       ),
     )
 
--- src/block.rt:157:20
 slice-aggregate-errors : tie.Need-slice-aggregate-errors
 slice-aggregate-errors c = search needs
 
--- src/block.rt:157:25
 slice-aggregate-errors-2 : tie.Need-slice-aggregate-errors-2
 slice-aggregate-errors-2 c = search needs
 
--- src/block.rt:157:5
 errors-requires : tie.Need-errors-requires
 errors-requires c κs =
     let s = c .before .before .before .before .before .before .before in
@@ -66,7 +51,6 @@ errors-requires c κs =
       (rw one (coefficient-bound _ (samples-small (s .args .p1 .now) (s .pre .1 .0))), rw two (coefficient-bound _ (samples-small (s .args .p2 .now) (s .pre .1 .1)))),
     )
 
--- src/block.rt:148:1
 returns : tie.Need-returns
 unfolding withBlock
 returns c =

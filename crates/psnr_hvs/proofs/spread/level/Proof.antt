@@ -4,14 +4,10 @@ use borrow.Author.Needs.{needs}
 use Rattle.psnr_hvs.proofs.Sizes.{read-sample}
 use Rattle.psnr_hvs.proofs.spread.level.Statement.{statement}
 use Rattle.psnr_hvs.proofs.spread.level.Tie as tie
-use Rattle.psnr_hvs.proofs.spread.level.Reads as reads
-use Rattle.psnr_hvs.proofs.spread.level.Lts as lts
 
--- src/spread.rt:32:5
 cast-result : tie.Need-cast-result
 cast-result c = rw (read-sample (c .pre)) (c .pre .above, omega (arith, c .pre .small))
 
--- src/spread.rt:28:1
 returns : tie.Need-returns
 returns c = search needs
 

@@ -5,16 +5,10 @@ use Rattle.psnr_hvs.proofs.Levels.{quarter-le, squares-most, var-is}
 use borrow.Author.Needs.{needs}
 use Rattle.psnr_hvs.proofs.spread.quarter.Statement.{statement}
 use Rattle.psnr_hvs.proofs.spread.quarter.Tie as tie
-use Rattle.psnr_hvs.proofs.spread.quarter.Reads as reads
-use Rattle.psnr_hvs.proofs.spread.quarter.Lts as lts
-use Rattle.psnr_hvs.proofs.spread.sums_in.Reads as sums-in-reads
-use Rattle.psnr_hvs.proofs.spread.var.Reads as var-reads
 
--- src/spread.rt:80:9
 sums-in-requires : tie.Need-sums-in-requires
 sums-in-requires c κs = search needs
 
--- src/spread.rt:84:14
 var-requires : tie.Need-var-requires
 var-requires c κs =
     let s = c .before in
@@ -24,7 +18,6 @@ var-requires c κs =
       omega (arith, squares-most (s .args .b .now) (s .pre .1 .0) (s .args .top) (s .args .left) 16),
     )
 
--- src/spread.rt:72:1
 returns : tie.Need-returns
 returns c =
     let s = c .before .before in

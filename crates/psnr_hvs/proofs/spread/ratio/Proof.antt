@@ -10,28 +10,19 @@ use Rattle.psnr_hvs.proofs.Levels.{sums-add, squares-add, whole-sum, wh
 use borrow.Author.Needs.{needs}
 use Rattle.psnr_hvs.proofs.spread.ratio.Statement.{statement}
 use Rattle.psnr_hvs.proofs.spread.ratio.Tie as tie
-use Rattle.psnr_hvs.proofs.spread.ratio.Reads as reads
-use Rattle.psnr_hvs.proofs.spread.ratio.Lts as lts
-use Rattle.psnr_hvs.proofs.spread.gvar.Reads as gvar-reads
-use Rattle.psnr_hvs.proofs.spread.quarter.Reads as quarter-reads
 
--- src/spread.rt:94:9
 quarter-requires : tie.Need-quarter-requires
 quarter-requires c κs = search needs
 
--- src/spread.rt:95:9
 quarter-requires-2 : tie.Need-quarter-requires-2
 quarter-requires-2 c κs = search needs
 
--- src/spread.rt:96:9
 quarter-requires-3 : tie.Need-quarter-requires-3
 quarter-requires-3 c κs = search needs
 
--- src/spread.rt:97:9
 quarter-requires-4 : tie.Need-quarter-requires-4
 quarter-requires-4 c κs = search needs
 
--- src/spread.rt:98:18
 -- the four sums make up the whole block's
 module _ (c : tie.After-quarter4) where
   total : c .before .before .before .quarter .result .s + c .before .before .quarter2 .result .s + c .before .quarter3 .result .s + c .quarter4 .result .s
@@ -62,34 +53,27 @@ variance c =
 add-gvar : tie.Need-add-gvar
 add-gvar c = omega (arith, sum-fits (c .before .before))
 
--- src/spread.rt:98:18
 add-gvar-2 : tie.Need-add-gvar-2
 add-gvar-2 c = omega (arith, sum-fits (c .before .before .before))
 
--- src/spread.rt:98:18
 add-gvar-3 : tie.Need-add-gvar-3
 add-gvar-3 c = omega (arith, sum-fits (c .before .before .before .before))
 
--- src/spread.rt:98:41
 add-gvar-4 : tie.Need-add-gvar-4
 add-gvar-4 c = omega (arith, squares-fit (c .before .before .before .before .before .before))
 
--- src/spread.rt:98:41
 add-gvar-5 : tie.Need-add-gvar-5
 add-gvar-5 c = omega (arith, squares-fit (c .before .before .before .before .before .before .before))
 
--- src/spread.rt:98:41
 add-gvar-6 : tie.Need-add-gvar-6
 add-gvar-6 c = omega (arith, squares-fit (c .before .before .before .before .before .before .before .before))
 
--- src/spread.rt:98:9
 gvar-requires : tie.Need-gvar-requires
 gvar-requires c κs =
     let s = c .before .before .before .before .before .before .before .before .before .before .before .before in
     let q = c .before .before .before .before .before .before .before .before in
     (rw (total q, total-squares q) (whole-le (s .args .b .now) (s .pre .1)), squares-fit q)
 
--- src/spread.rt:89:1
 returns : tie.Need-returns
 unfolding ratio varSum
 returns c =
@@ -102,7 +86,6 @@ returns c =
       c .before .before .before .before .before .before .before .before .before .before .before .before .before .before .quarter4 .ensures .1 .1,
     )
 
--- src/spread.rt:89:1
 returns-2 : tie.Need-returns-2
 unfolding ratio
 returns-2 c = rw (← (variance (c .before .before .before .before .before)), c .if1 .left)

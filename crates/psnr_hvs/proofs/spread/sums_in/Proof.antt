@@ -3,8 +3,8 @@ use borrow.Author.Needs.{needs}
 use native.Mathlib.Nat.{mul-le-mul}
 use lib.IntN.{natAbs}
 use Rattle.psnr_hvs.proofs.Sizes.{read-sample, sample-read}
-use mathlib.Core.Path.{_≡_, refl, sym, ap, _∙_}
-use Prim.Native.Nat.{ℕ, _+_, _-_, _*_, _/_, _%_, _≤_, _<_}
+use mathlib.Core.Path.{_≡_, sym, ap, _∙_}
+use Prim.Native.Nat.{_-_, _≤_}
 use native.Mathlib.Omega.{arith}
 use Rattle.plane.specs.Sums.{sumTo}
 use Rattle.plane.proofs.Sums.{sum-none, sum-more}
@@ -13,9 +13,6 @@ use Rattle.psnr_hvs.proofs.Levels.{sum-most, squares-most}
 use Rattle.psnr_hvs.proofs.Blocks.{sample-at}
 use Rattle.psnr_hvs.proofs.spread.sums_in.Statement.{statement}
 use Rattle.psnr_hvs.proofs.spread.sums_in.Tie as tie
-use Rattle.psnr_hvs.proofs.spread.sums_in.Reads as reads
-use Rattle.psnr_hvs.proofs.spread.sums_in.Lts as lts
-use Rattle.psnr_hvs.proofs.spread.level.Reads as level-reads
 
 abbrev Inv-loop : tie.InvT-loop
 Inv-loop b top left s₀ q₀ k₀ s q k = (k ≤ 16) × (s ≡ sumTo (levelIn b top left) k) × (q ≡ squares (levelIn b top left) k)
@@ -23,39 +20,30 @@ Inv-loop b top left s₀ q₀ k₀ s q k = (k ≤ 16) × (s ≡ sumTo (levelIn b
 abbrev μ-loop : tie.MeasureT-loop
 μ-loop b top left s₀ q₀ k₀ s q k = 16 - k
 
--- src/spread.rt:45:5
 loop-holds : tie.Need-loop-holds Inv-loop μ-loop
 loop-holds c = (search needs, sym (sum-none _), sym (sum-none _))
 
--- src/spread.rt:46:30
 add-level : tie.Need-add-level Inv-loop μ-loop
 add-level c = search needs
 
--- src/spread.rt:46:25
 mul-level : tie.Need-mul-level Inv-loop μ-loop
 mul-level c = search needs
 
--- src/spread.rt:46:46
 add-level-2 : tie.Need-add-level-2 Inv-loop μ-loop
 add-level-2 c = search needs
 
--- src/spread.rt:46:25
 add-level-3 : tie.Need-add-level-3 Inv-loop μ-loop
 add-level-3 c = search needs
 
--- src/spread.rt:46:23
 mul-level-2 : tie.Need-mul-level-2 Inv-loop μ-loop
 mul-level-2 c = search needs
 
--- src/spread.rt:46:23
 shared-slice-copy-out-level : tie.Need-shared-slice-copy-out-level Inv-loop μ-loop
 shared-slice-copy-out-level c = search needs
 
--- src/spread.rt:46:13
 level-requires : tie.Need-level-requires Inv-loop μ-loop
 level-requires c κs = let s = c .before .before .before in sample-read (sample-at (s .args .b .now) (s .pre .1 .0) _)
 
--- src/spread.rt:47:13
 -- the sample that was read, and what the sums so far can be
 got : (c : tie.After-level Inv-loop μ-loop) → let s = c .before .before .before .before in
     c .level .result ≡ levelIn (s .args .b .now) (s .args .top) (s .args .left) (c .before .before .before .loop .k)
@@ -70,32 +58,26 @@ add-s c =
     let l = c .before .before .before .loop in
     omega (arith, small c, l .inv .1, sum-most (s .args .b .now) (s .pre .1 .0) (s .args .top) (s .args .left) (l .k))
 
--- src/spread.rt:48:17
 mul-q : tie.Need-mul-q Inv-loop μ-loop
 mul-q c = omega (arith, mul-le-mul (small c) (small c))
 
--- src/spread.rt:48:13
 add-q : tie.Need-add-q Inv-loop μ-loop
 add-q c =
     let s = c .before .before .before .before in
     let l = c .before .before .before .loop in
     omega (arith, mul-le-mul (small c) (small c), l .inv .2, squares-most (s .args .b .now) (s .pre .1 .0) (s .args .top) (s .args .left) (l .k))
 
--- src/spread.rt:45:9
 add-k : tie.Need-add-k Inv-loop μ-loop
 add-k c = search needs
 
--- src/spread.rt:45:5
 loop-less : tie.Need-loop-less Inv-loop μ-loop
 loop-less c = search needs
 
--- src/spread.rt:45:5
 loop-again : tie.Need-loop-again Inv-loop μ-loop
 loop-again c =
     let l = c .before .before .before .loop in
     (search needs, rw (sum-more, got c, l .inv .1), rw (sum-more, got c, l .inv .2))
 
--- src/spread.rt:36:1
 returns : tie.Need-returns Inv-loop μ-loop
 returns c =
     let e : c .before .loop .k ≡ 16 = omega arith in

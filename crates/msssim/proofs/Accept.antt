@@ -1,0 +1,95 @@
+-- What holds where no test of MS-SSIM refuses, and what the answer is where one does. Assumes nothing.
+use mathlib.Core.Path.{_≡_, refl, sym, _∙_}
+use mathlib.Core.Bool.{Bool, true, false, _&&_}
+use mathlib.Core.List.{List, [], _∷_}
+use Prim.Native.Nat.{ℕ, zero, suc, _*_, _≤_, _<_, _^_}
+use native.Mathlib.Nat.{le-trans}
+use native.Mathlib.Decide.{decLt}
+use native.Mathlib.Omega.{arith}
+use borrow.Author.Tests.{leb-true}
+use lib.Dec.{leb, lit<, lit≤}
+use lib.ListN.{length, List·getD-eq-default}
+use Rattle.refusal.specs.Numbers.{scratchNo}
+use Rattle.refusal.specs.First.{firstBroken}
+use Rattle.refusal.proofs.Chain.{and-left, and-right, passed}
+use Rattle.plane.specs.Limits.{sideLimit, mostDepth}
+use Rattle.plane.specs.Plane.{Plane, at, maxOf, sampleAt}
+use Rattle.plane.specs.Tests.{planeTests, planeRefusal}
+use Rattle.plane.specs.Lawful.{Accepted}
+use Rattle.plane.proofs.Accept.{accepted, plane-named}
+use Rattle.plane.proofs.Several.{planes-pass}
+use Rattle.window.specs.Columns.{viewOf, mostSample}
+use Rattle.window.proofs.Demand.{scales, scaleMax, scale-small}
+use Rattle.ssim.proofs.Accept.{halves}
+use Rattle.msssim.specs.Rooms.{Filled, Held}
+use Rattle.msssim.specs.Answer.{leastSide, placesOf, roomOf, lentEnough, msssimRefusal, answerFor, Lent, lentAfter}
+use Rattle.msssim.specs.declared.MsSsim.{MsSsim}
+use Rattle.msssim.specs.declared.MsSsim.the-variants.{Refused}
+use Rattle.msssim.proofs.Rooms.{rows-all}
+
+-- ---- 8, after the planes
+
+-- as many places as a plane has samples can be counted
+pub area-room : sideLimit * sideLimit < 2 ^ 64
+unfolding sideLimit
+area-room = lit< tt
+
+module _ {n : ℕ} (wide : Bool) (planes : List Plane) (width height depth places room-a room-b : ℕ)
+    (e : n ≡ planeRefusal wide planes width height depth leastSide) where
+  pub lent-refuses : n ≡ 0 → lentEnough width height places room-a room-b ≡ false
+      → scratchNo ≡ msssimRefusal wide planes width height depth places room-a room-b
+  lent-refuses z f = planes-pass wide planes width height depth leastSide e _ z (rw f)
+
+  pub none-refuses : n ≡ 0 → lentEnough width height places room-a room-b ≡ true
+      → 0 ≡ msssimRefusal wide planes width height depth places room-a room-b
+  none-refuses z f = planes-pass wide planes width height depth leastSide e _ z (rw f)
+
+-- ---- none of them refuses
+lent-says : (width height places room-a room-b : ℕ) → lentEnough width height places room-a room-b ≡ true
+    → (placesOf width ≤ places) × ((roomOf width height ≤ room-a) × (roomOf width height ≤ room-b))
+unfolding lentEnough
+lent-says width height places room-a room-b e =
+    let rooms = and-right (leb (placesOf width) places) _ e in (
+      leb-true _ _ (and-left _ _ e),
+      (leb-true _ _ (and-left _ _ rooms), leb-true _ _ (and-right (leb (roomOf width height) room-a) _ rooms)),
+    )
+
+pub sound : {n : ℕ} (wide : Bool) (planes : List Plane) (width height depth places room-a room-b : ℕ)
+    → n ≡ msssimRefusal wide planes width height depth places room-a room-b → n ≡ 0
+    → Accepted wide planes width height depth leastSide × ((placesOf width ≤ places) × ((roomOf width height ≤ room-a) × (roomOf width height ≤ room-b)))
+sound wide planes width height depth places room-a room-b e z =
+    let tests : List (ℕ × Bool) = (scratchNo, lentEnough width height places room-a room-b) ∷ [] in
+    let h = halves (planeTests wide planes width height depth leastSide) tests (plane-named wide planes width height depth leastSide) (sym e ∙ z) in (
+      accepted wide planes width height depth leastSide (h .0),
+      lent-says width height places room-a room-b (passed tests (lit≤ tt, tt) (h .1) .0),
+    )
+
+-- ---- the first scale
+
+-- the samples of five scales fit
+pub first-room : (wide : Bool) (depth : ℕ) → depth ≤ mostDepth wide → maxOf depth * 4 ^ 5 ≤ 4 * mostSample
+unfolding scaleMax scales mostDepth
+first-room wide depth d = omega (arith, scale-small depth 4 (le-trans d (least wide)) (lit< tt))
+  where
+    least : (wide : Bool) → mostDepth wide ≤ mostDepth true
+    least true = lit≤ tt
+    least false = lit≤ tt
+
+-- a plane that was widened into as many places as it has samples
+pub held-widened : (max width height : ℕ) (old new : List ℕ) (p : Plane) → ((x y : ℕ) → x < width → y < height → sampleAt p x y ≤ max)
+    → Filled old new width (viewOf p) height → length new ≡ roomOf width height → Held max width height new
+held-widened max width height old new p h f e =
+    record { long = omega (arith, e); small = λ i. go i (decLt i (height * width)) }
+  where
+    go : (i : ℕ) → Dec (i < height * width) → at new i ≤ max
+    go i (yes l) = rows-all (λ (v : ℕ). v ≤ max) old new width (viewOf p) height f (λ r c k m. h c r m k) i l
+    go i (no l) = rw (List·getD-eq-default new 0 {n = i} (omega (arith, e))) (omega arith)
+
+-- ---- a refused call
+pub refused : (n : ℕ) (score : MsSsim) → (n ≡ 0 → ⊥) → Refused n ≡ answerFor n score
+refused zero score h = absurd (h refl)
+refused (suc n) score h = refl
+
+pub untouched : (n width height : ℕ) (l : Lent) → (n ≡ 0 → ⊥) → l ≡ lentAfter n width height l
+untouched zero width height l h = absurd (h refl)
+untouched (suc n) width height l h = refl

@@ -1,0 +1,90 @@
+-- Demand 3 at the five scales: the samples k scales below the first are at most sample_max × 4^k, so the laws of the window's sums hold at
+-- every centre of every scale. Assumes nothing.
+use mathlib.Core.Path.{_≡_, refl, sym, _∙_}
+use mathlib.Core.Bool.{Bool, true, false}
+use mathlib.Core.List.{List, [], _∷_}
+use Prim.Native.Nat.{ℕ, zero, suc, _+_, _*_, _/_, _^_, _≤_, _<_}
+use native.Mathlib.Nat.{le-trans, pow-suc, mul-one}
+use native.Mathlib.Omega.{arith}
+use lib.Dec.{lit≤}
+use lib.Ieee.{nan}
+use lib.ListN.{getD}
+use Rattle.plane.specs.Limits.{mostDepth}
+use Rattle.plane.specs.Plane.{Plane, planeOf, maxOf}
+use Rattle.plane.specs.Lawful.{Accepted}
+use Rattle.window.specs.Kernel.{fixedKernel, fixedTotal}
+use Rattle.window.specs.Columns.{viewOf}
+use Rattle.window.proofs.Demand.{Bounded, Demanded, scales, scaleMax, fixed-sums}
+use Rattle.msssim.specs.Scale.{Scale, scaleCount, summedOf, belowOf, scaleAt, sumsOf, ssimOf, csOf, pairsFrom}
+use Rattle.msssim.specs.Answer.{leastSide, firstScale}
+
+-- ---- one scale
+
+-- no sample of either plane is above the scale's largest
+abbrev pub Small : Scale → Type 0
+Small s = Bounded (s .max) (s .width) (s .height) (s .a) × Bounded (s .max) (s .width) (s .height) (s .b)
+
+summed-most : (B width height : ℕ) (v : ℕ → ℕ → ℕ) → Bounded B width height v → Bounded (4 * B) (width / 2) (height / 2) (summedOf v)
+summed-most B width height v h r c k l =
+    omega (
+      arith,
+      h (2 * r) (2 * c) (omega arith) (omega arith),
+      h (2 * r) (2 * c + 1) (omega arith) (omega arith),
+      h (2 * r + 1) (2 * c) (omega arith) (omega arith),
+      h (2 * r + 1) (2 * c + 1) (omega arith) (omega arith),
+    )
+
+-- ---- k scales below
+
+pub scale-small : (k : ℕ) (s : Scale) → Small s → Small (scaleAt s k)
+unfolding scaleAt
+scale-small zero s h = h
+scale-small (suc k) s h = scale-small k (belowOf s) (summed-most _ _ _ (s .a) (h .0), summed-most _ _ _ (s .b) (h .1))
+
+pub scale-max : (k : ℕ) (s : Scale) → scaleAt s k .max ≡ s .max * 4 ^ k
+unfolding scaleAt
+scale-max zero s = sym (mul-one (s .max))
+scale-max (suc k) s = scale-max k (belowOf s) ∙ rw (pow-suc 4 k) (omega arith)
+
+-- the pairs are those of these scales
+pub pairs-at : (n k : ℕ) (s : Scale) → k < n
+    → (getD (pairsFrom n s) (2 * k) nan ≡ ssimOf (sumsOf (scaleAt s k))) × (getD (pairsFrom n s) (2 * k + 1) nan ≡ csOf (sumsOf (scaleAt s k)))
+unfolding pairsFrom scaleAt
+pairs-at zero k s l = absurd (omega arith)
+pairs-at (suc n) zero s l = (refl, refl)
+pairs-at (suc n) (suc k) s l =
+    let e : 2 * suc k ≡ suc (suc (2 * k)) = omega arith in
+    let f : 2 * suc k + 1 ≡ suc (suc (2 * k + 1)) = omega arith in
+    let h = pairs-at n k (belowOf s) (omega arith) in
+    (rw e (h .0), rw f (h .1))
+
+-- ---- the five scales of two accepted planes
+module _ (wide : Bool) (p q : Plane) (width height depth k : ℕ) (c : Accepted wide (p ∷ q ∷ []) width height depth leastSide) where
+  abbrev at-scale : Scale
+  at-scale = scaleAt (firstScale p q width height depth) k
+
+  -- "The samples at scale k stay below sample_max × 4^(k-1) + 1", where the first scale is k = 0 here
+  pub samples-stay : (Bounded (scaleMax depth k) (at-scale .width) (at-scale .height) (at-scale .a))
+      × (Bounded (scaleMax depth k) (at-scale .width) (at-scale .height) (at-scale .b))
+  unfolding scaleMax
+  samples-stay =
+      let first = firstScale p q width height depth in
+      rw (scale-max k first) at (scale-small k first ((λ row col i j. c .each .0 .small col row j i), (λ row col i j. c .each .1 .0 .small col row j i)))
+
+  pub scale-sums : k < scaleCount → (x y : ℕ) → x < at-scale .width → y < at-scale .height
+      → Demanded fixedKernel (at-scale .width) (at-scale .height) (at-scale .a) (at-scale .b) x y fixedTotal (scaleMax depth k)
+  unfolding scaleCount scales mostDepth
+  scale-sums n x y l m =
+      fixed-sums depth k (le-trans (c .depth-most) (least wide)) n (at-scale .width) (at-scale .height) (at-scale .a) (at-scale .b) (samples-stay .0)
+      (samples-stay .1) x y l m
+    where
+      least : (w : Bool) → mostDepth w ≤ mostDepth true
+      least true = lit≤ tt
+      least false = lit≤ tt
+
+-- ---- "3×3 of 1 to 9 downscales to 12"
+abbrev nine : List ℕ
+nine = 1 ∷ 2 ∷ 3 ∷ 4 ∷ 5 ∷ 6 ∷ 7 ∷ 8 ∷ 9 ∷ []
+
+pub worked : (3 / 2 ≡ 1) × (summedOf (viewOf (planeOf nine 3)) 0 0 ≡ 12)
+worked = (refl, refl)

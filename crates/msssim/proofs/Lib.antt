@@ -1,0 +1,4 @@
+pub mod Rooms
+pub mod Scales
+pub mod Accept
+pub mod Demand

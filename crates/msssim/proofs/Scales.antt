@@ -1,0 +1,151 @@
+-- Laws of the scales and their pairs: planes that show the same have the same pairs, and how the pairs of the scales that are left are
+-- made. Assumes nothing.
+use mathlib.Core.Path.{_≡_, refl, sym, ap, _∙_}
+use mathlib.Core.List.{List, [], _∷_, _++_, append-nil}
+use Prim.Native.Nat.{ℕ, zero, suc, _+_, _-_, _*_, _/_, _^_, _≤_, _<_}
+use native.Mathlib.Nat.{pow-suc, one-le-pow, mul-le-mul, mul-le-mul-left, le-refl}
+use native.Mathlib.Decide.{decLt}
+use native.Mathlib.Numerals.{sub-one}
+use native.Mathlib.Omega.{arith}
+use borrow.Rule.Slice.PartAt.{part-to-end}
+use borrow.Rule.Slice.PartMut.{putMid}
+use lib.Dec.{lit<}
+use lib.Ieee.{Float}
+use lib.ListN.{length, set, take, drop, length-drop, drop-of-length-le}
+use Rattle.number.proofs.Folds.{fold-ext}
+use Rattle.plane.specs.Plane.{at, planeOf}
+use Rattle.plane.proofs.Sums.{sum-ext}
+use Rattle.window.specs.Kernel.{tap}
+use Rattle.window.specs.Moments.{inside, momentAt}
+use Rattle.window.specs.Parts.{momentsAt}
+use Rattle.window.specs.Columns.{viewOf, mostSample}
+use Rattle.window.proofs.Windows.{inside-both}
+use Rattle.ssim.specs.Score.{stepOf, totalsOf}
+use Rattle.msssim.specs.Scale.{Scale, scaleOf, summedOf, belowOf, sumsOf, ssimOf, csOf, pairsFrom}
+use Rattle.msssim.specs.Rooms.{Filled, Held}
+use Rattle.msssim.proofs.Rooms.{rows-all}
+
+-- ---- views that show the same inside the plane
+abbrev pub Same : ℕ → ℕ → (ℕ → ℕ → ℕ) → (ℕ → ℕ → ℕ) → Type 0
+Same width height v w = (r c : ℕ) → r < height → c < width → v r c ≡ w r c
+
+module _ (ker : List ℕ) (width height : ℕ) where
+  moment-ext : (v w : ℕ → ℕ → ℕ) (x y : ℕ) → Same width height v w → momentAt ker width height v x y ≡ momentAt ker width height w x y
+  unfolding momentAt
+  moment-ext v w x y h =
+      sum-ext _ _ (length ker) (λ i k.
+      sum-ext _ _ (length ker) (λ j l.
+      ap (λ (u : ℕ). tap ker i * tap ker j * u)
+      (inside-both (λ (p q : ℕ). p ≡ q) (length ker / 2) height (λ (r : ℕ). inside (length ker / 2) width (v r) (x + j))
+      (λ (r : ℕ). inside (length ker / 2) width (w r) (x + j)) (y + i) refl (λ e f.
+      inside-both (λ (p q : ℕ). p ≡ q) (length ker / 2) width (v (y + i - length ker / 2)) (w (y + i - length ker / 2)) (x + j) refl (λ g m.
+      h (y + i - length ker / 2) (x + j - length ker / 2) (omega arith) (omega arith))))))
+
+  module _ (a a′ b b′ : ℕ → ℕ → ℕ) (p : Same width height a a′) (q : Same width height b b′) where
+    moments-ext : (x y : ℕ) → momentsAt ker width height a b x y ≡ momentsAt ker width height a′ b′ x y
+    moments-ext x y =
+        simp (
+          moment-ext a a′ x y p,
+          moment-ext b b′ x y q,
+          moment-ext (λ (r c : ℕ). a r c * a r c) (λ (r c : ℕ). a′ r c * a′ r c) x y (λ r c k l. rw (p r c k l)),
+          moment-ext (λ (r c : ℕ). a r c * b r c) (λ (r c : ℕ). a′ r c * b′ r c) x y (λ r c k l. rw (p r c k l, q r c k l)),
+          moment-ext (λ (r c : ℕ). b r c * b r c) (λ (r c : ℕ). b′ r c * b′ r c) x y (λ r c k l. rw (q r c k l)),
+        )
+
+    totals-ext : (max2 : Float) (n : ℕ) → totalsOf max2 ker width height a b n ≡ totalsOf max2 ker width height a′ b′ n
+    unfolding totalsOf
+    totals-ext max2 n = fold-ext _ _ _ n (λ t y k. fold-ext _ _ _ width (λ s x l. ap (stepOf max2 s) (moments-ext x y)))
+
+summed-ext : (width height : ℕ) (v w : ℕ → ℕ → ℕ) → Same width height v w → Same (width / 2) (height / 2) (summedOf v) (summedOf w)
+summed-ext width height v w h r c k l =
+    rw (
+      h (2 * r) (2 * c) (omega arith) (omega arith),
+      h (2 * r) (2 * c + 1) (omega arith) (omega arith),
+      h (2 * r + 1) (2 * c) (omega arith) (omega arith),
+      h (2 * r + 1) (2 * c + 1) (omega arith) (omega arith),
+    )
+
+pub pairs-ext : (left max width height : ℕ) (a a′ b b′ : ℕ → ℕ → ℕ) → Same width height a a′ → Same width height b b′
+    → pairsFrom left (scaleOf max width height a b) ≡ pairsFrom left (scaleOf max width height a′ b′)
+unfolding pairsFrom
+pairs-ext zero max width height a a′ b b′ p q = refl
+pairs-ext (suc left) max width height a a′ b b′ p q =
+    rw (
+      totals-ext _ width height a a′ b b′ p q _ height,
+      pairs-ext left (4 * max) (width / 2) (height / 2) (summedOf a) (summedOf a′) (summedOf b) (summedOf b′)
+          (summed-ext width height a a′ p) (summed-ext width height b b′ q),
+    )
+
+-- ---- the scale below, in place
+pub held-below : (max width height : ℕ) (old new : List ℕ) → Held max width height old
+    → Filled old new (width / 2) (summedOf (viewOf (planeOf old width))) (height / 2) → length new ≡ length old
+    → Held (4 * max) (width / 2) (height / 2) new
+held-below max width height old new h f e =
+    record { long = omega (arith, h .long, e, mul-le-mul (half height) (half width)); small = λ i. go i (decLt i (height / 2 * (width / 2))) }
+  where
+    half : (w : ℕ) → w / 2 ≤ w
+    half w = omega arith
+
+    go : (i : ℕ) → Dec (i < height / 2 * (width / 2)) → at new i ≤ 4 * max
+    go i (yes l) =
+        rows-all (λ (v : ℕ). v ≤ 4 * max) old new (width / 2) _ (height / 2) f
+        (λ r c k m. omega (
+          arith,
+          h .small (2 * r * width + 2 * c),
+          h .small (2 * r * width + (2 * c + 1)),
+          h .small ((2 * r + 1) * width + 2 * c),
+          h .small ((2 * r + 1) * width + (2 * c + 1)),
+        )) i l
+    go i (no l) = omega (arith, f .rest i (omega arith), h .small i)
+
+-- where scales are left, their samples fit, and so do those of the scales below
+pub left-room : (left max : ℕ) → 0 < left → max * 4 ^ left ≤ 4 * mostSample
+    → (max ≤ mostSample) × (4 * max * 4 ^ (left - 1) ≤ 4 * mostSample)
+left-room zero max l h = absurd (omega arith)
+left-room (suc n) max l h =
+    let e : max * 4 ^ suc n ≡ 4 * max * 4 ^ n = rw (pow-suc 4 n) (omega arith) in
+    let some = mul-le-mul-left (4 * max) (one-le-pow n 4 (lit< tt)) in
+    (omega (arith, e, some), rw (sub-one (suc n)) (omega (arith, e)))
+
+-- ---- the pairs of the scales that are left
+pub pairs-more : (left : ℕ) (s : Scale) → 0 < left → pairsFrom left s ≡ ssimOf (sumsOf s) ∷ csOf (sumsOf s) ∷ pairsFrom (left - 1) (belowOf s)
+unfolding pairsFrom
+pairs-more zero s l = absurd (omega arith)
+pairs-more (suc n) s l = rw (sub-one (suc n))
+
+pub pairs-none : (left : ℕ) (s : Scale) (l : List Float) → length l ≡ 2 * left → left ≤ 0 → l ≡ pairsFrom left s
+unfolding pairsFrom
+pairs-none zero s [] e h = refl
+pairs-none zero s (x ∷ l) e h = absurd (omega arith)
+pairs-none (suc n) s l e h = absurd (omega arith)
+
+-- two stores at the front
+pub two-set : {A : Type 0} (l : List A) (x y : A) → 2 ≤ length l → set (set l 0 x) 1 y ≡ x ∷ y ∷ drop 2 l
+two-set [] x y h = absurd (omega arith)
+two-set (a ∷ []) x y h = absurd (omega arith)
+two-set (a ∷ b ∷ l) x y h = refl
+
+-- ---- the part that is lent to the scales below: all places but the first two
+pub rest-length : (l : List Float) (left : ℕ) → length l ≡ 2 * left → length (take (length l - 2) (drop 2 l)) ≡ 2 * (left - 1)
+rest-length l left e = rw (part-to-end l 2, length-drop 2 l) (omega arith)
+
+rest-back : (l last : List Float) → putMid 2 (length l - 2) l last ≡ take 2 l ++ last
+rest-back l last = rw (← (length-drop 2 l), drop-of-length-le (drop 2 l) (le-refl _), append-nil last)
+
+-- a scale scored, and those below it
+pub pairs-step : (left max width height : ℕ) (a a′ b b′ : List ℕ) (l l′ last : List Float) → 0 < left
+    → l′ ≡ ssimOf (sumsOf (scaleOf max width height (viewOf (planeOf a width)) (viewOf (planeOf b width))))
+    ∷ csOf (sumsOf (scaleOf max width height (viewOf (planeOf a width)) (viewOf (planeOf b width)))) ∷ l
+    → last ≡ pairsFrom (left - 1) (scaleOf (4 * max) (width / 2) (height / 2) (viewOf (planeOf a′ (width / 2))) (viewOf (planeOf b′ (width / 2))))
+    → Filled a a′ (width / 2) (summedOf (viewOf (planeOf a width))) (height / 2)
+    → Filled b b′ (width / 2) (summedOf (viewOf (planeOf b width))) (height / 2)
+    → putMid 2 (length l′ - 2) l′ last ≡ pairsFrom left (scaleOf max width height (viewOf (planeOf a width)) (viewOf (planeOf b width)))
+pairs-step left max width height a a′ b b′ l l′ last some e f p q =
+    rest-back l′ last
+    ∙ rw (
+      e,
+      f,
+      pairs-ext (left - 1) (4 * max) (width / 2) (height / 2) (viewOf (planeOf a′ (width / 2))) (summedOf (viewOf (planeOf a width)))
+          (viewOf (planeOf b′ (width / 2))) (summedOf (viewOf (planeOf b width))) (p .rows) (q .rows),
+    )
+    (sym (pairs-more left (scaleOf max width height (viewOf (planeOf a width)) (viewOf (planeOf b width))) some))

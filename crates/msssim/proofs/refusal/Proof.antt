@@ -1,0 +1,39 @@
+-- `msssim::refusal` meets its contract. Assumes nothing.
+use Rattle.refusal.proofs.Chain.{fails, holds}
+use Rattle.plane.proofs.Several.{planes-stop, planes-say}
+use Rattle.msssim.specs.Answer.{leastSide}
+use Rattle.msssim.proofs.Accept.{lent-refuses, none-refuses}
+use borrow.Author.Needs.{needs}
+use Rattle.msssim.proofs.refusal.Statement.{statement}
+use Rattle.msssim.proofs.refusal.Tie as tie
+use Rattle.msssim.proofs.refusal.Reads as reads
+use Rattle.msssim.proofs.refusal.Lts as lts
+use Rattle.msssim.proofs.lent_enough.Reads as lent-enough-reads
+use Rattle.plane.proofs.check.Reads as check-reads
+
+check-requires : tie.Need-check-requires
+check-requires c κs = search needs
+
+returns : tie.Need-returns
+unfolding leastSide
+returns c = planes-stop _ _ _ _ _ _ (c .before .check .ensures) _ (c .if1 .taken)
+
+lent-enough-requires : tie.Need-lent-enough-requires
+lent-enough-requires c κs =
+    let planes = planes-say _ _ _ _ _ _ (c .before .check .ensures) (c .if1 .left) in
+    (planes .width-most, planes .height-most)
+
+returns-2 : tie.Need-returns-2
+unfolding leastSide
+returns-2 c =
+    lent-refuses _ _ _ _ _ _ _ _ (c .before .before .before .check .ensures) (c .before .before .if1 .left)
+    (fails (c .before .lent-enough .ensures) (c .if2 .taken))
+
+returns-3 : tie.Need-returns-3
+unfolding leastSide
+returns-3 c =
+    none-refuses _ _ _ _ _ _ _ _ (c .before .before .before .check .ensures) (c .before .before .if1 .left)
+    (holds (c .before .lent-enough .ensures) (c .if2 .left))
+
+pub refusal-spec : {M : Type 1} → statement M
+refusal-spec = tie.close (tie.spec check-requires returns lent-enough-requires returns-2 returns-3)

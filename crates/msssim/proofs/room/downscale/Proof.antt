@@ -1,0 +1,76 @@
+-- `msssim::room::downscale` meets its contract: the rows above j stand there, and all from row j on is as it was. Assumes nothing.
+use mathlib.Core.Path.{_≡_, refl, _∙_}
+use Prim.Native.Nat.{ℕ, _+_, _-_, _*_, _/_, _≤_, _<_}
+use native.Mathlib.Nat.{mul-le-mul-right}
+use native.Mathlib.Omega.{arith}
+use borrow.Author.Needs.{needs}
+use denote.Ref.{now}
+use lib.ListN.{length}
+use Rattle.window.specs.Columns.{viewOf}
+use Rattle.msssim.specs.Rooms.{Filled}
+use Rattle.plane.specs.Plane.{planeOf}
+use Rattle.msssim.specs.Scale.{summedOf}
+use Rattle.msssim.proofs.Rooms.{filled-none, filled-more, sum-still}
+use Rattle.msssim.proofs.room.downscale.Statement.{statement}
+use Rattle.msssim.proofs.room.downscale.Tie as tie
+use Rattle.msssim.proofs.room.downscale.Reads as reads
+use Rattle.msssim.proofs.room.downscale.Lts as lts
+use Rattle.msssim.proofs.room.sum_row.Reads as sum-row-reads
+
+abbrev Inv-loop : tie.InvT-loop
+Inv-loop room₀ width height j₀ j-end room j =
+    (j ≤ height / 2) × (length room ≡ length room₀) × Filled room₀ room (width / 2) (summedOf (viewOf (planeOf room₀ width))) j
+
+abbrev μ-loop : tie.MeasureT-loop
+μ-loop room₀ width height j₀ j-end room j = height / 2 - j
+
+loop-holds : tie.Need-loop-holds Inv-loop μ-loop
+loop-holds c = (omega arith, refl, filled-none _ _ _)
+
+sum-row-requires : tie.Need-sum-row-requires Inv-loop μ-loop
+sum-row-requires c κs =
+    let s = c .before .before .before .before in
+    let l = c .before .before .loop in
+    let down : 2 * l .j + 2 ≤ s .args .height = omega arith in (
+      omega (arith, mul-le-mul-right (s .args .width) down),
+      (λ k m. rw (l .inv .2 .rest k m) (s .pre .1 k)),
+    )
+
+add-j : tie.Need-add-j Inv-loop μ-loop
+add-j c = search needs
+
+loop-less : tie.Need-loop-less Inv-loop μ-loop
+loop-less c = search needs
+
+loop-again : tie.Need-loop-again Inv-loop μ-loop
+loop-again c =
+    let s = c .before .before .before .before .before .before .before in
+    let l = c .before .before .before .before .before .loop in
+    let r = c .before .before .sum-row in (
+      omega arith,
+      r .kept .0 ∙ l .inv .1,
+      filled-more _ _ _ _ (summedOf (viewOf (planeOf (now (s .args .room)) (s .args .width)))) _ _ (l .inv .2) (r .ensures)
+          (λ i m. sum-still (now (s .args .room)) (l .room) (s .args .width) (l .j) (l .inv .2 .rest) i),
+    )
+
+same-length : tie.Need-same-length Inv-loop μ-loop
+same-length c = c .before .loop .inv .1
+
+returns : tie.Need-returns Inv-loop μ-loop
+returns c =
+    let e : c .before .loop .j ≡ c .before .before .before .args .height / 2 = omega arith in
+    rw e at (c .before .loop .inv .2)
+
+pub downscale-spec : {M : Type 1} → statement M
+downscale-spec =
+    tie.close
+    (tie.spec
+    Inv-loop
+    μ-loop
+    loop-holds
+    sum-row-requires
+    add-j
+    loop-less
+    loop-again
+    same-length
+    returns)

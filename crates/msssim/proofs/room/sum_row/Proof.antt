@@ -1,0 +1,104 @@
+-- `msssim::room::sum_row` meets its contract. Assumes nothing.
+use Rattle.window.proofs.Windows.{side-room}
+use borrow.Author.Needs.{needs}
+use Prim.Native.Nat.{ℕ, _+_, _-_, _*_, _/_, _≤_, _<_, _^_}
+use native.Mathlib.Omega.{arith}
+use mathlib.Core.Path.{_≡_, refl, _∙_}
+use denote.Ref.{now}
+use lib.ListN.{length, length-set}
+use Rattle.plane.specs.Plane.{planeOf}
+use Rattle.window.specs.Columns.{viewOf}
+use Rattle.msssim.specs.Scale.{summedOf}
+use Rattle.msssim.specs.Rooms.{Put}
+use Rattle.msssim.proofs.Rooms.{put-none, put-more, half-le, sum-same, sum-small}
+use Rattle.msssim.proofs.room.sum_row.Statement.{statement}
+use Rattle.msssim.proofs.room.sum_row.Tie as tie
+use Rattle.msssim.proofs.room.sum_row.Reads as reads
+use Rattle.msssim.proofs.room.sum_row.Lts as lts
+use Rattle.msssim.proofs.room.four.Reads as four-reads
+
+abbrev Inv-loop : tie.InvT-loop
+Inv-loop room₀ width j half to top c₀ room c = (c ≤ width / 2) × (length room ≡ length room₀) × Put room₀ room (j * (width / 2)) c (summedOf (viewOf (planeOf room₀ width)) j)
+
+abbrev μ-loop : tie.MeasureT-loop
+μ-loop room₀ width j half to top c₀ room c = width / 2 - c
+
+mul-to : tie.Need-mul-to Inv-loop μ-loop
+mul-to c = omega (arith, half-le (c .before .args .j) (c .before .args .width))
+
+mul-top : tie.Need-mul-top Inv-loop μ-loop
+mul-top c = omega (arith, side-room)
+
+mul-top-2 : tie.Need-mul-top-2 Inv-loop μ-loop
+mul-top-2 c = omega arith
+
+loop-holds : tie.Need-loop-holds Inv-loop μ-loop
+loop-holds c = (omega arith, refl, put-none _ _ _)
+
+mul-four : tie.Need-mul-four Inv-loop μ-loop
+mul-four c = omega arith
+
+add-four : tie.Need-add-four Inv-loop μ-loop
+add-four c = omega arith
+
+four-requires : tie.Need-four-requires Inv-loop μ-loop
+four-requires c κs =
+    let s = c .before .before .before .before in (
+      omega arith,
+      sum-small _ _ _ _ _ _ (c .before .before .loop .inv .2) (s .pre .1),
+    )
+
+add-room : tie.Need-add-room Inv-loop μ-loop
+add-room c = omega (arith, half-le (c .before .before .before .before .before .args .j) (c .before .before .before .before .before .args .width))
+
+mul-room : tie.Need-mul-room Inv-loop μ-loop
+mul-room c = omega (arith, half-le (c .before .before .before .before .before .args .j) (c .before .before .before .before .before .args .width))
+
+slice-write-room : tie.Need-slice-write-room Inv-loop μ-loop
+slice-write-room c = omega (arith, half-le (c .before .before .before .before .before .args .j) (c .before .before .before .before .before .args .width))
+
+add-c : tie.Need-add-c Inv-loop μ-loop
+add-c c = search needs
+
+loop-less : tie.Need-loop-less Inv-loop μ-loop
+loop-less c = search needs
+
+loop-again : tie.Need-loop-again Inv-loop μ-loop
+loop-again c =
+    let s = c .before .before .before .before .before in
+    let l = c .before .before .before .loop in (
+      omega arith,
+      simp length-set (l .inv .1),
+      put-more _ _ _ _ (summedOf (viewOf (planeOf (now (s .args .room)) (s .args .width))) (s .args .j)) _ (l .inv .2)
+          (sum-same _ _ _ _ _ _ (l .inv .2) _ (c .four .ensures)) (omega (arith, half-le (s .args .j) (s .args .width))),
+    )
+
+same-length : tie.Need-same-length Inv-loop μ-loop
+same-length c = c .before .loop .inv .1
+
+returns : tie.Need-returns Inv-loop μ-loop
+returns c =
+    let e : c .before .loop .c ≡ c .before .before .before .args .width / 2 = omega arith in
+    rw e at (c .before .loop .inv .2)
+
+pub sum-row-spec : {M : Type 1} → statement M
+sum-row-spec =
+    tie.close
+    (tie.spec
+    Inv-loop
+    μ-loop
+    mul-to
+    mul-top
+    mul-top-2
+    loop-holds
+    mul-four
+    add-four
+    four-requires
+    add-room
+    mul-room
+    slice-write-room
+    add-c
+    loop-less
+    loop-again
+    same-length
+    returns)

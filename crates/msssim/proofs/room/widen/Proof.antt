@@ -1,0 +1,87 @@
+-- `msssim::room::widen` meets its contract: the rows above y stand there. Assumes nothing.
+use mathlib.Core.Path.{_≡_, refl, _∙_}
+use Prim.Native.Nat.{ℕ, _+_, _-_, _*_, _/_, _≤_, _<_}
+use native.Mathlib.Nat.{mul-le-mul-right}
+use native.Mathlib.Omega.{arith}
+use borrow.Author.Needs.{needs}
+use denote.Ref.{now}
+use lib.ListN.{length}
+use Rattle.window.specs.Columns.{viewOf}
+use Rattle.msssim.specs.Rooms.{Filled}
+use Rattle.plane.specs.Plane.{planeOf, samplesOf}
+use Rattle.plane.proofs.Rows.{row-inside, count-fits}
+use Rattle.msssim.proofs.Rooms.{filled-none, filled-more}
+use Rattle.msssim.proofs.room.widen.Statement.{statement}
+use Rattle.msssim.proofs.room.widen.Tie as tie
+use Rattle.msssim.proofs.room.widen.Reads as reads
+use Rattle.msssim.proofs.room.widen.Lts as lts
+use Rattle.msssim.proofs.room.widen_row.Reads as widen-row-reads
+
+abbrev Inv-loop : tie.InvT-loop
+Inv-loop room₀ bytes words wide width height stride y₀ room y =
+    (y ≤ height) × (length room ≡ length room₀) × Filled room₀ room width (viewOf (planeOf (samplesOf wide bytes words) stride)) y
+
+abbrev μ-loop : tie.MeasureT-loop
+μ-loop room₀ bytes words wide width height stride y₀ room y = height - y
+
+loop-holds : tie.Need-loop-holds Inv-loop μ-loop
+loop-holds c = (search needs, refl, filled-none _ _ _)
+
+mul-widen-row : tie.Need-mul-widen-row Inv-loop μ-loop
+mul-widen-row c =
+    let s = c .before .before .before .before .before .before in
+    let row = row-inside (s .args .width) (s .args .stride) (s .pre .1) (c .before .loop-test .taken) in
+    omega (arith, row, count-fits (s .args .wide) (now (s .args .bytes)) (now (s .args .words)) (omega arith) (omega arith))
+
+mul-widen-row-2 : tie.Need-mul-widen-row-2 Inv-loop μ-loop
+mul-widen-row-2 c =
+    let s = c .before .before .before .before .before .before in
+    omega (arith, mul-le-mul-right (s .args .width) (c .before .loop-test .taken))
+
+widen-row-requires : tie.Need-widen-row-requires Inv-loop μ-loop
+widen-row-requires c κs =
+    let s = c .before .before .before .before .before .before in (
+      omega (arith, mul-le-mul-right (s .args .width) (c .before .loop-test .taken)),
+      row-inside (s .args .width) (s .args .stride) (s .pre .1) (c .before .loop-test .taken),
+    )
+
+add-y : tie.Need-add-y Inv-loop μ-loop
+add-y c = search needs
+
+loop-less : tie.Need-loop-less Inv-loop μ-loop
+loop-less c = search needs
+
+loop-again : tie.Need-loop-again Inv-loop μ-loop
+loop-again c =
+    let s = c .before .before .before .before .before .before .before .before .before in
+    let l = c .before .before .before .before .before .loop in
+    let r = c .before .before .widen-row in (
+      omega arith,
+      r .kept .0 ∙ l .inv .1,
+      filled-more _ _ _ _ (viewOf (planeOf (samplesOf (s .args .wide) (now (s .args .bytes)) (now (s .args .words))) (s .args .stride))) _ _
+          (l .inv .2) (r .ensures) (λ i m. refl),
+    )
+
+same-length : tie.Need-same-length Inv-loop μ-loop
+same-length c = c .before .loop .inv .1
+
+returns : tie.Need-returns Inv-loop μ-loop
+returns c =
+    let e : c .before .loop .y ≡ c .before .before .before .before .before .args .height = omega arith in
+    rw e at (c .before .loop .inv .2)
+
+pub widen-spec : {M : Type 1} → statement M
+widen-spec =
+    tie.close
+    (tie.spec
+    Inv-loop
+    μ-loop
+    loop-holds
+    mul-widen-row
+    mul-widen-row-2
+    widen-row-requires
+    add-y
+    loop-less
+    loop-again
+    same-length
+    returns)

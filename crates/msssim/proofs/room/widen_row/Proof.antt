@@ -1,0 +1,84 @@
+-- `msssim::room::widen_row` meets its contract. Assumes nothing.
+use Rattle.plane.proofs.Rows.{count-fits}
+use borrow.Author.Needs.{needs}
+use Prim.Native.Nat.{ℕ, _+_, _-_, _*_, _/_, _≤_, _<_, _^_}
+use native.Mathlib.Omega.{arith}
+use mathlib.Core.Path.{_≡_, refl, _∙_}
+use denote.Ref.{now}
+use lib.ListN.{length, length-set}
+use Rattle.plane.specs.Plane.{at, samplesOf}
+use Rattle.msssim.specs.Rooms.{Put}
+use Rattle.msssim.proofs.Rooms.{put-none, put-more}
+use Rattle.msssim.proofs.room.widen_row.Statement.{statement}
+use Rattle.msssim.proofs.room.widen_row.Tie as tie
+use Rattle.msssim.proofs.room.widen_row.Reads as reads
+use Rattle.msssim.proofs.room.widen_row.Lts as lts
+use Rattle.plane.proofs.sample.Reads as sample-reads
+
+abbrev Inv-loop : tie.InvT-loop
+Inv-loop room₀ bytes words wide start to width x₀ room x = (x ≤ width) × (length room ≡ length room₀) × Put room₀ room to x (λ (i : ℕ). at (samplesOf wide bytes words) (start + i))
+
+abbrev μ-loop : tie.MeasureT-loop
+μ-loop room₀ bytes words wide start to width x₀ room x = width - x
+
+loop-holds : tie.Need-loop-holds Inv-loop μ-loop
+loop-holds c = (search needs, refl, put-none _ _ _)
+
+add-sample : tie.Need-add-sample Inv-loop μ-loop
+add-sample c =
+    let s = c .before .before .before .before .before in
+    omega (arith, count-fits (s .args .wide) (now (s .args .bytes)) (now (s .args .words)) (omega arith) (omega arith))
+
+sample-requires : tie.Need-sample-requires Inv-loop μ-loop
+sample-requires c κs = omega arith
+
+add-room : tie.Need-add-room Inv-loop μ-loop
+add-room c = search needs
+
+mul-room : tie.Need-mul-room Inv-loop μ-loop
+mul-room c = search needs
+
+slice-write-room : tie.Need-slice-write-room Inv-loop μ-loop
+slice-write-room c = search needs
+
+add-x : tie.Need-add-x Inv-loop μ-loop
+add-x c = search needs
+
+loop-less : tie.Need-loop-less Inv-loop μ-loop
+loop-less c = search needs
+
+loop-again : tie.Need-loop-again Inv-loop μ-loop
+loop-again c =
+    let s = c .before .before .before .before .before .before in
+    let l = c .before .before .loop in (
+      search needs,
+      simp length-set (l .inv .1),
+      put-more _ _ _ _ (λ (i : ℕ). at (samplesOf (s .args .wide) (now (s .args .bytes)) (now (s .args .words))) (s .args .start + i)) _ (l .inv .2)
+          (c .sample .ensures) (omega arith),
+    )
+
+same-length : tie.Need-same-length Inv-loop μ-loop
+same-length c = c .before .loop .inv .1
+
+returns : tie.Need-returns Inv-loop μ-loop
+returns c =
+    let e : c .before .loop .x ≡ c .before .before .before .before .before .args .width = omega arith in
+    rw e at (c .before .loop .inv .2)
+
+pub widen-row-spec : {M : Type 1} → statement M
+widen-row-spec =
+    tie.close
+    (tie.spec
+    Inv-loop
+    μ-loop
+    loop-holds
+    add-sample
+    sample-requires
+    add-room
+    mul-room
+    slice-write-room
+    add-x
+    loop-less
+    loop-again
+    same-length
+    returns)

@@ -1,0 +1,272 @@
+// MS-SSIM of two planes, after `calculate_plane_msssim` without its power product: five scales, each made from the one above by summing
+// 2×2 samples, and the pair of SSIM at each, under a kernel of its own.
+ghost use mathlib.Core.Path.{_≡_};
+ghost use mathlib.Core.Bool.{true, false};
+ghost use mathlib.Core.List.{[], _∷_};
+ghost use Prim.Native.Nat.{_*_, _≤_};
+ghost use lib.ListN.{length};
+ghost use Rattle.plane.specs.Limits.{sideLimit};
+ghost use Rattle.plane.specs.Plane.{planeOf, samplesOf};
+ghost use Rattle.plane.specs.Lawful.{Accepted};
+ghost use Rattle.ssim.specs.Scratch.{cleared};
+ghost use Rattle.msssim.specs.Answer.{leastSide, placesOf, roomOf, lentEnough, msssimRefusal, scoreOf, roomCleared};
+ghost use Rattle.msssim.specs.Answer.{lentOf, refusalOf, msssimOf, lentAfter};
+
+pub mod gather;
+pub mod room;
+pub mod scale;
+pub mod whole;
+
+// The least side.
+const LEAST_SIDE: usize = 16;
+// L of the fixed kernel, which has nine taps.
+const LINES: usize = 16;
+
+// ssim and cs of the five scales, the first the planes themselves.
+pub struct Pairs {
+    pub ssim1: f64,
+    pub cs1: f64,
+    pub ssim2: f64,
+    pub cs2: f64,
+    pub ssim3: f64,
+    pub cs3: f64,
+    pub ssim4: f64,
+    pub cs4: f64,
+    pub ssim5: f64,
+    pub cs5: f64,
+}
+
+// What MS-SSIM answers.
+pub enum MsSsim {
+    Five(Pairs),
+    Refused(u8),
+}
+
+// None of the three that are lent is too short.
+fn lent_enough(width: usize, height: usize, lent: usize, lent_a: usize, lent_b: usize) -> bool
+    requires { ⌜ (width ≤ sideLimit) × (height ≤ sideLimit) ⌝ }
+    ensures { λ r. ⌜ r ≡ lentEnough width height lent «lent_a» «lent_b» ⌝ }
+{
+    let room = width * height;
+    (6 * width * LINES <= lent) & ((room <= lent_a) & (room <= lent_b))
+}
+
+// The lowest of 1 2 3 4 5 6 8 that applies, and 0 where none does. The last three are how many places are lent.
+fn refusal(
+    a8: &[u8],
+    a16: &[u16],
+    b8: &[u8],
+    b16: &[u16],
+    wide: bool,
+    width: usize,
+    height: usize,
+    stride_a: usize,
+    stride_b: usize,
+    depth: u32,
+    lent: usize,
+    lent_a: usize,
+    lent_b: usize,
+) -> u8
+    ensures { λ r. ⌜ r ≡ msssimRefusal wide (planeOf (samplesOf wide (now (a8 .entry)) (now (a16 .entry))) «stride_a»
+        ∷ planeOf (samplesOf wide (now (b8 .entry)) (now (b16 .entry))) «stride_b» ∷ []) width height depth lent «lent_a» «lent_b» ⌝ }
+{
+    let no = plane::check(
+        a8,
+        a16,
+        b8,
+        b16,
+        wide,
+        width,
+        height,
+        stride_a,
+        stride_b,
+        depth,
+        LEAST_SIDE,
+    );
+    if no != 0 {
+        return no;
+    }
+    if !lent_enough(width, height, lent, lent_a, lent_b) {
+        return refusal::SCRATCH;
+    }
+    0
+}
+
+// The answer of two planes that no test refuses. Of what is lent, the needed part is all zero afterwards, and the rest as it was.
+fn scored(
+    scratch: &mut [i64],
+    room_a: &mut [u32],
+    room_b: &mut [u32],
+    a8: &[u8],
+    a16: &[u16],
+    b8: &[u8],
+    b16: &[u16],
+    wide: bool,
+    width: usize,
+    height: usize,
+    stride_a: usize,
+    stride_b: usize,
+    depth: u32,
+) -> MsSsim
+    requires { ⌜ Accepted wide (planeOf (samplesOf wide (now a8) (now a16)) «stride_a»
+        ∷ planeOf (samplesOf wide (now b8) (now b16)) «stride_b» ∷ []) width height depth leastSide ⌝ }
+    requires { ⌜ placesOf width ≤ length (now scratch) ⌝ }
+    requires { ⌜ (roomOf width height ≤ length (now «room_a»)) × (roomOf width height ≤ length (now «room_b»)) ⌝ }
+    ensures { λ r. ⌜ r ≡ scoreOf (planeOf (samplesOf wide (now (a8 .entry)) (now (a16 .entry))) «stride_a»)
+        (planeOf (samplesOf wide (now (b8 .entry)) (now (b16 .entry))) «stride_b») width height depth ⌝ }
+    ensures { λ _. ⌜ now (scratch .exit) ≡ cleared (placesOf width) (now (scratch .entry)) ⌝ }
+    ensures { λ _. ⌜ now («room_a» .exit) ≡ roomCleared (roomOf width height) (now («room_a» .entry)) ⌝ }
+    ensures { λ _. ⌜ now («room_b» .exit) ≡ roomCleared (roomOf width height) (now («room_b» .entry)) ⌝ }
+{
+    let places = 6 * width * LINES;
+    let room = width * height;
+    whole::answer(
+        &mut scratch[..places],
+        &mut room_a[..room],
+        &mut room_b[..room],
+        a8,
+        a16,
+        b8,
+        b16,
+        wide,
+        width,
+        height,
+        stride_a,
+        stride_b,
+        depth,
+    )
+}
+
+// MS-SSIM of two planes of either width.
+fn of_either(
+    scratch: &mut [i64],
+    room_a: &mut [u32],
+    room_b: &mut [u32],
+    a8: &[u8],
+    a16: &[u16],
+    b8: &[u8],
+    b16: &[u16],
+    wide: bool,
+    width: usize,
+    height: usize,
+    stride_a: usize,
+    stride_b: usize,
+    depth: u32,
+) -> MsSsim
+    ensures { λ r. ⌜ r ≡ msssimOf wide (planeOf (samplesOf wide (now (a8 .entry)) (now (a16 .entry))) «stride_a»)
+        (planeOf (samplesOf wide (now (b8 .entry)) (now (b16 .entry))) «stride_b») width height depth
+        (lentOf (now (scratch .entry)) (now («room_a» .entry)) (now («room_b» .entry))) ⌝ }
+    ensures { λ _. ⌜ lentOf (now (scratch .exit)) (now («room_a» .exit)) (now («room_b» .exit)) ≡ lentAfter
+        (refusalOf wide (planeOf (samplesOf wide (now (a8 .entry)) (now (a16 .entry))) «stride_a»)
+        (planeOf (samplesOf wide (now (b8 .entry)) (now (b16 .entry))) «stride_b») width height depth
+        (lentOf (now (scratch .entry)) (now («room_a» .entry)) (now («room_b» .entry))))
+        width height (lentOf (now (scratch .entry)) (now («room_a» .entry)) (now («room_b» .entry))) ⌝ }
+{
+    let no = refusal(
+        a8,
+        a16,
+        b8,
+        b16,
+        wide,
+        width,
+        height,
+        stride_a,
+        stride_b,
+        depth,
+        scratch.len(),
+        room_a.len(),
+        room_b.len(),
+    );
+    if no != 0 {
+        return MsSsim::Refused(no);
+    }
+    scored(
+        scratch,
+        room_a,
+        room_b,
+        a8,
+        a16,
+        b8,
+        b16,
+        wide,
+        width,
+        height,
+        stride_a,
+        stride_b,
+        depth,
+    )
+}
+
+// MS-SSIM of two planes of bytes. Refused, what is lent is as it was; else, and at 9, its needed part is all zero and the rest as it was.
+pub fn msssim8(
+    a: &[u8],
+    b: &[u8],
+    width: usize,
+    height: usize,
+    stride_a: usize,
+    stride_b: usize,
+    depth: u32,
+    scratch: &mut [i64],
+    room_a: &mut [u32],
+    room_b: &mut [u32],
+) -> MsSsim
+    ensures { λ r. ⌜ r ≡ msssimOf false (planeOf (now (a .entry)) «stride_a») (planeOf (now (b .entry)) «stride_b») width height depth
+        (lentOf (now (scratch .entry)) (now («room_a» .entry)) (now («room_b» .entry))) ⌝ }
+    ensures { λ _. ⌜ lentOf (now (scratch .exit)) (now («room_a» .exit)) (now («room_b» .exit)) ≡ lentAfter
+        (refusalOf false (planeOf (now (a .entry)) «stride_a») (planeOf (now (b .entry)) «stride_b») width height depth
+        (lentOf (now (scratch .entry)) (now («room_a» .entry)) (now («room_b» .entry))))
+        width height (lentOf (now (scratch .entry)) (now («room_a» .entry)) (now («room_b» .entry))) ⌝ }
+{
+    of_either(
+        scratch,
+        room_a,
+        room_b,
+        a,
+        &[0u16; 0],
+        b,
+        &[0u16; 0],
+        false,
+        width,
+        height,
+        stride_a,
+        stride_b,
+        depth,
+    )
+}
+
+// The same of words.
+pub fn msssim16(
+    a: &[u16],
+    b: &[u16],
+    width: usize,
+    height: usize,
+    stride_a: usize,
+    stride_b: usize,
+    depth: u32,
+    scratch: &mut [i64],
+    room_a: &mut [u32],
+    room_b: &mut [u32],
+) -> MsSsim
+    ensures { λ r. ⌜ r ≡ msssimOf true (planeOf (now (a .entry)) «stride_a») (planeOf (now (b .entry)) «stride_b») width height depth
+        (lentOf (now (scratch .entry)) (now («room_a» .entry)) (now («room_b» .entry))) ⌝ }
+    ensures { λ _. ⌜ lentOf (now (scratch .exit)) (now («room_a» .exit)) (now («room_b» .exit)) ≡ lentAfter
+        (refusalOf true (planeOf (now (a .entry)) «stride_a») (planeOf (now (b .entry)) «stride_b») width height depth
+        (lentOf (now (scratch .entry)) (now («room_a» .entry)) (now («room_b» .entry))))
+        width height (lentOf (now (scratch .entry)) (now («room_a» .entry)) (now («room_b» .entry))) ⌝ }
+{
+    of_either(
+        scratch,
+        room_a,
+        room_b,
+        &[0u8; 0],
+        a,
+        &[0u8; 0],
+        b,
+        true,
+        width,
+        height,
+        stride_a,
+        stride_b,
+        depth,
+    )
+}

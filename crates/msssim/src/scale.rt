@@ -1,0 +1,111 @@
+// One scale scored, and all that are left.
+ghost use mathlib.Core.Path.{_≡_};
+ghost use mathlib.Core.List.{_∷_};
+ghost use Prim.Native.Nat.{ℕ, _+_, _*_, _^_, _<_, _≤_};
+ghost use lib.ListN.{length, drop};
+ghost use Rattle.number.specs.Steps as Steps;
+ghost use Rattle.plane.specs.Limits.{sideLimit};
+ghost use Rattle.plane.specs.Plane.{planeOf};
+ghost use Rattle.plane.specs.Sums.{sumTo};
+ghost use Rattle.window.specs.Kernel.{tap};
+ghost use Rattle.window.specs.Parts.{Kernel};
+ghost use Rattle.window.specs.Columns.{viewOf, mostSample};
+ghost use Rattle.ssim.specs.Score.{totalsOf};
+ghost use Rattle.msssim.specs.Scale.{scaleOf, sumsOf, ssimOf, csOf, pairsFrom};
+ghost use Rattle.msssim.specs.Rooms.{Held};
+use crate::room;
+use ssim::Totals;
+
+// What the taps of the fixed kernel sum to.
+const FIXED_TOTAL: u64 = 1024;
+
+// Every row of two planes of 32-bit samples: its column sums, then its centres.
+fn rows(
+    cols: &mut [i64],
+    max2: f64,
+    kernel: &[u16],
+    total: u64,
+    a: &[u32],
+    b: &[u32],
+    width: usize,
+    height: usize,
+) -> Totals
+    requires { ⌜ (width ≤ sideLimit) × (height ≤ sideLimit) × (5 * width ≤ length (now cols)) ⌝ }
+    requires { ⌜ Kernel (now kernel) ⌝ }
+    requires { ⌜ total ≡ sumTo (tap (now kernel)) (length (now kernel)) ⌝ }
+    requires { ⌜ Held mostSample width height (now a) ⌝ }
+    requires { ⌜ Held mostSample width height (now b) ⌝ }
+    ensures { λ r. ⌜ r ≡ totalsOf max2 (now (kernel .entry)) width height (viewOf (planeOf (now (a .entry)) width))
+        (viewOf (planeOf (now (b .entry)) width)) height ⌝ }
+{
+    let mut t = Totals {
+        ssim: 0.0,
+        cs: 0.0,
+        ssimw: 0.0,
+    };
+    for y in 0..height {
+        window::columns32::fill32(cols, kernel, a, b, width, width, width, height, y);
+        let down = window::row::weight(kernel, total, height, y);
+        t = ssim::walk::centres(max2, t, kernel, total, cols, width, down);
+    }
+    t
+}
+
+// The sums over every centre of a scale, under the fixed kernel.
+fn sums(cols: &mut [i64], a: &[u32], b: &[u32], max: u32, width: usize, height: usize) -> Totals
+    requires { ⌜ (width ≤ sideLimit) × (height ≤ sideLimit) × (5 * width ≤ length (now cols)) × (max ≤ mostSample) ⌝ }
+    requires { ⌜ Held max width height (now a) ⌝ }
+    requires { ⌜ Held max width height (now b) ⌝ }
+    ensures { λ r. ⌜ r ≡ sumsOf (scaleOf max width height (viewOf (planeOf (now (a .entry)) width))
+        (viewOf (planeOf (now (b .entry)) width))) ⌝ }
+{
+    let kernel = [8u16, 37, 112, 218, 274, 218, 112, 37, 8];
+    let max2 = ssim::score::squared(max);
+    rows(cols, max2, &kernel, FIXED_TOTAL, a, b, width, height)
+}
+
+// The pair of a scale to the first two places.
+fn put_pair(pairs: &mut [f64], t: Totals)
+    requires { ⌜ 2 ≤ length (now pairs) ⌝ }
+    ensures { λ _. ⌜ now (pairs .exit) ≡ ssimOf t ∷ csOf t ∷ drop 2 (now (pairs .entry)) ⌝ }
+{
+    pairs[0] = t.ssim / t.ssimw;
+    pairs[1] = t.cs / t.ssimw;
+}
+
+// The pairs of a scale and of the `left - 1` below it: this one is scored, the planes are downscaled in place, and the same is done to
+// what is left. `max` is the scale's largest sample.
+pub fn scales(
+    pairs: &mut [f64],
+    cols: &mut [i64],
+    a: &mut [u32],
+    b: &mut [u32],
+    left: usize,
+    max: u32,
+    width: usize,
+    height: usize,
+)
+    requires { ⌜ (width ≤ sideLimit) × (height ≤ sideLimit) × (5 * width ≤ length (now cols)) ⌝ }
+    requires { ⌜ (length (now pairs) ≡ 2 * left) × (max * 4 ^ left ≤ 4 * mostSample) ⌝ }
+    requires { ⌜ Held max width height (now a) ⌝ }
+    requires { ⌜ Held max width height (now b) ⌝ }
+    ensures { λ _. ⌜ now (pairs .exit) ≡ pairsFrom left (scaleOf max width height (viewOf (planeOf (now (a .entry)) width))
+        (viewOf (planeOf (now (b .entry)) width))) ⌝ }
+{
+    if 0 < left {
+        let t = sums(cols, a, b, max, width, height);
+        put_pair(pairs, t);
+        room::downscale(a, width, height);
+        room::downscale(b, width, height);
+        scales(
+            &mut pairs[2..],
+            cols,
+            a,
+            b,
+            left - 1,
+            4 * max,
+            width / 2,
+            height / 2,
+        );
+    }
+}

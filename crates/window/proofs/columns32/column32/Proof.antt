@@ -1,0 +1,107 @@
+-- `window::columns32::column32` meets its contract. Assumes nothing.
+use mathlib.Core.Path.{_≡_, sym, ap, _∙_}
+use Prim.Native.Nat.{ℕ, _≤_, _<_, _-_, _+_, _*_, _/_, _^_}
+use native.Mathlib.Omega.{arith}
+use borrow.Author.Needs.{needs}
+use denote.Ref.{now}
+use lib.ListN.{length}
+use Rattle.plane.specs.Plane.{planeOf}
+use Rattle.plane.proofs.Rows as rows
+use Rattle.window.specs.Parts.{partsOf, quantOf}
+use Rattle.window.specs.Columns.{viewOf}
+use Rattle.window.proofs.Windows.{side-room, taps-room}
+use Rattle.window.proofs.Five.{quant-small, parts-more, parts-first, parts-last, parts-room}
+use Rattle.window.proofs.columns32.column32.Statement.{statement}
+use Rattle.window.proofs.columns32.column32.Tie as tie
+use Rattle.window.proofs.columns32.column32.Reads as reads
+use Rattle.window.proofs.columns32.column32.Lts as lts
+use Rattle.window.proofs.columns.first.Reads as first-reads
+use Rattle.window.proofs.columns.past.Reads as past-reads
+use Rattle.window.proofs.columns32.sample32.Reads as sample32-reads
+use Rattle.window.proofs.columns.tapped.Reads as tapped-reads
+
+abbrev Inv-loop : tie.InvT-loop
+Inv-loop kernel a b stride-a stride-b width height x y n off t₀ k₀ k-end t k = (k₀ ≤ k) × (k ≤ k-end) × (t ≡ partsOf kernel height (λ (m i : ℕ). quantOf m (viewOf (planeOf a stride-a) i x) (viewOf (planeOf b stride-b) i x)) y k)
+
+abbrev μ-loop : tie.MeasureT-loop
+μ-loop kernel a b stride-a stride-b width height x y n off t₀ k₀ k-end t k = k-end - k
+
+first-requires : tie.Need-first-requires Inv-loop μ-loop
+first-requires c κs = search needs
+
+past-requires : tie.Need-past-requires Inv-loop μ-loop
+past-requires c κs = omega arith
+
+loop-holds : tie.Need-loop-holds Inv-loop μ-loop
+loop-holds c = (omega arith, omega arith, sym (parts-first _ _ _ _ _ (omega arith)))
+
+add-r : tie.Need-add-r Inv-loop μ-loop
+add-r c = omega (arith, side-room, taps-room)
+
+sub-r : tie.Need-sub-r Inv-loop μ-loop
+sub-r c = search needs
+
+mul-tapped : tie.Need-mul-tapped Inv-loop μ-loop
+mul-tapped c = search needs
+
+shared-slice-read-tapped : tie.Need-shared-slice-read-tapped Inv-loop μ-loop
+shared-slice-read-tapped c = search needs
+
+sample32-requires : tie.Need-sample32-requires Inv-loop μ-loop
+sample32-requires c κs =
+    let s = c .before .before .before .before .before .before .before .before in
+    rows.inside (s .args .stride-a) (s .pre .1 .1 .0 .long) (s .pre .0 .0) (omega arith)
+
+sample32-requires-2 : tie.Need-sample32-requires-2 Inv-loop μ-loop
+sample32-requires-2 c κs =
+    let s = c .before .before .before .before .before .before .before .before .before in
+    rows.inside (s .args .stride-b) (s .pre .1 .1 .1 .long) (s .pre .0 .0) (omega arith)
+
+tapped-requires : tie.Need-tapped-requires Inv-loop μ-loop
+tapped-requires c κs =
+    let s = c .before .before .before .before .before .before .before .before .before .before in
+    rw (c .sample322 .ensures, c .before .sample32 .ensures)
+    (parts-room _ _
+    (λ (m i : ℕ). quantOf m (viewOf (planeOf (now (s .args .a)) (s .args .stride-a)) i (s .args .x)) (viewOf (planeOf (now (s .args .b)) (s .args .stride-b)) i (s .args .x)))
+    _ _ _ (c .before .before .before .before .loop .inv .2) (s .pre .1 .0)
+    (λ m l k a b d. quant-small m _ _ (s .pre .1 .1 .0 .small _) (s .pre .1 .1 .1 .small _)) (omega arith) (omega arith) (omega arith))
+
+add-k : tie.Need-add-k Inv-loop μ-loop
+add-k c = search needs
+
+loop-less : tie.Need-loop-less Inv-loop μ-loop
+loop-less c = search needs
+
+loop-again : tie.Need-loop-again Inv-loop μ-loop
+loop-again c = (
+  omega arith,
+  omega arith,
+  rw (c .tapped .ensures, c .before .sample322 .ensures, c .before .before .sample32 .ensures, c .before .before .before .before .before .loop .inv .2)
+      (sym (parts-more _ _ _ _ _ (omega arith) (omega arith))),
+)
+
+returns : tie.Need-returns Inv-loop μ-loop
+returns c =
+    rw (c .before .loop .inv .2)
+    (parts-last _ _ _ _ (c .before .before .before .before .before .before .before .pre .1 .0) _ (omega arith) (omega arith))
+
+pub column32-spec : {M : Type 1} → statement M
+column32-spec =
+    tie.close
+    (tie.spec
+    Inv-loop
+    μ-loop
+    first-requires
+    past-requires
+    loop-holds
+    add-r
+    sub-r
+    mul-tapped
+    shared-slice-read-tapped
+    sample32-requires
+    sample32-requires-2
+    tapped-requires
+    add-k
+    loop-less
+    loop-again
+    returns)
