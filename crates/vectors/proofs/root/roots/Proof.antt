@@ -1,11 +1,11 @@
--- `vectors::roots` is safe and ends: the place stays within the list, and no more is right than was passed. Assumes nothing.
+-- `vectors::root::roots` is safe and ends: the place stays within the list, and no more is right than was passed. Assumes nothing.
 use Prim.Native.Nat.{_≤_, _-_}
 use native.Mathlib.Omega.{arith}
 use borrow.Author.Needs.{needs}
 use lib.ListN.{length}
 use mathlib.Core.Logic.{⊎-elim}
-use Rattle.vectors.proofs.roots.Statement.{statement}
-use Rattle.vectors.proofs.roots.Tie as tie
+use Rattle.vectors.proofs.root.roots.Statement.{statement}
+use Rattle.vectors.proofs.root.roots.Tie as tie
 
 abbrev Inv-loop : tie.InvT-loop
 Inv-loop list right₀ i₀ right i = (i ≤ length list) × (right ≤ i)

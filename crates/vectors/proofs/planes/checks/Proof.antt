@@ -1,11 +1,11 @@
--- `vectors::rootless` is safe and ends: the place stays within the list, and no more is right than was passed. Assumes nothing.
+-- `vectors::planes::checks` is safe and ends: the place stays within the list, and no more is right than was passed. Assumes nothing.
 use Prim.Native.Nat.{_≤_, _-_}
 use native.Mathlib.Omega.{arith}
 use borrow.Author.Needs.{needs}
 use lib.ListN.{length}
 use mathlib.Core.Logic.{⊎-elim}
-use Rattle.vectors.proofs.rootless.Statement.{statement}
-use Rattle.vectors.proofs.rootless.Tie as tie
+use Rattle.vectors.proofs.planes.checks.Statement.{statement}
+use Rattle.vectors.proofs.planes.checks.Tie as tie
 
 abbrev Inv-loop : tie.InvT-loop
 Inv-loop list right₀ i₀ right i = (i ≤ length list) × (right ≤ i)
@@ -16,14 +16,14 @@ abbrev μ-loop : tie.MeasureT-loop
 loop-holds : tie.Need-loop-holds Inv-loop μ-loop
 loop-holds c = search needs
 
-mul-is-rootless : tie.Need-mul-is-rootless Inv-loop μ-loop
-mul-is-rootless c = search needs
+sub-loop : tie.Need-sub-loop Inv-loop μ-loop
+sub-loop c = search needs
 
-shared-slice-read-is-rootless : tie.Need-shared-slice-read-is-rootless Inv-loop μ-loop
-shared-slice-read-is-rootless c = search needs
+row-at-requires : tie.Need-row-at-requires Inv-loop μ-loop
+row-at-requires c κs = search needs
 
-is-rootless-requires : tie.Need-is-rootless-requires Inv-loop μ-loop
-is-rootless-requires c κs = search needs
+check-is-requires : tie.Need-check-is-requires Inv-loop μ-loop
+check-is-requires c κs = search needs
 
 add-right : tie.Need-add-right Inv-loop μ-loop
 add-right c = search needs
@@ -40,16 +40,16 @@ loop-again c = ⊎-elim (λ w. omega arith) (λ w. omega arith) (c .if1 .came)
 returns : tie.Need-returns Inv-loop μ-loop
 returns c = search needs
 
-pub rootless-spec : {M : Type 1} → statement M
-rootless-spec =
+pub checks-spec : {M : Type 1} → statement M
+checks-spec =
     tie.close
     (tie.spec
     Inv-loop
     μ-loop
     loop-holds
-    mul-is-rootless
-    shared-slice-read-is-rootless
-    is-rootless-requires
+    sub-loop
+    row-at-requires
+    check-is-requires
     add-right
     add-i
     loop-less
