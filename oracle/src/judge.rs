@@ -9,6 +9,11 @@ mod plane;
 mod published_numbers;
 mod random;
 mod root;
+mod samples;
+mod series;
+mod squared;
+mod ssim;
+mod ssim_ways;
 mod start;
 mod transform;
 
@@ -18,11 +23,14 @@ use std::process::exit;
 /// A family's name, and what runs it.
 type Named = (&'static str, fn(Run) -> bool);
 
-const FAMILIES: [Named; 4] = [
+const FAMILIES: [Named; 7] = [
     ("published", published_numbers::compare),
     ("root", root::compare),
     ("plane", plane::compare),
     ("transform", transform::compare),
+    ("squared", squared::compare),
+    ("series", series::compare),
+    ("ssim", ssim::compare),
 ];
 
 fn main() {

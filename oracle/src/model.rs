@@ -36,9 +36,9 @@ pub struct Check {
 }
 
 impl Plane {
-    /// The samples that a plane of these sides must reach, too many for a word perhaps.
+    /// The samples that a plane of these sides must reach.
     pub fn needs(&self, width: usize, height: usize) -> u128 {
-        self.stride as u128 * (height as u128).saturating_sub(1) + width as u128
+        needs(self.stride, width, height)
     }
 
     fn visible(&self, at: usize, width: usize, height: usize) -> bool {
@@ -58,43 +58,67 @@ impl Plane {
         }
         list
     }
-
-    fn has_above(&self, max: u16, width: usize, height: usize) -> bool {
-        let list = self.samples(width, height);
-        (0..height).any(|y| (0..width).any(|x| list[y * self.stride + x] > max))
-    }
 }
 
-impl Check {
+/// Two planes as a call is lent them: the numbers beside them, then each one's stride and samples.
+pub struct Lent<'a> {
+    pub wide: bool,
+    pub depth: u32,
+    pub width: usize,
+    pub height: usize,
+    pub least: usize,
+    pub planes: [(usize, &'a [u16]); 2],
+}
+
+impl Lent<'_> {
     fn depth_suits(&self) -> bool {
         let (low, high) = if self.wide { (9, 12) } else { (1, 8) };
         low <= self.depth && self.depth <= high
     }
 
-    pub fn planes(&self) -> [&Plane; 2] {
-        [&self.a, &self.b]
+    fn has_above(&self, max: u16) -> bool {
+        let rows = |(stride, list): &(usize, &[u16])| {
+            let above = |row: &[u16]| row.iter().any(|s| *s > max);
+            (0..self.height).any(|y| above(&list[y * stride..][..self.width]))
+        };
+        self.planes.iter().any(rows)
     }
 
     /// The lowest of tests 1 to 6 that applies, or 0.
     pub fn refusal(&self) -> u8 {
         let (width, height) = (self.width, self.height);
         let side = |s: usize| s == 0 || s > 8_192;
-        let stride = |p: &&Plane| p.stride < width || p.stride > 16_384;
-        let short = |p: &&Plane| (p.len as u128) < p.needs(width, height);
+        let stride = |p: &(usize, &[u16])| p.0 < width || p.0 > 16_384;
+        let short = |p: &(usize, &[u16])| (p.1.len() as u128) < needs(p.0, width, height);
         if !self.depth_suits() {
             1
         } else if side(width) || side(height) {
             2
         } else if width < self.least || height < self.least {
             3
-        } else if self.planes().iter().any(stride) {
+        } else if self.planes.iter().any(stride) {
             4
-        } else if self.planes().iter().any(short) {
+        } else if self.planes.iter().any(short) {
             5
         } else {
-            let max = (1u16 << self.depth) - 1;
-            let above = |p: &&Plane| p.has_above(max, width, height);
-            u8::from(self.planes().iter().any(above)) * 6
+            u8::from(self.has_above((1 << self.depth) - 1)) * 6
         }
+    }
+}
+
+/// The samples that a plane of this stride and these sides must reach, too many for a word perhaps.
+pub fn needs(stride: usize, width: usize, height: usize) -> u128 {
+    stride as u128 * (height as u128).saturating_sub(1) + width as u128
+}
+
+impl Check {
+    pub fn planes(&self) -> [&Plane; 2] {
+        [&self.a, &self.b]
+    }
+
+    /// As it is lent, where these are the samples of its planes.
+    pub fn lent<'a>(&self, a: &'a [u16], b: &'a [u16]) -> Lent<'a> {
+        let planes = [(self.a.stride, a), (self.b.stride, b)];
+        Lent { wide: self.wide, depth: self.depth, width: self.width, height: self.height, least: self.least, planes }
     }
 }

@@ -52,14 +52,17 @@ impl Family for Checks {
         // the large ones last, since they take long to make small
         match self.large.get((self.cases - 1 - number) as usize) {
             Some(case) => case.clone(),
-            None => any(random),
+            None => {
+                let least = random.pick(&[0, 0, 1, 8, 16]);
+                any(random, least)
+            }
         }
     }
 
     fn judge(&mut self, c: &Check) -> Result<u8, String> {
         let [a, b] = [&c.a, &c.b].map(|p| p.samples(c.width, c.height));
         let (answer, kept) = if c.wide { ask16(c, &a, &b) } else { ask8(c, &a, &b) };
-        let wanted = c.refusal();
+        let wanted = c.lent(&a, &b).refusal();
         if !kept {
             Err("a plane was altered".to_string())
         } else if answer != wanted {
@@ -116,7 +119,7 @@ fn ask16(c: &Check, a: &[u16], b: &[u16]) -> (u8, bool) {
 }
 
 /// Smaller numbers to try in place of this one.
-fn less(n: usize) -> Vec<usize> {
+pub fn less(n: usize) -> Vec<usize> {
     let mut list = vec![0, 1, n / 2, n.saturating_sub(1)];
     list.retain(|m| *m < n);
     list
@@ -191,8 +194,9 @@ fn large(full: bool) -> Vec<Check> {
     list
 }
 
-fn any(r: &mut Random) -> Check {
-    let mut c = sound(r);
+/// A check of planes of one value each, sound or with a few oddities.
+pub fn any(r: &mut Random, least: usize) -> Check {
+    let mut c = sound(r, least);
     for _ in 0..r.pick(&[0, 1, 1, 1, 1, 2, 2, 3]) {
         match r.below(6) {
             0 => c.depth = odd_depth(r),
@@ -206,10 +210,9 @@ fn any(r: &mut Random) -> Check {
 }
 
 /// A check that is accepted.
-fn sound(r: &mut Random) -> Check {
+fn sound(r: &mut Random, least: usize) -> Check {
     let wide = r.once_in(2);
     let depth = if wide { r.within(9, 12) } else { r.within(1, 8) } as u32;
-    let least = r.pick(&[0, 0, 1, 8, 16]);
     let (width, height) = sides(r, least);
     let [a, b] = [(), ()].map(|()| sound_plane(r, width, height, depth, wide));
     Check { wide, depth, width, height, least, a, b }

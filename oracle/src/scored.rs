@@ -1,9 +1,9 @@
 //! The stored answers that the published Rust gives: transforms, squared errors and SSIM; refusals are the model's.
 
 use crate::lifting;
-use crate::model::{Check, Plane, VALUE};
+use crate::model::{Lent, VALUE};
 use crate::random::Random;
-use published::plane::Plane as Tight;
+use published::plane::Plane;
 use published::video::{psnr, psnr_hvs, ssim};
 
 /// Kernels, one after the other as the table has them: lawful up to the fourth, then the forbidden ones.
@@ -52,12 +52,9 @@ impl Samples {
 
     /// The lowest of 1 to 6 that applies, or 0.
     fn refusal(&self, ask: &Ask) -> u8 {
-        let plane = |v: View| {
-            let odd = self.of(ask.wide)[v.from..v.end].iter().copied().enumerate().collect();
-            Plane { stride: v.stride, len: v.end - v.from, fill: 0, padding: 0, odd }
-        };
+        let planes = [ask.a, ask.b].map(|v| (v.stride, &self.of(ask.wide)[v.from..v.end]));
         let Ask { wide, depth, width, height, .. } = *ask;
-        crate::refusal(&Check { wide, depth, width, height, least: 0, a: plane(ask.a), b: plane(ask.b) })
+        Lent { wide, depth, width, height, least: 0, planes }.refusal()
     }
 
     /// The visible samples, row after row.
@@ -130,7 +127,7 @@ pub fn squared(samples: &Samples) -> Vec<usize> {
 }
 
 fn record(samples: &Samples, ask: &Ask) -> (f64, usize, usize) {
-    let [a, b] = [ask.a, ask.b].map(|v| Tight::new(samples.visible(ask, v), ask.width, ask.height));
+    let [a, b] = [ask.a, ask.b].map(|v| Plane::new(samples.visible(ask, v), ask.width, ask.height));
     psnr::probe_record(&a, &b, ask.depth as usize)
 }
 

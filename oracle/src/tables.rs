@@ -83,13 +83,9 @@ fn row(c: &Check) -> Vec<usize> {
         let (at, value) = plane.odd.first().copied().unwrap_or((ROOM, 0));
         list.extend([plane.stride, plane.len, at, usize::from(value)]);
     }
-    list.push(usize::from(refusal(c)));
+    let [a, b] = c.planes().map(|p| p.samples(c.width, c.height));
+    list.push(usize::from(c.lent(&a, &b).refusal()));
     list
-}
-
-/// The model's answer to a check.
-fn refusal(c: &Check) -> u8 {
-    c.refusal()
 }
 
 /// Finite numbers to ask a root of: ends of every kind, squares and halfway squares with neighbours, and random ones.

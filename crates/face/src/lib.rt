@@ -11,6 +11,7 @@ ghost use Rattle.face.specs.Root.{rootNumber, rootWritten};
 pub mod similarity;
 pub mod squared;
 pub mod transform;
+pub mod visual;
 
 use number::Rooted;
 

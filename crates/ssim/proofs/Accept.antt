@@ -2,8 +2,8 @@
 use mathlib.Core.Path.{_≡_, refl, sym, _∙_}
 use mathlib.Core.Bool.{Bool, true, false}
 use mathlib.Core.List.{List, [], _∷_, _++_}
-use Prim.Native.Nat.{ℕ, zero, suc, _+_, _*_, _≤_, _<_, _^_}
-use native.Mathlib.Nat.{mul-le-mul-left}
+use Prim.Native.Nat.{ℕ, zero, suc, _+_, _*_, _/_, _≤_, _<_}
+use native.Mathlib.Nat.{mul-le-mul-left, mul-add, mul-comm, mul-assoc}
 use native.Mathlib.Omega.{arith}
 use borrow.Author.Tests.{leb-true, le-leb, lt-leb}
 use lib.Dec.{leb, lit≤}
@@ -21,7 +21,7 @@ use Rattle.plane.proofs.Accept.{accepted, plane-named}
 use Rattle.plane.proofs.Depth.{depth-small}
 use Rattle.window.specs.Kernel.{tap, mostTaps, lawful, lentTotal}
 use Rattle.window.specs.Parts.{Kernel}
-use Rattle.window.specs.Columns.{mostSample}
+use Rattle.window.specs.Columns.{columnsOf, mostSample}
 use Rattle.window.proofs.KernelSays.{kernel-says, kernel-serves, lent-total}
 use Rattle.ssim.specs.Scratch.{linesOf, placesOf, scratchAfter}
 use Rattle.ssim.specs.Answer.{lentTests, ssimRefusal, Sound, answerFor}
@@ -70,11 +70,14 @@ halves ((n, true) ∷ later) more named e = halves later more (named .1) e
 halves ((n, false) ∷ later) more named e = absurd (omega (arith, named .0, e))
 
 module _ (wide : Bool) (a b : Plane) (width height depth : ℕ) (ker : List ℕ) (lent : ℕ) where
-  -- a column needs five places, and six times L are there
-  room : 1 ≤ length ker → 5 * width ≤ placesOf width (length ker)
-  room l =
-      let reach : 1 ≤ linesOf (length ker) = omega (arith, lines-reach (length ker)) in
-      omega (arith, mul-le-mul-left (6 * width) reach)
+  -- the columns and their margins, five places each: width + 2 off is at most width × (2 off + 1), so at most width × L
+  room : 1 ≤ width → length ker ≡ 2 * (length ker / 2) + 1 → 5 * columnsOf ker width ≤ placesOf width (length ker)
+  room l odd =
+      let off = length ker / 2 in
+      let reach : 2 * off + 1 ≤ linesOf (length ker) = omega (arith, lines-reach (length ker)) in
+      let margins : 2 * off * 1 ≤ 2 * off * width = mul-le-mul-left (2 * off) l in
+      let all : width * (2 * off + 1) ≤ width * linesOf (length ker) = mul-le-mul-left width reach in
+      omega (arith, mul-add width (2 * off) 1, mul-comm width (2 * off), mul-assoc 6 width (linesOf (length ker)))
 
   pub sound : {n : ℕ} → n ≡ ssimRefusal wide (a ∷ b ∷ []) width height depth ker lent → n ≡ 0 → Sound a b width height depth ker lent
   unfolding lentTests
@@ -95,7 +98,7 @@ module _ (wide : Bool) (a b : Plane) (width height depth : ℕ) (ker : List ℕ)
         long-a = p .each .0 .long;
         long-b = p .each .1 .0 .long;
         lent-enough = leb-true _ _ (t .1 .0);
-        columns-fit = room (omega (arith, k .odd));
+        columns-fit = room (p .width-least) (k .odd);
       }
 
 -- samples of either width are small enough to be summed

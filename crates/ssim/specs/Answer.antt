@@ -16,7 +16,7 @@ use Rattle.plane.specs.Sums.{sumTo}
 use Rattle.plane.specs.Tests.{planeTests}
 use Rattle.window.specs.Kernel.{tap, mostTaps, lawful, lentTotal}
 use Rattle.window.specs.Parts.{Kernel}
-use Rattle.window.specs.Columns.{viewOf}
+use Rattle.window.specs.Columns.{viewOf, columnsOf}
 use Rattle.ssim.specs.Score.{totalsOf}
 use Rattle.ssim.specs.Scratch.{placesOf}
 use Rattle.ssim.specs.declared.Ssim.{Ssim}
@@ -46,7 +46,7 @@ pub record Sound (a b : Plane) (width height depth : ℕ) (ker : List ℕ) (lent
   pub long-a : needed width height (a .stride) ≤ length (a .samples)
   pub long-b : needed width height (b .stride) ≤ length (b .samples)
   pub lent-enough : placesOf width (length ker) ≤ lent
-  pub columns-fit : 5 * width ≤ placesOf width (length ker)
+  pub columns-fit : 5 * columnsOf ker width ≤ placesOf width (length ker)
 
 -- ---- the answer
 

@@ -8,7 +8,7 @@ ghost use Rattle.plane.specs.Plane.{planeOf, samplesOf};
 ghost use Rattle.plane.specs.Sums.{sumTo};
 ghost use Rattle.window.specs.Kernel.{tap, fixedTotal};
 ghost use Rattle.window.specs.Parts.{Kernel};
-ghost use Rattle.window.specs.Columns.{viewOf, Readable, AllSmall, momentsIn};
+ghost use Rattle.window.specs.Columns.{viewOf, Readable, columnsOf, Margins, AllSmall, momentsIn};
 ghost use Rattle.ssim.specs.Score.{rowOf, totalsOf};
 use crate::Totals;
 use crate::score;
@@ -23,10 +23,10 @@ pub fn centres(
     width: usize,
     down: u64,
 ) -> Totals
-    requires { ⌜ (width ≤ sideLimit) × (5 * width ≤ length (now cols)) × (down ≤ fixedTotal) ⌝ }
+    requires { ⌜ (width ≤ sideLimit) × (5 * columnsOf (now kernel) width ≤ length (now cols)) × (down ≤ fixedTotal) ⌝ }
     requires { ⌜ Kernel (now kernel) ⌝ }
     requires { ⌜ total ≡ sumTo (tap (now kernel)) (length (now kernel)) ⌝ }
-    requires { ⌜ AllSmall (now cols) (5 * width) ⌝ }
+    requires { ⌜ AllSmall (now cols) (5 * columnsOf (now kernel) width) ⌝ }
     ensures { λ r. ⌜ r ≡ rowOf max2 (momentsIn (now (kernel .entry)) (now (cols .entry)) width down) t width ⌝ }
 {
     let mut t = t;
@@ -49,7 +49,7 @@ pub fn clear(s: &mut [i64])
     }
 }
 
-// Every row: its column sums, then its centres.
+// Every row: its column sums, between the margins of zeros that stand there, then its centres.
 fn rows(
     cols: &mut [i64],
     max2: f64,
@@ -65,7 +65,8 @@ fn rows(
     width: usize,
     height: usize,
 ) -> Totals
-    requires { ⌜ (width ≤ sideLimit) × (height ≤ sideLimit) × (5 * width ≤ length (now cols)) ⌝ }
+    requires { ⌜ (width ≤ sideLimit) × (height ≤ sideLimit) × (5 * columnsOf (now kernel) width ≤ length (now cols)) ⌝ }
+    requires { ⌜ Margins (now cols) (now kernel) width ⌝ }
     requires { ⌜ Kernel (now kernel) ⌝ }
     requires { ⌜ total ≡ sumTo (tap (now kernel)) (length (now kernel)) ⌝ }
     requires { ⌜ Readable width height (planeOf (samplesOf wide (now a8) (now a16)) «stride_a») ⌝ }
@@ -74,6 +75,8 @@ fn rows(
         (viewOf (planeOf (samplesOf wide (now (a8 .entry)) (now (a16 .entry))) «stride_a»))
         (viewOf (planeOf (samplesOf wide (now (b8 .entry)) (now (b16 .entry))) «stride_b»)) height ⌝ }
 {
+    let start = 5 * (kernel.len() / 2);
+    let end = start + 5 * width;
     let mut t = Totals {
         ssim: 0.0,
         cs: 0.0,
@@ -81,7 +84,7 @@ fn rows(
     };
     for y in 0..height {
         window::columns::fill(
-            cols,
+            &mut cols[start..end],
             kernel,
             a8,
             a16,
@@ -116,7 +119,7 @@ pub fn totals(
     width: usize,
     height: usize,
 ) -> Totals
-    requires { ⌜ (width ≤ sideLimit) × (height ≤ sideLimit) × (5 * width ≤ length (now scratch)) ⌝ }
+    requires { ⌜ (width ≤ sideLimit) × (height ≤ sideLimit) × (5 * columnsOf (now kernel) width ≤ length (now scratch)) ⌝ }
     requires { ⌜ Kernel (now kernel) ⌝ }
     requires { ⌜ total ≡ sumTo (tap (now kernel)) (length (now kernel)) ⌝ }
     requires { ⌜ Readable width height (planeOf (samplesOf wide (now a8) (now a16)) «stride_a») ⌝ }
@@ -126,6 +129,7 @@ pub fn totals(
         (viewOf (planeOf (samplesOf wide (now (b8 .entry)) (now (b16 .entry))) «stride_b»)) height ⌝ }
     ensures { λ _. ⌜ now (scratch .exit) ≡ replicate (length (now (scratch .entry))) (pos 0) ⌝ }
 {
+    clear(scratch);
     let t = rows(
         scratch,
         max2,

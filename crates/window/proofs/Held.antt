@@ -9,7 +9,7 @@ use borrow.Rule.Slice.PartMut.{putMid, postOf}
 use borrow.Author.Count.{below-more, below-none}
 use lib.Dec.{lit<, lit≤}
 use lib.IntN.{ℤ, pos, natAbs}
-use lib.ListN.{length, getD, set, take, drop, replicate, length-set, length-replicate, getD-replicate, List·getD-eq-default, List·getD-append}
+use lib.ListN.{length, getD, set, take, drop, replicate, length-set, length-drop, length-replicate, getD-replicate, List·getD-eq-default, List·getD-append}
 use lib.Seq.{getD-set-same, getD-set-other, getD-append-add, getD-take, getD-drop, length-take-le}
 use Rattle.plane.proofs.Sums.{sum-ext}
 use Rattle.window.specs.Kernel.{tap}
@@ -40,6 +40,10 @@ module _ (a k : ℕ) (xs ys : List ℤ) (room : a + k ≤ length xs) (same : len
       rw (before, e) at (getD-append-add (take a xs) (ys ++ postOf a k xs) (k + (p - (a + k))) (pos 0))
       ∙ rw same at (getD-append-add ys (postOf a k xs) (p - (a + k)) (pos 0))
       ∙ getD-drop k (drop a xs) _ (pos 0) ∙ getD-drop a xs _ (pos 0) ∙ ap (λ (n : ℕ). atZ xs n) e
+
+-- a part that is lent has as many places as it asks for
+pub part-length : (a k : ℕ) (xs : List ℤ) → a + k ≤ length xs → length (take k (drop a xs)) ≡ k
+part-length a k xs room = length-take-le k (drop a xs) (simp length-drop (omega arith))
 
 -- ---- the columns stand between their margins
 module _ (s cols : List ℤ) (k : ℕ) (ker : List ℕ) (width height : ℕ) (a b : ℕ → ℕ → ℕ) (y : ℕ) (held : Holds cols (5 * width) ker height a b y)

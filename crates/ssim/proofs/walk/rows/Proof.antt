@@ -1,14 +1,16 @@
--- `ssim::walk::rows` meets its contract: the rows above y are scored. Assumes nothing.
+-- `ssim::walk::rows` meets its contract: the rows above y are scored, and the margins are zero. Assumes nothing.
 use mathlib.Core.Path.{_≡_, refl, sym, _∙_}
-use Prim.Native.Nat.{_≤_, _-_}
+use Prim.Native.Nat.{_+_, _≤_, _-_, _*_, _/_}
 use native.Mathlib.Omega.{arith}
 use borrow.Author.Needs.{needs}
+use borrow.Rule.Slice.PartMut.{same-len-mid}
 use denote.Ref.{now}
 use lib.ListN.{length}
 use Rattle.plane.specs.Plane.{planeOf, samplesOf}
-use Rattle.window.specs.Columns.{viewOf}
-use Rattle.window.proofs.Windows.{weight-le}
-use Rattle.window.proofs.Held.{all-small}
+use Rattle.plane.proofs.Limits.{side-small}
+use Rattle.window.specs.Columns.{viewOf, Margins}
+use Rattle.window.proofs.Windows.{weight-le, taps-room}
+use Rattle.window.proofs.Held.{part-length, all-small, margins-kept}
 use Rattle.ssim.specs.Score.{totalsOf}
 use Rattle.ssim.proofs.Same.{totals-none, totals-more}
 use Rattle.ssim.proofs.walk.rows.Statement.{statement}
@@ -20,36 +22,71 @@ use Rattle.window.proofs.columns.fill.Reads as fill-reads
 use Rattle.window.proofs.row.weight.Reads as weight-reads
 
 abbrev Inv-loop : tie.InvT-loop
-Inv-loop cols₀ max2 kernel total a8 a16 b8 b16 wide stride-a stride-b width height t₀ y₀ cols t y =
-    (y ≤ height) × (length cols ≡ length cols₀) × (t ≡ totalsOf max2 kernel width height (viewOf (planeOf (samplesOf wide a8 a16) stride-a)) (viewOf (planeOf (samplesOf wide b8 b16) stride-b)) y)
+Inv-loop cols₀ max2 kernel total a8 a16 b8 b16 wide stride-a stride-b width height start end t₀ y₀ cols t y =
+    (y ≤ height) × (length cols ≡ length cols₀) × Margins cols kernel width
+    × (t ≡ totalsOf max2 kernel width height (viewOf (planeOf (samplesOf wide a8 a16) stride-a)) (viewOf (planeOf (samplesOf wide b8 b16) stride-b)) y)
 
 abbrev μ-loop : tie.MeasureT-loop
-μ-loop cols₀ max2 kernel total a8 a16 b8 b16 wide stride-a stride-b width height t₀ y₀ cols t y = height - y
+μ-loop cols₀ max2 kernel total a8 a16 b8 b16 wide stride-a stride-b width height start end t₀ y₀ cols t y = height - y
+
+mul-start : tie.Need-mul-start Inv-loop μ-loop
+mul-start c = omega (arith, side-small, taps-room)
+
+mul-end : tie.Need-mul-end Inv-loop μ-loop
+mul-end c = omega (arith, side-small, taps-room)
+
+add-end : tie.Need-add-end Inv-loop μ-loop
+add-end c = omega (arith, side-small, taps-room)
 
 loop-holds : tie.Need-loop-holds Inv-loop μ-loop
-loop-holds c = (search needs, refl, sym (totals-none _ _ _ _ _ _))
+loop-holds c = (search needs, refl, c .before .before .before .before .before .pre .1 .0, sym (totals-none _ _ _ _ _ _))
+
+mul-fill : tie.Need-mul-fill Inv-loop μ-loop
+mul-fill c = omega (arith, taps-room)
+
+sub-fill : tie.Need-sub-fill Inv-loop μ-loop
+sub-fill c = search needs
+
+part-fill-start : tie.Need-part-fill-start Inv-loop μ-loop
+part-fill-start c = search needs
+
+part-fill-end : tie.Need-part-fill-end Inv-loop μ-loop
+part-fill-end c = omega arith
 
 fill-requires : tie.Need-fill-requires Inv-loop μ-loop
 fill-requires c κs =
-    let s = c .before .before .before .before .before .before .before .before in (omega arith, (s .pre .1 .0, s .pre .1 .1 .1))
+    let s = c .before .before .before .before .before .before .before .before in
+    let l = c .before .before .loop in
+    let start = 5 * (length (now (s .args .kernel)) / 2) in
+    let k = start + 5 * s .args .width - start in
+    let room : start + k ≤ length (l .cols) = omega arith in
+    (omega (arith, part-length start k (l .cols) room), (s .pre .1 .1 .0, s .pre .1 .1 .1 .1))
 
 weight-requires : tie.Need-weight-requires Inv-loop μ-loop
-weight-requires c κs =
-    let s = c .before .before .before .before .before .before .before .before .before .before in (omega arith, (s .pre .1 .0, s .pre .1 .1 .0))
+weight-requires c κs = let s = c .before .before .before .before .before .before .before .before .before .before in (omega arith, (s .pre .1 .1 .0, s .pre .1 .1 .1 .0))
 
 centres-requires : tie.Need-centres-requires Inv-loop μ-loop
 centres-requires c κs =
     let s = c .before .before .before .before .before .before .before .before .before .before .before .before in
     let f = c .before .before .before .fill in
-    let y = c .before .before .before .before .before .before .loop .y in (
-      omega (arith, f .kept .0, weight-le (now (s .args .kernel)) (s .args .height) y (s .pre .1 .0)),
+    let l = c .before .before .before .before .before .before .loop in
+    let start = 5 * (length (now (s .args .kernel)) / 2) in
+    let k = start + 5 * s .args .width - start in
+    let room : start + k ≤ length (l .cols) = omega arith in
+    let same = f .kept .0 ∙ part-length start k (l .cols) room in (
+      omega (
+        arith,
+        same-len-mid start k (l .cols) (f .last .0) (f .kept .0),
+        weight-le (now (s .args .kernel)) (s .args .height) (l .y) (s .pre .1 .1 .0),
+      ),
       (
-        s .pre .1 .0,
+        s .pre .1 .1 .0,
         (
-          s .pre .1 .1 .0,
-          all-small (f .last .0) _ _ _ (viewOf (planeOf (samplesOf (s .args .wide) (now (s .args .a8)) (now (s .args .a16))) (s .args .stride-a)))
-              (viewOf (planeOf (samplesOf (s .args .wide) (now (s .args .b8)) (now (s .args .b16))) (s .args .stride-b))) _ (f .ensures) (s .pre .1 .0)
-              (λ r x. s .pre .1 .1 .1 .0 .small _) (λ r x. s .pre .1 .1 .1 .1 .small _),
+          s .pre .1 .1 .1 .0,
+          all-small (l .cols) (f .last .0) k (now (s .args .kernel)) (s .args .width) (s .args .height)
+              (viewOf (planeOf (samplesOf (s .args .wide) (now (s .args .a8)) (now (s .args .a16))) (s .args .stride-a)))
+              (viewOf (planeOf (samplesOf (s .args .wide) (now (s .args .b8)) (now (s .args .b16))) (s .args .stride-b))) (l .y) (f .ensures) (l .inv .2) (omega arith) (omega arith) same
+              (s .pre .1 .1 .0) (λ r x. s .pre .1 .1 .1 .1 .0 .small _) (λ r x. s .pre .1 .1 .1 .1 .1 .small _),
         ),
       ),
     )
@@ -64,12 +101,21 @@ loop-again : tie.Need-loop-again Inv-loop μ-loop
 loop-again c =
     let s = c .before .before .before .before .before .before .before .before .before .before .before .before .before in
     let f = c .before .before .before .before .fill in
-    let l = c .before .before .before .before .before .before .before .loop in (
+    let l = c .before .before .before .before .before .before .before .loop in
+    let start = 5 * (length (now (s .args .kernel)) / 2) in
+    let k = start + 5 * s .args .width - start in
+    let room : start + k ≤ length (l .cols) = omega arith in
+    let same = f .kept .0 ∙ part-length start k (l .cols) room in (
       search needs,
-      f .kept .0 ∙ l .inv .1,
-      rw (c .centres .ensures, c .before .before .weight .ensures, l .inv .2)
-          (totals-more _ _ _ _ (viewOf (planeOf (samplesOf (s .args .wide) (now (s .args .a8)) (now (s .args .a16))) (s .args .stride-a)))
-          (viewOf (planeOf (samplesOf (s .args .wide) (now (s .args .b8)) (now (s .args .b16))) (s .args .stride-b))) (f .last .0) _ (f .ensures)),
+      same-len-mid start k (l .cols) (f .last .0) (f .kept .0) ∙ l .inv .1,
+      margins-kept (l .cols) (f .last .0) k (now (s .args .kernel)) (s .args .width) (s .args .height)
+          (viewOf (planeOf (samplesOf (s .args .wide) (now (s .args .a8)) (now (s .args .a16))) (s .args .stride-a)))
+          (viewOf (planeOf (samplesOf (s .args .wide) (now (s .args .b8)) (now (s .args .b16))) (s .args .stride-b))) (l .y) (f .ensures) (l .inv .2) (omega arith) (omega arith) same,
+      rw (c .centres .ensures, c .before .before .weight .ensures, l .inv .3)
+          (totals-more (s .args .max2) (now (s .args .kernel)) (s .args .width) (s .args .height)
+          (viewOf (planeOf (samplesOf (s .args .wide) (now (s .args .a8)) (now (s .args .a16))) (s .args .stride-a)))
+          (viewOf (planeOf (samplesOf (s .args .wide) (now (s .args .b8)) (now (s .args .b16))) (s .args .stride-b)))
+          (l .cols) (f .last .0) k (l .y) (f .ensures) (l .inv .2) (omega arith) (omega arith) same),
     )
 
 same-length : tie.Need-same-length Inv-loop μ-loop
@@ -78,7 +124,7 @@ same-length c = c .before .loop .inv .1
 returns : tie.Need-returns Inv-loop μ-loop
 returns c =
     let e : c .before .loop .y ≡ c .before .before .before .before .before .before .before .args .height = omega arith in
-    rw e at (c .before .loop .inv .2)
+    rw e at (c .before .loop .inv .3)
 
 pub rows-spec : {M : Type 1} → statement M
 rows-spec =
@@ -86,7 +132,14 @@ rows-spec =
     (tie.spec
     Inv-loop
     μ-loop
+    mul-start
+    mul-end
+    add-end
     loop-holds
+    mul-fill
+    sub-fill
+    part-fill-start
+    part-fill-end
     fill-requires
     weight-requires
     centres-requires

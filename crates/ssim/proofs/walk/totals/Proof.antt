@@ -1,9 +1,12 @@
 -- `ssim::walk::totals` meets its contract. Assumes nothing.
 use mathlib.Core.Path.{ap, _∙_}
 use Prim.Native.Nat.{ℕ}
+use native.Mathlib.Omega.{arith}
 use borrow.Author.Needs.{needs}
 use lib.IntN.{pos}
-use lib.ListN.{replicate}
+use denote.Ref.{now}
+use lib.ListN.{length, replicate}
+use Rattle.window.proofs.Held.{margins-zero}
 use Rattle.ssim.proofs.walk.totals.Statement.{statement}
 use Rattle.ssim.proofs.walk.totals.Tie as tie
 use Rattle.ssim.proofs.walk.totals.Reads as reads
@@ -11,11 +14,18 @@ use Rattle.ssim.proofs.walk.totals.Lts as lts
 use Rattle.ssim.proofs.walk.clear.Reads as clear-reads
 use Rattle.ssim.proofs.walk.rows.Reads as rows-reads
 
-rows-requires : tie.Need-rows-requires
-rows-requires c κs = search needs
-
 clear-requires : tie.Need-clear-requires
 clear-requires c κs = search needs
+
+rows-requires : tie.Need-rows-requires
+rows-requires c κs =
+    let s = c .before .before .before .before .before .before .before .before .before in (
+      omega (arith, c .before .before .clear .kept .0),
+      (margins-zero (c .before .before .clear .last .0) (length (now (s .args .scratch))) _ _ (c .before .before .clear .ensures), s .pre .1),
+    )
+
+clear-requires-2 : tie.Need-clear-requires-2
+clear-requires-2 c κs = search needs
 
 same-length : tie.Need-same-length
 same-length c = search needs
@@ -23,8 +33,9 @@ same-length c = search needs
 returns : tie.Need-returns
 returns c = (
   c .before .before .before .before .rows .ensures,
-  c .before .clear .ensures ∙ ap (λ (n : ℕ). replicate n (pos 0)) (c .before .before .before .before .rows .kept .0),
+  c .before .clear2 .ensures ∙ ap (λ (n : ℕ). replicate n (pos 0)) (c .before .before .before .before .rows .kept .0 ∙ c .before .before .before .before .before .before .before .clear .kept .0),
 )
 
 pub totals-spec : {M : Type 1} → statement M
-totals-spec = tie.close (tie.spec rows-requires clear-requires same-length returns)
+totals-spec =
+    tie.close (tie.spec clear-requires rows-requires clear-requires-2 same-length returns)

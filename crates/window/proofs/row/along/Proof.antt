@@ -44,16 +44,15 @@ tapped-requires c κs =
     let s = c .before .before .before .before in
     let off = length (now (s .args .kernel)) / 2 in
     let room = middle-room (now (s .args .kernel)) (cellOf (now (s .args .cols))) (s .args .x) (s .pre .1 .0)
-        (λ m l k q. s .pre .1 .1 (5 * (s .args .x + k) + m) (omega arith) .low) in
+    (λ m l k q. s .pre .1 .1 (5 * (s .args .x + k) + m) (omega arith) .low) in
     rw (c .before .before .none .ensures, c .cells .ensures)
     (λ m l. rw (nth-five (λ (i : ℕ). cellOf (now (s .args .cols)) i (s .args .x + off)) m l) (room m l))
 
 loop-holds : tie.Need-loop-holds Inv-loop μ-loop
-loop-holds c =
-    (
-      omega arith,
-      rw (c .tapped .ensures, c .before .cells .ensures, c .before .before .before .none .ensures) (sym (folds-none _ _ _)),
-    )
+loop-holds c = (
+  omega arith,
+  rw (c .tapped .ensures, c .before .cells .ensures, c .before .before .before .none .ensures) (sym (folds-none _ _ _)),
+)
 
 mul-tapped-2 : tie.Need-mul-tapped-2 Inv-loop μ-loop
 mul-tapped-2 c = search needs
@@ -82,8 +81,8 @@ tapped-requires-2 c κs =
     let off = length (now (s .args .kernel)) / 2 in
     let k = c .before .before .before .loop .k in
     let room = folds-room (now (s .args .kernel)) (cellOf (now (s .args .cols))) (s .args .x) (s .pre .1 .0)
-        (λ m l j q. s .pre .1 .1 (5 * (s .args .x + j) + m) (omega arith) .low) _ k (c .before .before .before .loop .inv .1)
-        (c .before .before .loop-test .taken) in
+    (λ m l j q. s .pre .1 .1 (5 * (s .args .x + j) + m) (omega arith) .low) _ k (c .before .before .before .loop .inv .1)
+    (c .before .before .loop-test .taken) in
     rw (c .pair .ensures)
     (λ m l.
     rw (nth-five (λ (i : ℕ). cellOf (now (s .args .cols)) i (s .args .x + k) + cellOf (now (s .args .cols)) i (s .args .x + 2 * off - k)) m l)
@@ -96,11 +95,10 @@ loop-less : tie.Need-loop-less Inv-loop μ-loop
 loop-less c = search needs
 
 loop-again : tie.Need-loop-again Inv-loop μ-loop
-loop-again c =
-    (
-      omega arith,
-      rw (c .tapped2 .ensures, c .before .pair .ensures, c .before .before .before .before .loop .inv .1) (sym (folds-more _ _ _ _)),
-    )
+loop-again c = (
+  omega arith,
+  rw (c .tapped2 .ensures, c .before .pair .ensures, c .before .before .before .before .loop .inv .1) (sym (folds-more _ _ _ _)),
+)
 
 returns : tie.Need-returns Inv-loop μ-loop
 returns c =

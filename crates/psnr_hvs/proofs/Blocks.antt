@@ -1,0 +1,76 @@
+-- The blocks of a plane: where they begin, how large their numbers are, and one more of them. Assumes nothing.
+use mathlib.Core.Path.{_≡_, refl, sym, ap, _∙_}
+use mathlib.Core.Bool.{Bool, true, false}
+use mathlib.Core.List.{List, [], _∷_, _++_}
+use Prim.Native.Nat.{ℕ, zero, suc, _+_, _-_, _*_, _/_, _%_, _≤_, _<_}
+use native.Mathlib.Omega.{arith}
+use borrow.Author.Tests.{lt-ltb, le-ltb, ltb-true, ltb-false}
+use lib.Dec.{ltb}
+use lib.IntN.{ℤ, pos, natAbs}
+use lib.ListN.{length, length-append}
+use lib.Ieee.{Float}
+use Rattle.plane.specs.Plane.{Plane}
+use Rattle.dct.specs.Limits.{forwardLimit}
+use Rattle.dct.specs.Block.{transform, turn, line, column}
+use Rattle.dct.proofs.Blocks.{length-line, length-rows}
+use Rattle.dct.specs.Call.{Within, Small}
+use Rattle.psnr_hvs.specs.Fold.{listTo}
+use Rattle.psnr_hvs.specs.Block.{withBlock}
+use Rattle.psnr_hvs.specs.Score.{blockSide, step, blocksPerSide, sampleIn, blockAt, alongRow, downRows}
+use Rattle.psnr_hvs.specs.Legible.{Legible}
+use Rattle.number.proofs.Folds.{fold-more}
+
+-- ---- where they begin
+-- "blocks of 8 begin at 0, 7, 14 and so on, below side - 7": k counts the starts, and as many are below as blocksPerSide says
+pub starts : (side k : ℕ) → blockSide ≤ side → ltb (step * k) (side - step) ≡ ltb k (blocksPerSide side)
+starts side k l = go (ltb k (blocksPerSide side)) refl
+  where
+    go : (t : Bool) → ltb k (blocksPerSide side) ≡ t → ltb (step * k) (side - step) ≡ ltb k (blocksPerSide side)
+    go true e = lt-ltb (step * k) (side - step) (omega (arith, ltb-true k (blocksPerSide side) e)) ∙ sym e
+    go false e = le-ltb (step * k) (side - step) (omega (arith, ltb-false k (blocksPerSide side) e)) ∙ sym e
+
+-- each ends inside its side
+pub ends : {side k : ℕ} → blockSide ≤ side → k < blocksPerSide side → step * k + 8 ≤ side
+ends l h = omega arith
+
+-- ---- how large their numbers are
+small-more : (n : ℕ) (v : List ℤ) (a : ℤ) → Small n v → Within n a → Small n (v ++ (a ∷ []))
+small-more n [] a h w = (w, tt)
+small-more n (b ∷ v) a h w = (h .0, small-more n v a (h .1) w)
+
+small-list : (n : ℕ) (f : ℕ → ℤ) (m : ℕ) → ((k : ℕ) → k < m → natAbs (f k) ≤ n) → Small n (listTo f m)
+unfolding listTo
+small-list n f zero h = tt
+small-list n f (suc m) h =
+    small-more n (listTo f m) (f m) (small-list n f m (λ (k : ℕ) (l : k < m). h k (omega arith))) (record { le = h m (omega arith) })
+
+length-list : (f : ℕ → ℤ) (m : ℕ) → length (listTo f m) ≡ m
+unfolding listTo
+length-list f zero = refl
+length-list f (suc m) = simp (length-append, length-list f m) (omega arith)
+
+pub block-length : (p : Plane) (x y : ℕ) → length (blockAt p x y) ≡ 64
+unfolding blockAt
+block-length p x y = length-list (sampleIn p x y) 64
+
+pub block-small : (p : Plane) {width height : ℕ} (x y : ℕ) → Legible width height p → x + 8 ≤ width → y + 8 ≤ height → Small forwardLimit (blockAt p x y)
+unfolding blockAt
+block-small p x y h lx ly =
+    small-list forwardLimit (sampleIn p x y) 64 (λ (k : ℕ) (l : k < 64). h .small (x + k % 8) (y + k / 8) (omega arith) (omega arith))
+
+-- ---- what the transform leaves of a block
+pub coefficients-length : (b : List ℤ) → length (transform b) ≡ 64
+unfolding transform turn
+coefficients-length b = length-rows (λ (i : ℕ). line (column i (turn b))) (λ (i : ℕ). length-line (column i (turn b))) 8
+
+-- ---- one more block, and one more row of them
+pub row-more : (csf mask : List (List Float)) (p q : Plane) (y : ℕ) (a : Float) (x : ℕ)
+    → alongRow csf mask p q y a (x + 1)
+    ≡ withBlock csf mask (blockAt p (step * x) y) (blockAt q (step * x) y) (alongRow csf mask p q y a x)
+unfolding alongRow
+row-more csf mask p q y a x = rw fold-more
+
+pub rows-more : (csf mask : List (List Float)) (p q : Plane) (width y : ℕ)
+    → downRows csf mask p q width (y + 1) ≡ alongRow csf mask p q (step * y) (downRows csf mask p q width y) (blocksPerSide width)
+unfolding downRows
+rows-more csf mask p q width y = rw fold-more

@@ -1,0 +1,5 @@
+pub mod Folds
+pub mod Sizes
+pub mod Walks
+pub mod Blocks
+pub mod Taken

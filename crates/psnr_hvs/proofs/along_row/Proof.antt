@@ -1,0 +1,75 @@
+-- `along_row` adds the blocks of a row. Assumes nothing.
+use borrow.Author.Needs.{needs}
+use mathlib.Core.Path.{_≡_, refl, sym, ap, _∙_}
+use Prim.Native.Nat.{ℕ, _+_, _-_, _*_, _/_, _%_, _≤_, _<_}
+use native.Mathlib.Omega.{arith}
+use Rattle.psnr_hvs.specs.Score.{alongRow, blocksPerSide}
+use Rattle.plane.specs.Plane.{planeOf, samplesOf}
+use Rattle.psnr_hvs.proofs.Blocks.{ends, row-more}
+use Rattle.number.proofs.Folds.{fold-none, fold-more}
+use Rattle.psnr_hvs.proofs.along_row.Statement.{statement}
+use Rattle.psnr_hvs.proofs.along_row.Tie as tie
+use Rattle.psnr_hvs.proofs.along_row.Reads as reads
+use Rattle.psnr_hvs.proofs.along_row.Lts as lts
+use Rattle.psnr_hvs.proofs.block.block_at.Reads as block-at-reads
+use Rattle.psnr_hvs.proofs.blocks_per_side.Reads as blocks-per-side-reads
+
+abbrev Inv-loop : tie.InvT-loop
+Inv-loop result a8 a16 b8 b16 wide y stride-a stride-b width height mask csf n s₀ x₀ s x =
+    (x ≤ n) × (s ≡ alongRow csf mask (planeOf (samplesOf wide a8 a16) stride-a) (planeOf (samplesOf wide b8 b16) stride-b) y result x)
+
+abbrev μ-loop : tie.MeasureT-loop
+μ-loop result a8 a16 b8 b16 wide y stride-a stride-b width height mask csf n s₀ x₀ s x = n - x
+
+-- src/lib.rt:63:9
+blocks-per-side-requires : tie.Need-blocks-per-side-requires Inv-loop μ-loop
+blocks-per-side-requires c κs = search needs
+
+-- src/lib.rt:65:5
+loop-holds : tie.Need-loop-holds Inv-loop μ-loop
+unfolding alongRow
+loop-holds c = (search needs, sym (fold-none _ _))
+
+-- src/lib.rt:73:13
+mul-block-at : tie.Need-mul-block-at Inv-loop μ-loop
+mul-block-at c = search needs
+
+-- src/lib.rt:66:9
+block-at-requires : tie.Need-block-at-requires Inv-loop μ-loop
+block-at-requires c κs =
+    let s = c .before .before .before .before .before .before .before in
+    let n = c .before .before .blocks-per-side .ensures in
+    ((ends (s .pre .0 .0) (omega arith), s .pre .0 .1), s .pre .1)
+
+-- src/lib.rt:65:9
+add-x : tie.Need-add-x Inv-loop μ-loop
+add-x c = search needs
+
+-- src/lib.rt:65:5
+loop-less : tie.Need-loop-less Inv-loop μ-loop
+loop-less c = search needs
+
+-- src/lib.rt:65:5
+loop-again : tie.Need-loop-again Inv-loop μ-loop
+loop-again c = (search needs, rw (row-more, c .block-at .ensures, c .before .before .loop .inv .1))
+
+-- src/lib.rt:42:1
+returns : tie.Need-returns Inv-loop μ-loop
+returns c =
+    let e : c .before .loop .x ≡ blocksPerSide (c .before .before .before .before .before .before .before .args .width) = omega (arith, c .before .before .blocks-per-side .ensures) in
+    rw e at (c .before .loop .inv .1)
+
+pub along-row-spec : {M : Type 1} → statement M
+along-row-spec =
+    tie.close
+    (tie.spec
+    Inv-loop
+    μ-loop
+    blocks-per-side-requires
+    loop-holds
+    mul-block-at
+    block-at-requires
+    add-x
+    loop-less
+    loop-again
+    returns)

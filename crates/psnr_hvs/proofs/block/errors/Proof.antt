@@ -1,0 +1,147 @@
+-- `errors` adds the terms of all places. Assumes nothing.
+use borrow.Author.Needs.{needs}
+use mathlib.Core.Path.{_≡_, refl, sym, ap, _∙_}
+use Prim.Native.Nat.{ℕ, _+_, _-_, _*_, _/_, _%_, _≤_, _<_}
+use native.Mathlib.Omega.{arith}
+use lib.Ieee.{Float}
+use Rattle.dct.proofs.Size.{read}
+use Rattle.dct.proofs.Blocks.{small-at}
+use Rattle.dct.specs.Limits.{coefficientLimit}
+use Rattle.psnr_hvs.specs.Block.{addTerm, errors}
+use Rattle.number.proofs.Folds.{fold-none}
+use Rattle.psnr_hvs.proofs.Folds.{flat8, by-eights}
+use Rattle.psnr_hvs.proofs.Sizes.{read-coefficient}
+use Rattle.psnr_hvs.proofs.Walks.{term-more}
+use Rattle.psnr_hvs.proofs.block.errors.Statement.{statement}
+use Rattle.psnr_hvs.proofs.block.errors.Tie as tie
+use Rattle.psnr_hvs.proofs.block.errors.Reads as reads
+use Rattle.psnr_hvs.proofs.block.errors.Lts as lts
+use Rattle.psnr_hvs.proofs.block.apart.Reads as apart-reads
+use Rattle.psnr_hvs.proofs.block.term.Reads as term-reads
+
+abbrev Inv-loop : tie.InvT-loop
+Inv-loop result d1 d2 m mask csf s₀ k₀ s k = (k ≤ 64) × (s ≡ flat8 (addTerm csf mask m d1 d2) result k)
+
+abbrev μ-loop : tie.MeasureT-loop
+μ-loop result d1 d2 m mask csf s₀ k₀ s k = 64 - k
+
+-- src/block.rt:140:5
+loop-holds : tie.Need-loop-holds Inv-loop μ-loop
+loop-holds c = (search needs, sym (fold-none _ _))
+
+-- src/block.rt:141:25
+mul-apart : tie.Need-mul-apart Inv-loop μ-loop
+mul-apart c = search needs
+
+-- src/block.rt:141:25
+shared-slice-copy-out-apart : tie.Need-shared-slice-copy-out-apart Inv-loop μ-loop
+shared-slice-copy-out-apart c = search needs
+
+-- src/block.rt:141:32
+mul-apart-2 : tie.Need-mul-apart-2 Inv-loop μ-loop
+mul-apart-2 c = search needs
+
+-- src/block.rt:141:32
+shared-slice-copy-out-apart-2 : tie.Need-shared-slice-copy-out-apart-2 Inv-loop μ-loop
+shared-slice-copy-out-apart-2 c = search needs
+
+-- src/block.rt:141:13
+apart-requires : tie.Need-apart-requires Inv-loop μ-loop
+apart-requires c κs =
+    let s = c .before .before .before .before in
+    (read (small-at coefficientLimit (s .args .d1 .now) (s .pre .1 .0) _), read (small-at coefficientLimit (s .args .d2 .now) (s .pre .1 .1) _))
+
+-- src/block.rt:142:38
+mul-term : tie.Need-mul-term Inv-loop μ-loop
+mul-term c = search needs
+
+-- src/block.rt:142:38
+mul-term-2 : tie.Need-mul-term-2 Inv-loop μ-loop
+mul-term-2 c = search needs
+
+-- src/block.rt:142:38
+index-1-term : tie.Need-index-1-term Inv-loop μ-loop
+index-1-term c = search needs
+
+-- src/block.rt:142:38
+index-2-term : tie.Need-index-2-term Inv-loop μ-loop
+index-2-term c = search needs
+
+-- src/block.rt:142:58
+mul-term-3 : tie.Need-mul-term-3 Inv-loop μ-loop
+mul-term-3 c = search needs
+
+-- src/block.rt:142:58
+mul-term-4 : tie.Need-mul-term-4 Inv-loop μ-loop
+mul-term-4 c = search needs
+
+-- src/block.rt:142:58
+index-1-term-2 : tie.Need-index-1-term-2 Inv-loop μ-loop
+index-1-term-2 c = search needs
+
+-- src/block.rt:142:58
+index-2-term-2 : tie.Need-index-2-term-2 Inv-loop μ-loop
+index-2-term-2 c = search needs
+
+-- src/block.rt:142:17
+term-requires : tie.Need-term-requires Inv-loop μ-loop
+term-requires c κs = search needs
+
+-- src/block.rt:140:9
+add-k : tie.Need-add-k Inv-loop μ-loop
+add-k c = search needs
+
+-- src/block.rt:140:5
+loop-less : tie.Need-loop-less Inv-loop μ-loop
+loop-less c = search needs
+
+-- src/block.rt:140:5
+loop-again : tie.Need-loop-again Inv-loop μ-loop
+loop-again c =
+    let s = c .before .before .before .before .before .before .before .before in
+    let l = c .before .before .before .before .before .before .before .loop in
+    let one = s .args .d1 .now in
+    let two = s .args .d2 .now in (
+      search needs,
+      rw (
+        term-more (s .args .csf .now) (s .args .mask .now) (s .args .m) one two (s .args .result) (l .k),
+        c .term .ensures,
+        c .before .before .before .apart .ensures,
+        read-coefficient one (s .pre .1 .0) (l .k),
+        read-coefficient two (s .pre .1 .1) (l .k),
+        l .inv .1,
+      ),
+    )
+
+-- src/block.rt:126:1
+returns : tie.Need-returns Inv-loop μ-loop
+unfolding errors
+returns c =
+    let e : c .before .loop .k ≡ 64 = omega arith in
+    rw e at (c .before .loop .inv .1) ∙ by-eights _ _
+
+pub errors-spec : {M : Type 1} → statement M
+errors-spec =
+    tie.close
+    (tie.spec
+    Inv-loop
+    μ-loop
+    loop-holds
+    mul-apart
+    shared-slice-copy-out-apart
+    mul-apart-2
+    shared-slice-copy-out-apart-2
+    apart-requires
+    mul-term
+    mul-term-2
+    index-1-term
+    index-2-term
+    mul-term-3
+    mul-term-4
+    index-1-term-2
+    index-2-term-2
+    term-requires
+    add-k
+    loop-less
+    loop-again
+    returns)

@@ -1,0 +1,122 @@
+-- `loaded` fills a block, sample by sample. Assumes nothing.
+use borrow.Author.Needs.{needs}
+use mathlib.Core.Path.{_≡_, refl, sym, ap, _∙_}
+use Prim.Native.Nat.{ℕ, _+_, _-_, _*_, _/_, _%_, _≤_, _<_, _^_}
+use native.Mathlib.Omega.{arith}
+use native.Mathlib.Nat.{lt-of-le-of-lt}
+use lib.ListN.{length, length-set}
+use lib.Dec.{lit<}
+use lib.IntN.{pos}
+use mir.Syntax.{w32}
+use mir.Facts.{toZ-pos}
+use Rattle.plane.specs.Plane.{planeOf, samplesOf, sampleAt}
+use Rattle.plane.proofs.Rows.{inside, count-fits}
+use Rattle.dct.proofs.Size.{fits}
+use Rattle.psnr_hvs.specs.Score.{sampleIn, blockAt}
+use Rattle.psnr_hvs.proofs.Folds.{Filled, filled-none, filled-more, filled-all}
+use Rattle.psnr_hvs.proofs.block.loaded.Statement.{statement}
+use Rattle.psnr_hvs.proofs.block.loaded.Tie as tie
+use Rattle.psnr_hvs.proofs.block.loaded.Reads as reads
+use Rattle.psnr_hvs.proofs.block.loaded.Lts as lts
+use Rattle.plane.proofs.sample.Reads as sample-reads
+
+abbrev Inv-loop : tie.InvT-loop
+Inv-loop bytes words wide x y stride width height out₀ k₀ out k = (k ≤ 64) × (length out ≡ 64) × Filled (sampleIn (planeOf (samplesOf wide bytes words) stride) x y) out k
+
+abbrev μ-loop : tie.MeasureT-loop
+μ-loop bytes words wide x y stride width height out₀ k₀ out k = 64 - k
+
+-- src/block.rt:32:5
+-- where the sample stands, and its size
+place-inside : (c : tie.In-loop Inv-loop μ-loop) → let s = c .before .before .before .before in
+    (s .args .y + c .before .loop .k / 8) * s .args .stride + (s .args .x + c .before .loop .k % 8)
+    < length (samplesOf (s .args .wide) (s .args .bytes .now) (s .args .words .now))
+place-inside c = let s = c .before .before .before .before in inside (s .args .stride) (s .pre .1 .long) (omega arith) (omega arith)
+
+place-fits : (c : tie.In-loop Inv-loop μ-loop) → let s = c .before .before .before .before in
+    (s .args .y + c .before .loop .k / 8) * s .args .stride + (s .args .x + c .before .loop .k % 8) < 2 ^ 64
+place-fits c =
+    let s = c .before .before .before .before in
+    omega (arith, place-inside c, count-fits (s .args .wide) (s .args .bytes .now) (s .args .words .now) (omega arith) (omega arith))
+
+sample-small : (c : tie.After-sample Inv-loop μ-loop) → c .sample .result < 2 ^ 31
+sample-small c =
+    let s = c .before .before .before .before .before in
+    rw (c .sample .ensures) (lt-of-le-of-lt (s .pre .1 .small _ _ (omega arith) (omega arith)) (lit< tt))
+
+loop-holds : tie.Need-loop-holds Inv-loop μ-loop
+loop-holds c = (search needs, search needs, filled-none _ _)
+
+-- src/block.rt:33:53
+add-sample : tie.Need-add-sample Inv-loop μ-loop
+add-sample c = search needs
+
+-- src/block.rt:33:52
+mul-sample : tie.Need-mul-sample Inv-loop μ-loop
+mul-sample c = omega (arith, place-fits c)
+
+-- src/block.rt:33:76
+add-sample-2 : tie.Need-add-sample-2 Inv-loop μ-loop
+add-sample-2 c = search needs
+
+-- src/block.rt:33:52
+add-sample-3 : tie.Need-add-sample-3 Inv-loop μ-loop
+add-sample-3 c = omega (arith, place-fits c)
+
+-- src/block.rt:33:18
+sample-requires : tie.Need-sample-requires Inv-loop μ-loop
+sample-requires c κs = place-inside c
+
+-- src/block.rt:33:18
+cast-out : tie.Need-cast-out Inv-loop μ-loop
+cast-out c = fits (pos (c .sample .result)) (sample-small c)
+
+-- src/block.rt:33:9
+mul-out : tie.Need-mul-out Inv-loop μ-loop
+mul-out c = search needs
+
+-- src/block.rt:33:9
+array-set-from-out : tie.Need-array-set-from-out Inv-loop μ-loop
+array-set-from-out c = search needs
+
+-- src/block.rt:32:9
+add-k : tie.Need-add-k Inv-loop μ-loop
+add-k c = search needs
+
+-- src/block.rt:32:5
+loop-less : tie.Need-loop-less Inv-loop μ-loop
+loop-less c = search needs
+
+-- src/block.rt:32:5
+loop-again : tie.Need-loop-again Inv-loop μ-loop
+loop-again c =
+    let l = c .before .before .loop in
+    (search needs, simp length-set (l .inv .1), filled-more _ _ _ (l .inv .2) (toZ-pos w32 (sample-small c) ∙ ap pos (c .sample .ensures)) (omega arith))
+
+-- src/block.rt:17:1
+returns : tie.Need-returns Inv-loop μ-loop
+unfolding blockAt
+returns c =
+    let v = c .before .loop .inv in
+    let e : c .before .loop .k ≡ 64 = omega arith in
+    filled-all _ _ 64 (rw e at (v .2)) (omega arith)
+
+pub loaded-spec : {M : Type 1} → statement M
+loaded-spec =
+    tie.close
+    (tie.spec
+    Inv-loop
+    μ-loop
+    loop-holds
+    add-sample
+    mul-sample
+    add-sample-2
+    add-sample-3
+    sample-requires
+    cast-out
+    mul-out
+    array-set-from-out
+    add-k
+    loop-less
+    loop-again
+    returns)

@@ -1,0 +1,34 @@
+-- `mask_for` goes by what the root answers; 0 / 0 is not a number, and stays so. Assumes nothing.
+use lib.Ieee.{div, ofBits}
+use Rattle.psnr_hvs.specs.Block.{maskFor}
+use borrow.Author.Needs.{needs}
+use Rattle.psnr_hvs.proofs.block.mask_for.Statement.{statement}
+use Rattle.psnr_hvs.proofs.block.mask_for.Tie as tie
+use Rattle.psnr_hvs.proofs.block.mask_for.Reads as reads
+use Rattle.psnr_hvs.proofs.block.mask_for.Lts as lts
+use Rattle.number.proofs.root.Reads as root-reads
+
+-- src/block.rt:67:11
+root-requires : tie.Need-root-requires
+root-requires c κs = search needs
+
+-- src/block.rt:68:22
+enum-known-s : tie.Need-enum-known-s
+enum-known-s c = search needs
+
+-- src/block.rt:69:31
+enum-told : tie.Need-enum-told
+enum-told c = search needs
+
+-- src/block.rt:64:1
+returns : tie.Need-returns
+unfolding maskFor
+returns c = rw (← (c .before .before .before .root .ensures), c .before .s .given .1)
+
+-- src/block.rt:64:1
+returns-2 : tie.Need-returns-2
+unfolding maskFor div ofBits
+returns-2 c = rw (← (c .before .before .root .ensures), c .enum-told .given .1)
+
+pub mask-for-spec : {M : Type 1} → statement M
+mask-for-spec = tie.close (tie.spec root-requires enum-known-s enum-told returns returns-2)

@@ -1,0 +1,75 @@
+-- `down_rows` adds the rows of blocks. Assumes nothing.
+use borrow.Author.Needs.{needs}
+use mathlib.Core.Path.{_≡_, refl, sym, ap, _∙_}
+use Prim.Native.Nat.{ℕ, _+_, _-_, _*_, _/_, _%_, _≤_, _<_}
+use native.Mathlib.Omega.{arith}
+use Rattle.plane.specs.Plane.{planeOf, samplesOf}
+use Rattle.psnr_hvs.specs.Score.{downRows, blocksPerSide}
+use Rattle.number.proofs.Folds.{fold-none}
+use Rattle.psnr_hvs.proofs.Blocks.{ends, rows-more}
+use Rattle.psnr_hvs.proofs.down_rows.Statement.{statement}
+use Rattle.psnr_hvs.proofs.down_rows.Tie as tie
+use Rattle.psnr_hvs.proofs.down_rows.Reads as reads
+use Rattle.psnr_hvs.proofs.down_rows.Lts as lts
+use Rattle.psnr_hvs.proofs.along_row.Reads as along-row-reads
+use Rattle.psnr_hvs.proofs.blocks_per_side.Reads as blocks-per-side-reads
+
+abbrev Inv-loop : tie.InvT-loop
+Inv-loop a8 a16 b8 b16 wide stride-a stride-b width height mask csf n s₀ y₀ s y =
+    (y ≤ n) × (s ≡ downRows csf mask (planeOf (samplesOf wide a8 a16) stride-a) (planeOf (samplesOf wide b8 b16) stride-b) width y)
+
+abbrev μ-loop : tie.MeasureT-loop
+μ-loop a8 a16 b8 b16 wide stride-a stride-b width height mask csf n s₀ y₀ s y = n - y
+
+-- src/lib.rt:106:9
+blocks-per-side-requires : tie.Need-blocks-per-side-requires Inv-loop μ-loop
+blocks-per-side-requires c κs = search needs
+
+-- src/lib.rt:108:5
+loop-holds : tie.Need-loop-holds Inv-loop μ-loop
+unfolding downRows
+loop-holds c = (search needs, sym (fold-none _ _))
+
+-- src/lib.rt:116:13
+mul-along-row : tie.Need-mul-along-row Inv-loop μ-loop
+mul-along-row c = search needs
+
+-- src/lib.rt:109:9
+along-row-requires : tie.Need-along-row-requires Inv-loop μ-loop
+along-row-requires c κs =
+    let s = c .before .before .before .before .before .before .before in
+    let n = c .before .before .blocks-per-side .ensures in
+    ((s .pre .0 .0, ends (s .pre .0 .1) (omega arith)), s .pre .1)
+
+-- src/lib.rt:108:9
+add-y : tie.Need-add-y Inv-loop μ-loop
+add-y c = search needs
+
+-- src/lib.rt:108:5
+loop-less : tie.Need-loop-less Inv-loop μ-loop
+loop-less c = search needs
+
+-- src/lib.rt:108:5
+loop-again : tie.Need-loop-again Inv-loop μ-loop
+loop-again c = (search needs, rw (rows-more, c .along-row .ensures, c .before .before .loop .inv .1))
+
+-- src/lib.rt:87:1
+returns : tie.Need-returns Inv-loop μ-loop
+returns c =
+    let e : c .before .loop .y ≡ blocksPerSide (c .before .before .before .before .before .before .before .args .height) = omega (arith, c .before .before .blocks-per-side .ensures) in
+    rw e at (c .before .loop .inv .1)
+
+pub down-rows-spec : {M : Type 1} → statement M
+down-rows-spec =
+    tie.close
+    (tie.spec
+    Inv-loop
+    μ-loop
+    blocks-per-side-requires
+    loop-holds
+    mul-along-row
+    along-row-requires
+    add-y
+    loop-less
+    loop-again
+    returns)

@@ -1,0 +1,6 @@
+pub mod Fold
+pub mod Rounded
+pub mod Tables
+pub mod Block
+pub mod Score
+pub mod Legible

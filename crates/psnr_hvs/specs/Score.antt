@@ -1,0 +1,69 @@
+-- Document 01, "HVS, SSIM and scales", HVS: the blocks of two planes, the score, and the answer. Definitions only.
+use mathlib.Core.Bool.{Bool, true, false}
+use mathlib.Core.List.{List, [], _∷_}
+use Prim.Native.Nat.{ℕ, zero, suc, _+_, _-_, _*_, _/_, _%_}
+use lib.IntN.{ℤ, pos}
+use lib.Ieee.{Float}
+use lib.Ieee.Scale.{finite}
+use Rattle.refusal.specs.Numbers.{notFiniteNo}
+use Rattle.plane.specs.Plane.{Plane, sampleAt, maxOf}
+use Rattle.plane.specs.Tests.{planeRefusal}
+use Rattle.number.specs.Steps.{foldTo, _⊘_, double}
+use Rattle.psnr_hvs.specs.Fold.{listTo}
+use Rattle.psnr_hvs.specs.Rounded.{zero64}
+use Rattle.psnr_hvs.specs.Tables.{csfOf, masksOf}
+use Rattle.psnr_hvs.specs.Block.{withBlock}
+use Rattle.psnr_hvs.specs.declared.Kind.{Kind}
+use Rattle.psnr_hvs.specs.declared.Hvs.{Hvs}
+use Rattle.psnr_hvs.specs.declared.Hvs.the-variants.{Score, Refused}
+
+-- a side of a block, by which refusal 3 is given, and the step from one block to the next
+abbrev pub blockSide : ℕ
+blockSide = 8
+
+abbrev pub step : ℕ
+step = 7
+
+-- "blocks of 8 begin at 0, 7, 14 and so on, below side - 7: floor((side - 8)/7) + 1 per side"
+abbrev pub blocksPerSide : ℕ → ℕ
+blocksPerSide side = (side - blockSide) / step + 1
+
+-- the block whose first sample is (x, y), row by row
+abbrev pub sampleIn : Plane → ℕ → ℕ → ℕ → ℤ
+sampleIn p x y k = pos (sampleAt p (x + k % 8) (y + k / 8))
+
+unfoldable pub blockAt : Plane → ℕ → ℕ → List ℤ
+blockAt p x y = listTo (sampleIn p x y) 64
+
+-- result, and then n blocks of a row of blocks that begins at row y
+unfoldable pub alongRow : List (List Float) → List (List Float) → Plane → Plane → ℕ → Float → ℕ → Float
+alongRow csf mask p q y result n =
+    foldTo (λ (s : Float) (x : ℕ). withBlock csf mask (blockAt p (step * x) y) (blockAt q (step * x) y) s) result n
+
+-- the first n rows of blocks
+unfoldable pub downRows : List (List Float) → List (List Float) → Plane → Plane → ℕ → ℕ → Float
+downRows csf mask p q width n =
+    foldTo (λ (s : Float) (y : ℕ). alongRow csf mask p q (step * y) s (blocksPerSide width)) zero64 n
+
+-- "The last steps divide by 64 × blocks, then by sample_max²"
+unfoldable pub hvsScore : Kind → Plane → Plane → ℕ → ℕ → ℕ → Float
+hvsScore kind p q width height depth =
+    downRows (csfOf kind) (masksOf (csfOf kind)) p q width (blocksPerSide height)
+    ⊘ double (64 * (blocksPerSide width * blocksPerSide height))
+    ⊘ double (maxOf depth * maxOf depth)
+
+-- ---- the answer
+
+-- 9 where the defined score is not finite
+abbrev pub scored : Bool → Float → Hvs
+scored true s = Score s
+scored false s = Refused notFiniteNo
+
+-- the lowest of 1 to 6 that applies, and the score where none does
+abbrev pub answerFor : ℕ → Float → Hvs
+answerFor zero s = scored (finite s) s
+answerFor (suc n) s = Refused (suc n)
+
+unfoldable pub hvsOf : Bool → Kind → Plane → Plane → ℕ → ℕ → ℕ → Hvs
+hvsOf wide kind p q width height depth =
+    answerFor (planeRefusal wide (p ∷ q ∷ []) width height depth blockSide) (hvsScore kind p q width height depth)

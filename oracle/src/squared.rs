@@ -1,0 +1,173 @@
+//! Squared error of both widths: the published record of the unpadded copies, and the model's refusals.
+
+use crate::family::{run, Family, Run};
+use crate::plane;
+use crate::random::Random;
+use crate::samples::{sound, sound_of, Pair};
+use published::plane::Plane;
+use published::video::pixel::Pixel;
+use published::video::psnr;
+
+/// The call of one width.
+type Call<T> = unsafe extern "C" fn(
+    a: *const T,
+    a_len: usize,
+    b: *const T,
+    b_len: usize,
+    width: usize,
+    height: usize,
+    stride_a: usize,
+    stride_b: usize,
+    depth: u32,
+    sq_err: *mut f64,
+    n: *mut u64,
+    sample_max: *mut u32,
+) -> u8;
+
+extern "C" {
+    fn fuavelino_squared_error8(
+        a: *const u8,
+        a_len: usize,
+        b: *const u8,
+        b_len: usize,
+        width: usize,
+        height: usize,
+        stride_a: usize,
+        stride_b: usize,
+        depth: u32,
+        sq_err: *mut f64,
+        n: *mut u64,
+        sample_max: *mut u32,
+    ) -> u8;
+    fn fuavelino_squared_error16(
+        a: *const u16,
+        a_len: usize,
+        b: *const u16,
+        b_len: usize,
+        width: usize,
+        height: usize,
+        stride_a: usize,
+        stride_b: usize,
+        depth: u32,
+        sq_err: *mut f64,
+        n: *mut u64,
+        sample_max: *mut u32,
+    ) -> u8;
+}
+
+/// What is left at the three places: the error's bits, n, sample_max.
+type Left = (u64, u64, u32);
+
+/// What they hold before a call, and must hold after a refusal.
+const BEFORE: Left = (0x7FF4_DEAD_BEEF_0001, 0x0123_4567_89AB_CDEF, 0xFEED_F00D);
+
+pub fn compare(ask: Run) -> bool {
+    let cases = if ask.full { 2_000_000 } else { 250_000 };
+    run("squared", &mut Errors { listed: listed() }, cases, ask) && (!ask.full || largest())
+}
+
+struct Errors {
+    listed: Vec<Pair>,
+}
+
+impl Family for Errors {
+    type Case = Pair;
+
+    fn case(&self, number: u64, r: &mut Random) -> Pair {
+        match self.listed.get(number as usize) {
+            Some(pair) => pair.clone(),
+            None if r.once_in(4) => Pair::of(&plane::any(r, 0)),
+            None => {
+                let (width, height) = sides(r);
+                sound(r, width, height)
+            }
+        }
+    }
+
+    fn judge(&mut self, p: &Pair) -> Result<u8, String> {
+        let (answer, left) = if p.wide {
+            p.lend(|s| s, |a, b| asked(fuavelino_squared_error16, p, a, b))?
+        } else {
+            p.lend(|s| s as u8, |a, b| asked(fuavelino_squared_error8, p, a, b))?
+        };
+        let wanted = match p.refusal(0) {
+            0 if p.wide => (0, record(&p.unpadded(|s| s), p.depth)),
+            0 => (0, record(&p.unpadded(|s| s as u8), p.depth)),
+            refused => (refused, BEFORE),
+        };
+        if (answer, left) == wanted {
+            return Ok(answer);
+        }
+        let error = |bits: u64| f64::from_bits(bits);
+        let (now, then) = (left, wanted.1);
+        Err(format!(
+            "answered {} and left {} ({:#018X}) {} {}, not {} and {} ({:#018X}) {} {}",
+            answer, error(now.0), now.0, now.1, now.2, wanted.0, error(then.0), then.0, then.1, then.2
+        ))
+    }
+
+    fn smaller(&self, p: &Pair) -> Vec<Pair> {
+        p.smaller()
+    }
+
+    fn show(&self, p: &Pair) -> String {
+        p.show()
+    }
+
+    fn answers(&self) -> Vec<u8> {
+        vec![0, 1, 2, 4, 5, 6]
+    }
+}
+
+fn asked<T>(call: Call<T>, p: &Pair, a: &[T], b: &[T]) -> (u8, Left) {
+    let (mut error, mut n, mut max) = (f64::from_bits(BEFORE.0), BEFORE.1, BEFORE.2);
+    let (w, h, [s, t]) = (p.width, p.height, p.strides);
+    let (x, y) = (a.as_ptr(), b.as_ptr());
+    let answer = unsafe { call(x, a.len(), y, b.len(), w, h, s, t, p.depth, &mut error, &mut n, &mut max) };
+    (answer, (error.to_bits(), n, max))
+}
+
+fn record<T: Pixel>(planes: &[Plane<T>; 2], depth: u32) -> Left {
+    let (error, n, max) = psnr::probe_record(&planes[0], &planes[1], depth as usize);
+    (error.to_bits(), n as u64, max as u32)
+}
+
+fn sides(r: &mut Random) -> (usize, usize) {
+    match r.below(200) {
+        0 => (r.within(8_190, 8_192), r.within(1, 3)),
+        1 => (r.within(1, 3), r.within(8_190, 8_192)),
+        2 => (r.within(100, 300), r.within(50, 200)),
+        3..=40 => (r.within(1, 64), r.within(1, 64)),
+        41..=80 => (r.within(1, 4), r.within(1, 4)),
+        _ => (r.within(1, 16), r.within(1, 16)),
+    }
+}
+
+/// Sides at their limits and one past them, at every depth; the largest error of each.
+fn listed() -> Vec<Pair> {
+    let mut r = Random::of(0, "squared error, listed", 0);
+    let mut list = Vec::new();
+    for depth in 1..=12u32 {
+        for (width, height) in [(1, 1), (8_192, 1), (1, 8_192), (8_191, 2), (2, 8_191), (8_193, 1), (1, 8_193)] {
+            list.push(sound_of(&mut r, depth, width, height));
+        }
+        let max = (1 << depth) - 1;
+        list.push(Pair::plain(depth, 64, [vec![max; 64 * 48], vec![0; 64 * 48]]));
+        list.push(Pair::plain(depth, 64, [vec![0; 64 * 48], vec![max; 64 * 48]]));
+    }
+    list
+}
+
+/// The largest planes of the largest error that there is, accepted and exact.
+fn largest() -> bool {
+    const SIDE: usize = 8_192;
+    let (a, b) = (vec![4_095u16; SIDE * SIDE], vec![0u16; SIDE * SIDE]);
+    let shape = Pair { wide: true, depth: 12, width: SIDE, height: SIDE, strides: [SIDE; 2], samples: [vec![], vec![]] };
+    let (answer, left) = asked(fuavelino_squared_error16, &shape, &a, &b);
+    let exact = 4_095 * 4_095 * (SIDE * SIDE) as u64;
+    let published = record(&[Plane::new(a, SIDE, SIDE), Plane::new(b, SIDE, SIDE)], 12);
+    let held = answer == 0 && left == published && f64::from_bits(left.0) as u64 == exact;
+    let word = if held { "accepted and exact" } else { "FAILED" };
+    println!("squared: 8,192 by 8,192 at depth 12 with the largest error, {}: {}, {:?}", exact, word, left);
+    held
+}

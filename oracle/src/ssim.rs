@@ -1,0 +1,351 @@
+//! SSIM of both widths: the published pair of the unpadded copies, the rules' refusals, and what is left in the scratch.
+
+use crate::family::{run, Family, Run};
+use crate::plane::{self, less};
+use crate::random::Random;
+use crate::samples::{sound, Pair};
+use crate::ssim_ways;
+use published::video::ssim;
+
+/// The call of one width.
+type Call<T> = unsafe extern "C" fn(
+    a: *const T,
+    a_len: usize,
+    b: *const T,
+    b_len: usize,
+    width: usize,
+    height: usize,
+    stride_a: usize,
+    stride_b: usize,
+    depth: u32,
+    kernel: *const u16,
+    kernel_len: usize,
+    scratch: *mut i64,
+    scratch_len: usize,
+    ssim: *mut f64,
+    cs: *mut f64,
+) -> u8;
+
+extern "C" {
+    fn fuavelino_ssim8(
+        a: *const u8,
+        a_len: usize,
+        b: *const u8,
+        b_len: usize,
+        width: usize,
+        height: usize,
+        stride_a: usize,
+        stride_b: usize,
+        depth: u32,
+        kernel: *const u16,
+        kernel_len: usize,
+        scratch: *mut i64,
+        scratch_len: usize,
+        ssim: *mut f64,
+        cs: *mut f64,
+    ) -> u8;
+    fn fuavelino_ssim16(
+        a: *const u16,
+        a_len: usize,
+        b: *const u16,
+        b_len: usize,
+        width: usize,
+        height: usize,
+        stride_a: usize,
+        stride_b: usize,
+        depth: u32,
+        kernel: *const u16,
+        kernel_len: usize,
+        scratch: *mut i64,
+        scratch_len: usize,
+        ssim: *mut f64,
+        cs: *mut f64,
+    ) -> u8;
+}
+
+/// What the two places hold before a call, and must hold after a refusal.
+const BEFORE: [u64; 2] = [0x7FF4_DEAD_BEEF_0001, 0xFFF4_DEAD_BEEF_0002];
+/// Random cases lend no more scratch than this.
+const ROOM: u128 = 400_000;
+
+pub fn compare(ask: Run) -> bool {
+    let cases = if ask.full { 1_000_000 } else { 100_000 };
+    let telling = match ssim_ways::telling() {
+        Ok(list) => list,
+        Err(why) => {
+            println!("ssim: FAILED: {}", why);
+            return false;
+        }
+    };
+    println!("ssim: {} kept pairs tell the published grouping from others", telling.len());
+    let kept = telling.into_iter().map(|(pair, kernel)| exact(pair, kernel)).collect();
+    run("ssim", &mut Pairs { listed: [kept, listed()].concat() }, cases, ask)
+}
+
+/// What is asked. The scratch is filled with noise that the seed gives.
+#[derive(Clone)]
+struct Case {
+    pair: Pair,
+    kernel: Vec<u16>,
+    places: usize,
+    seed: u64,
+}
+
+struct Pairs {
+    listed: Vec<Case>,
+}
+
+impl Family for Pairs {
+    type Case = Case;
+
+    fn case(&self, number: u64, r: &mut Random) -> Case {
+        match self.listed.get(number as usize) {
+            Some(case) => case.clone(),
+            None => any(r),
+        }
+    }
+
+    fn judge(&mut self, c: &Case) -> Result<u8, String> {
+        let mut scratch: Vec<i64> = (0..c.places).map(|i| noise(c.seed, i)).collect();
+        let (answer, left) = if c.pair.wide {
+            c.pair.lend(|s| s, |a, b| asked(fuavelino_ssim16, c, &mut scratch, a, b))?
+        } else {
+            c.pair.lend(|s| s as u8, |a, b| asked(fuavelino_ssim8, c, &mut scratch, a, b))?
+        };
+        let (wanted, then) = model(c);
+        if (answer, left) != (wanted, then) {
+            let show = |bits: [u64; 2]| bits.map(|b| format!("{} ({:#018X})", f64::from_bits(b), b)).join(" ");
+            return Err(format!("answered {} and left {}, not {} and {}", answer, show(left), wanted, show(then)));
+        }
+        let cleared = if wanted == 0 || wanted == 9 { needed(c) as usize } else { 0 };
+        let right = |i: usize| if i < cleared { 0 } else { noise(c.seed, i) };
+        match (0..c.places).find(|i| scratch[*i] != right(*i)) {
+            Some(i) => Err(format!("left {} at {} of the scratch, of which {} are needed", scratch[i], i, needed(c))),
+            None => Ok(answer),
+        }
+    }
+
+    fn smaller(&self, c: &Case) -> Vec<Case> {
+        let sizes = |next: &Case| (needed(next), needed(c));
+        let moved = |mut next: Case| {
+            // as much over or short of the need as before
+            let (now, was) = sizes(&next);
+            next.places = (c.places as u128 + now).saturating_sub(was) as usize;
+            next
+        };
+        let pairs = c.pair.smaller().into_iter().map(|pair| Case { pair, ..c.clone() });
+        let kernels = smaller_kernels(&c.kernel).into_iter().map(|kernel| Case { kernel, ..c.clone() });
+        let mut list: Vec<Case> = pairs.chain(kernels).filter(|next| sizes(next).0 <= sizes(next).1).map(moved).collect();
+        let exact = needed(c).min(c.places as u128) as usize;
+        list.extend(less(c.places).into_iter().chain([exact]).filter(|n| *n < c.places).map(|places| Case { places, ..c.clone() }));
+        list
+    }
+
+    fn show(&self, c: &Case) -> String {
+        format!("SSIM of {}\n    kernel {:?}, {} places of scratch", c.pair.show(), c.kernel, c.places)
+    }
+
+    fn answers(&self) -> Vec<u8> {
+        vec![0, 1, 2, 4, 5, 6, 7, 8]
+    }
+}
+
+/// Never 0, and another at each place.
+fn noise(seed: u64, at: usize) -> i64 {
+    ((seed ^ at as u64).wrapping_mul(0x9E37_79B9_7F4A_7C15) | 1) as i64
+}
+
+fn asked<T>(call: Call<T>, c: &Case, scratch: &mut [i64], a: &[T], b: &[T]) -> (u8, [u64; 2]) {
+    let [mut ssim, mut cs] = BEFORE.map(f64::from_bits);
+    let (w, h, [s, t]) = (c.pair.width, c.pair.height, c.pair.strides);
+    let (x, y, k) = (a.as_ptr(), b.as_ptr(), &c.kernel);
+    let (room, places) = (scratch.as_mut_ptr(), scratch.len());
+    let answer = unsafe {
+        call(x, a.len(), y, b.len(), w, h, s, t, c.pair.depth, k.as_ptr(), k.len(), room, places, &mut ssim, &mut cs)
+    };
+    (answer, [ssim.to_bits(), cs.to_bits()])
+}
+
+/// The answer, and what the two places hold after it.
+fn model(c: &Case) -> (u8, [u64; 2]) {
+    let refused = match c.pair.refusal(0) {
+        0 if !lawful(&c.kernel) => 7,
+        0 if (c.places as u128) < needed(c) => 8,
+        refused => refused,
+    };
+    if refused > 0 {
+        return (refused, BEFORE);
+    }
+    let (ssim, cs) = published(&c.pair, &c.kernel);
+    if ssim.is_finite() && cs.is_finite() {
+        (0, [ssim.to_bits(), cs.to_bits()])
+    } else {
+        (9, BEFORE)
+    }
+}
+
+/// The published pair of planes and a kernel that are not refused.
+pub fn published(pair: &Pair, kernel: &[u16]) -> (f64, f64) {
+    let [a, b] = pair.visible().map(|list| list.into_iter().map(u32::from).collect::<Vec<u32>>());
+    let kernel: Vec<i64> = kernel.iter().map(|t| i64::from(*t)).collect();
+    ssim::probe_pair(&a, &b, pair.width, pair.height, pair.max() as u64, &kernel)
+}
+
+/// Whether a lent kernel is lawful.
+fn lawful(taps: &[u16]) -> bool {
+    let sum: u64 = taps.iter().map(|t| u64::from(*t)).sum();
+    let mirrored = taps.iter().eq(taps.iter().rev());
+    let counts = taps.len() % 2 == 1 && taps.len() <= 255;
+    counts && taps.iter().all(|t| *t <= 256) && sum == 256 && mirrored && taps[taps.len() / 2] > 0
+}
+
+/// The places of scratch that the call needs.
+fn needed(c: &Case) -> u128 {
+    6 * c.pair.width as u128 * c.kernel.len().next_power_of_two() as u128
+}
+
+fn exact(pair: Pair, kernel: Vec<u16>) -> Case {
+    let case = Case { pair, kernel, places: 0, seed: 0x5EED };
+    Case { places: needed(&case) as usize, ..case }
+}
+
+/// With fewer taps, or with taps moved to the middle: lawful ones stay lawful.
+fn smaller_kernels(taps: &[u16]) -> Vec<Vec<u16>> {
+    let mut list = Vec::new();
+    if taps.len() > 2 {
+        let mut inner = taps[1..taps.len() - 1].to_vec();
+        let middle = inner.len() / 2;
+        inner[middle] = inner[middle].wrapping_add(taps[0]).wrapping_add(taps[taps.len() - 1]);
+        list.push(inner);
+    }
+    for i in (0..taps.len() / 2).filter(|i| taps[*i] > 0) {
+        let mut next = taps.to_vec();
+        let (middle, mirror) = (taps.len() / 2, taps.len() - 1 - i);
+        next[middle] = next[middle].wrapping_add(next[i]).wrapping_add(next[mirror]);
+        next[i] = 0;
+        next[mirror] = 0;
+        list.push(next);
+    }
+    list
+}
+
+/// Some large ones, the longest kernels, and kernels on both sides of each rule.
+fn listed() -> Vec<Case> {
+    let mut r = Random::of(0, "ssim, listed", 0);
+    let mut list = Vec::new();
+    let long = [vec![1; 127], vec![2], vec![1; 127]].concat();
+    let ends = [vec![1], vec![0; 126], vec![254], vec![0; 126], vec![1]].concat();
+    for (width, height) in [(1, 1), (3, 2), (130, 70), (400, 3), (3, 400), (320, 180)] {
+        for kernel in [&long, &ends, &vec![256], &vec![0, 256, 0], &vec![127, 2, 127]] {
+            list.push(exact(sound(&mut r, width, height), kernel.clone()));
+        }
+    }
+    list.push(exact(sound(&mut r, 8_192, 2), long));
+    for kernel in unlawful() {
+        list.push(exact(sound(&mut r, 5, 4), kernel));
+    }
+    list
+}
+
+fn unlawful() -> Vec<Vec<u16>> {
+    let far = [vec![1], vec![0; 127], vec![254], vec![0; 127], vec![1]].concat();
+    let ones = [vec![1; 128], vec![0], vec![1; 128]].concat();
+    let mut list: Vec<Vec<u16>> = vec![vec![], far, ones, vec![0; 255], vec![257; 255]];
+    list.extend([vec![0], vec![255], vec![257], vec![512], vec![65_535], vec![128, 128], vec![0, 256], vec![64, 64, 64, 64]]);
+    list.extend([[128, 0, 128], [64, 127, 64], [64, 129, 64], [63, 128, 65], [65, 128, 63], [256, 0, 0], [0, 0, 256]].map(|k| k.to_vec()));
+    // these come to 256 where sums or taps are kept in too few bits
+    list.extend([[65_535, 258, 65_535], [32_768, 256, 32_768], [256, 256, 256], [0, 512, 0], [32_896, 0, 32_896]].map(|k| k.to_vec()));
+    list.extend([[1, 2, 250, 2, 2], [1, 2, 249, 3, 1], [100, 28, 0, 28, 100]].map(|k| k.to_vec()));
+    list
+}
+
+fn any(r: &mut Random) -> Case {
+    let pair = if r.once_in(6) {
+        Pair::of(&plane::any(r, 0))
+    } else {
+        let (width, height) = sides(r);
+        sound(r, width, height)
+    };
+    let kernel = match r.below(16) {
+        0 => spoilt(r, &pair),
+        1..=4 => gaussian(r, &pair),
+        _ => kernel(r, &pair),
+    };
+    let case = Case { pair, kernel, places: 0, seed: r.next() };
+    let need = needed(&case).min(ROOM) as usize;
+    let over = r.within(1, 40);
+    let list = [need, need, need + 1, need + over, need.saturating_sub(1), need.saturating_sub(over), need / 2, 0];
+    let places = if r.once_in(8) { r.pick(&list) } else { r.pick(&list[..4]) };
+    Case { places, ..case }
+}
+
+fn sides(r: &mut Random) -> (usize, usize) {
+    match r.below(500) {
+        0 => (r.within(100, 200), r.within(60, 120)),
+        1 => (r.within(200, 2_000), r.within(1, 4)),
+        2 => (r.within(1, 4), r.within(200, 2_000)),
+        3 => (r.within(8_190, 8_192), r.within(1, 2)),
+        4..=80 => (r.within(1, 64), r.within(1, 48)),
+        81..=200 => (r.within(1, 4), r.within(1, 4)),
+        201..=300 => (r.within(1, 24), r.within(1, 24)),
+        _ => (r.within(1, 12), r.within(1, 12)),
+    }
+}
+
+/// The most taps on one side that scratch of a fair size suffices for.
+fn reach(pair: &Pair) -> usize {
+    match pair.width {
+        0..=256 => 127,
+        257..=2_048 => 15,
+        _ => 3,
+    }
+}
+
+/// A lawful kernel: 256 shared out in pairs, and the rest in the middle.
+fn kernel(r: &mut Random, pair: &Pair) -> Vec<u16> {
+    let most = reach(pair);
+    let most = r.pick(&[1, 2, 4, 7, 20, 127]).min(most);
+    let half = r.below(most + 1);
+    let mut side = vec![0; half];
+    let share = r.within(0, 127);
+    for _ in 0..if half > 0 { r.pick(&[share, 127]) } else { 0 } {
+        // the sum of two leans to the middle, so that not all is even
+        let at = if r.once_in(2) { r.below(half) } else { (r.below(half) + r.below(half)) / 2 };
+        side[at] += 1;
+    }
+    let middle = 256 - 2 * side.iter().sum::<u16>();
+    let other: Vec<u16> = side.iter().rev().copied().collect();
+    [side, vec![middle], other].concat()
+}
+
+/// One as the published code builds them, of any width.
+fn gaussian(r: &mut Random, pair: &Pair) -> Vec<u16> {
+    let sigma = r.within(1, 400) as f64 / 32.0;
+    let side = pair.width.min(pair.height).clamp(1, reach(pair) + 1);
+    let most = r.pick(&[side, reach(pair) + 1]);
+    let taps = ssim::probe_kernel(sigma, most, 256);
+    let taps: Vec<u16> = taps.into_iter().map(|t| t.clamp(0, 65_535) as u16).collect();
+    if lawful(&taps) {
+        taps
+    } else {
+        kernel(r, pair)
+    }
+}
+
+/// A lawful kernel with one thing changed, or one of the listed.
+fn spoilt(r: &mut Random, pair: &Pair) -> Vec<u16> {
+    let mut taps = kernel(r, pair);
+    let at = r.below(taps.len());
+    let middle = taps.len() / 2;
+    match r.below(8) {
+        0 => taps.truncate(at),
+        1 => taps.push(0),
+        2 => taps[at] = taps[at].wrapping_add(1),
+        3 => taps[at] = taps[at].wrapping_sub(1),
+        4 => taps.swap(at, middle),
+        5 => taps[at] = r.next() as u16,
+        6 => taps[middle] = 0,
+        _ => taps = r.pick(&unlawful().iter().collect::<Vec<_>>()).clone(),
+    }
+    taps
+}
