@@ -156,10 +156,10 @@ fn similar_asks(wide: bool) -> Vec<Similar> {
     ]
 }
 
-/// Rows of 14: as `squared` up to the planes, then where the kernel begins and ends, the places of scratch, the answer; and beside
-/// them two numbers to a row, ssim and cs, 0 where it is refused.
-pub fn similar(samples: &Samples) -> (Vec<usize>, Vec<f64>) {
-    let (mut rows, mut scores) = (Vec::new(), Vec::new());
+/// Rows of 14: as `squared` up to the planes, then where the kernel begins and ends, the places of scratch, the answer. Then the
+/// ssim of each row and the cs of each, 0 where it is refused.
+pub fn similar(samples: &Samples) -> (Vec<usize>, Vec<f64>, Vec<f64>) {
+    let (mut rows, mut ssims, mut css) = (Vec::new(), Vec::new(), Vec::new());
     for (ask, kernel, scratch) in [false, true].into_iter().flat_map(similar_asks) {
         let begins: usize = KERNELS[..kernel].iter().map(|k| k.len()).sum();
         let kernel = KERNELS[kernel];
@@ -167,9 +167,10 @@ pub fn similar(samples: &Samples) -> (Vec<usize>, Vec<f64>) {
         rows.extend(ask.row());
         rows.extend([begins, begins + kernel.len(), scratch, usize::from(no)]);
         let (ssim, cs) = if no == 0 { pair(samples, &ask, kernel) } else { (0.0, 0.0) };
-        scores.extend([ssim, cs]);
+        ssims.push(ssim);
+        css.push(cs);
     }
-    (rows, scores)
+    (rows, ssims, css)
 }
 
 pub fn kernels() -> Vec<u16> {
@@ -180,7 +181,8 @@ pub fn kernels() -> Vec<u16> {
 fn similar_refusal(planes: u8, kernel: &[u16], scratch: usize, width: usize) -> u8 {
     let turned: Vec<u16> = kernel.iter().rev().copied().collect();
     let sum: u32 = kernel.iter().map(|tap| u32::from(*tap)).sum();
-    let lawful = kernel.len() % 2 == 1 && kernel.len() <= 255 && sum == 256 && turned == kernel && kernel[kernel.len() / 2] >= 1;
+    let lawful =
+        kernel.len() % 2 == 1 && kernel.len() <= 255 && sum == 256 && turned == kernel && kernel[kernel.len() / 2] >= 1;
     match (planes, lawful) {
         (0, false) => 7,
         (0, true) => u8::from(scratch < 6 * width * kernel.len().next_power_of_two()) * 8,

@@ -37,8 +37,8 @@ fn main() {
 }
 
 fn transforms(seed: u64) {
-    println!("// Transforms, 130 numbers each: the inverse (1) or forward (0), the answer, 64 numbers, and the 64 that they become, 0 where");
-    println!("// they are refused.");
+    println!("// Transforms, 130 numbers each: the inverse (1) or forward (0), the answer, 64 numbers, and the 64 that they become,");
+    println!("// 0 where they are refused.");
     list("TRANSFORMS", "i32", words(scored::transforms(seed)));
 }
 
@@ -48,15 +48,19 @@ fn planes(samples: &Samples) {
     list("BYTES", "u8", words(&samples.bytes));
     list("WORDS", "u16", words(&samples.words));
     println!("// Squared errors, 14 numbers each: words (1) or bytes (0), depth, width, height; then of each plane its stride and where");
-    println!("// it begins and ends; then the answer and, where it is 0, the error, the count of samples and their largest.");
+    println!(
+        "// it begins and ends; then the answer and, where it is 0, the error, the count of samples and their largest."
+    );
     list("SQUARED", "usize", words(scored::squared(samples)));
     println!("// The taps of the kernels below.");
     list("TAPS", "u16", words(scored::kernels()));
     println!("// SSIM, 14 numbers each: as above up to the planes; then where the kernel begins and ends, the places of scratch, the");
-    println!("// answer. Beside them for each its ssim and cs, 0 where it is refused.");
-    let (rows, scores) = scored::similar(samples);
+    println!("// answer. Then the ssim of each, and the cs of each, 0 where it is refused.");
+    let (rows, ssims, css) = scored::similar(samples);
     list("SIMILAR", "usize", words(rows));
-    list("SCORES", "f64", scores.iter().map(|score| number(score.to_bits())).collect());
+    for (name, scores) in [("SSIMS", ssims), ("CSS", css)] {
+        list(name, "f64", scores.iter().map(|score| number(score.to_bits())).collect());
+    }
 }
 
 fn words<T: ToString>(numbers: impl IntoIterator<Item = T>) -> Vec<String> {

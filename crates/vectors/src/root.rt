@@ -6,7 +6,7 @@ use number::Rooted;
 // The refusal of a root.
 const VALUE: u8 = 12;
 
-fn root_is(x: f64, root: f64) -> bool {
+pub fn root_is(x: f64, root: f64) -> bool {
     match number::root(x) {
         Rooted::Root(r) => tell::same(r, root),
         Rooted::Refused(_) => false,

@@ -24,23 +24,24 @@ fn ask8(row: &[usize; 14], bytes: &[u8]) -> SquaredError {
     )
 }
 
+// The same of words, in two steps: the proof of one part of a list at a time is short. No table has 4096 words.
 fn ask16(row: &[usize; 14], words: &[u16]) -> SquaredError {
     let i = row[5];
     let j = row[6];
-    let k = row[8];
-    let l = row[9];
-    if i > j || j > words.len() || k > l || l > words.len() {
+    if i > 4096 || i > j || j > words.len() {
         return SquaredError::Refused(255);
     }
-    psnr::squared_error16(
-        &words[i..j],
-        &words[k..l],
-        row[2],
-        row[3],
-        row[4],
-        row[7],
-        tell::depth_of(row[1]),
-    )
+    beside16(row, &words[i..j], words)
+}
+
+fn beside16(row: &[usize; 14], a: &[u16], words: &[u16]) -> SquaredError {
+    let i = row[8];
+    let j = row[9];
+    if i > 4096 || i > j || j > words.len() {
+        return SquaredError::Refused(255);
+    }
+    let depth = tell::depth_of(row[1]);
+    psnr::squared_error16(a, &words[i..j], row[2], row[3], row[4], row[7], depth)
 }
 
 fn record_is(r: Record, row: &[usize; 14]) -> bool {

@@ -2121,8 +2121,8 @@ pub const CHECKS: [usize; 1764] = [
     0,
 ];
 
-// Transforms, 130 numbers each: the inverse (1) or forward (0), the answer, 64 numbers, and the 64 that they become, 0 where
-// they are refused.
+// Transforms, 130 numbers each: the inverse (1) or forward (0), the answer, 64 numbers, and the 64 that they become,
+// 0 where they are refused.
 pub const TRANSFORMS: [i32; 650] = [
     0,
     0,
@@ -3255,7 +3255,7 @@ pub const TAPS: [u16; 22] = [
 ];
 
 // SSIM, 14 numbers each: as above up to the planes; then where the kernel begins and ends, the places of scratch, the
-// answer. Beside them for each its ssim and cs, 0 where it is refused.
+// answer. Then the ssim of each, and the cs of each, 0 where it is refused.
 pub const SIMILAR: [usize; 308] = [
     0,
     8,
@@ -3567,46 +3567,49 @@ pub const SIMILAR: [usize; 308] = [
     5,
 ];
 
-pub const SCORES: [f64; 44] = [
+pub const SSIMS: [f64; 22] = [
     2.931506605596055e-1,
-    3.005251184507611e-1,
     2.962598765882289e-1,
-    3.020316409404353e-1,
-    1.0e0,
     1.0e0,
     3.0955816222825823e-3,
-    -2.9957016920362667e-1,
     6.386687784131913e-1,
-    7.024703158673876e-1,
     6.398462773112199e-1,
-    1.0e0,
-    0.0e0,
-    0.0e0,
-    0.0e0,
-    0.0e0,
-    0.0e0,
     0.0e0,
     0.0e0,
     0.0e0,
     0.0e0,
     0.0e0,
     -3.5479150032352436e-1,
-    -3.703663481068722e-1,
     -3.752329480486298e-1,
-    -3.970492371687462e-1,
-    1.0e0,
     1.0e0,
     2.576264019968971e-1,
-    4.4171873488906527e-1,
     -3.2088538220749263e-1,
-    -4.4855594430634205e-1,
     5.629860764780468e-1,
+    0.0e0,
+    0.0e0,
+    0.0e0,
+    0.0e0,
+    0.0e0,
+];
+
+pub const CSS: [f64; 22] = [
+    3.005251184507611e-1,
+    3.020316409404353e-1,
+    1.0e0,
+    -2.9957016920362667e-1,
+    7.024703158673876e-1,
     1.0e0,
     0.0e0,
     0.0e0,
     0.0e0,
     0.0e0,
     0.0e0,
+    -3.703663481068722e-1,
+    -3.970492371687462e-1,
+    1.0e0,
+    4.4171873488906527e-1,
+    -4.4855594430634205e-1,
+    1.0e0,
     0.0e0,
     0.0e0,
     0.0e0,
