@@ -1,4 +1,4 @@
--- `vectors::transform::transforms` is safe and ends: the place stays within the list, and no more is right than was passed. Assumes nothing.
+-- `vectors::transform::transforms` is safe and ends: the place stays within the list, no more is right than was passed. Assumes nothing.
 use Prim.Native.Nat.{_≤_, _-_}
 use native.Mathlib.Omega.{arith}
 use borrow.Author.Needs.{needs}
