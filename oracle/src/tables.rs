@@ -1,14 +1,17 @@
 //! Writes the table that the program `vectors` replays, as Rattle source: tables [SEED]
 //!
-//! Roots are the processor's, refusals of planes are the model's.
+//! Roots are the processor's, refusals of planes are the model's, scores and transforms the published Rust's.
 
 #![allow(dead_code)] // it uses a part of what it shares with the judge
 
+mod lifting;
 mod model;
 mod random;
+mod scored;
 
 use model::{Check, Plane};
 use random::Random;
+use scored::Samples;
 
 /// The program's planes hold this many samples; a sample set at this place is none.
 const ROOM: usize = 4_096;
@@ -28,7 +31,40 @@ fn main() {
     println!("// Checks of two planes, 14 numbers each: words (1) or bytes (0), depth, width, height, least side; then of each");
     println!("// plane its stride, its length, and place and value of one sample (the others are 0; at place 4096 none is set);");
     println!("// then the answer.");
-    list("CHECKS", "usize", checks.iter().flat_map(row).map(|n| n.to_string()).collect());
+    list("CHECKS", "usize", words(checks.iter().flat_map(row)));
+    transforms(seed);
+    planes(&Samples::new(seed));
+}
+
+fn transforms(seed: u64) {
+    println!("// Transforms, 130 numbers each: the inverse (1) or forward (0), the answer, 64 numbers, and the 64 that they become,");
+    println!("// 0 where they are refused.");
+    list("TRANSFORMS", "i32", words(scored::transforms(seed)));
+}
+
+/// Squared errors and SSIM, and what both read.
+fn planes(samples: &Samples) {
+    println!("// The samples of the planes below.");
+    list("BYTES", "u8", words(&samples.bytes));
+    list("WORDS", "u16", words(&samples.words));
+    println!("// Squared errors, 14 numbers each: words (1) or bytes (0), depth, width, height; then of each plane its stride and where");
+    println!(
+        "// it begins and ends; then the answer and, where it is 0, the error, the count of samples and their largest."
+    );
+    list("SQUARED", "usize", words(scored::squared(samples)));
+    println!("// The taps of the kernels below.");
+    list("TAPS", "u16", words(scored::kernels()));
+    println!("// SSIM, 14 numbers each: as above up to the planes; then where the kernel begins and ends, the places of scratch, the");
+    println!("// answer. Then the ssim of each, and the cs of each, 0 where it is refused.");
+    let (rows, ssims, css) = scored::similar(samples);
+    list("SIMILAR", "usize", words(rows));
+    for (name, scores) in [("SSIMS", ssims), ("CSS", css)] {
+        list(name, "f64", scores.iter().map(|score| number(score.to_bits())).collect());
+    }
+}
+
+fn words<T: ToString>(numbers: impl IntoIterator<Item = T>) -> Vec<String> {
+    numbers.into_iter().map(|n| n.to_string()).collect()
 }
 
 fn list(name: &str, kind: &str, words: Vec<String>) {

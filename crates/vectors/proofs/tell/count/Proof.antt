@@ -1,11 +1,11 @@
--- `vectors::rootless` is safe and ends: the place stays within the list, and no more is right than was passed. Assumes nothing.
+-- `vectors::tell::count` is safe and ends: the place stays within the list, and no more is right than was passed. Assumes nothing.
 use Prim.Native.Nat.{_≤_, _-_}
 use native.Mathlib.Omega.{arith}
 use borrow.Author.Needs.{needs}
 use lib.ListN.{length}
 use mathlib.Core.Logic.{⊎-elim}
-use Rattle.vectors.proofs.rootless.Statement.{statement}
-use Rattle.vectors.proofs.rootless.Tie as tie
+use Rattle.vectors.proofs.tell.count.Statement.{statement}
+use Rattle.vectors.proofs.tell.count.Tie as tie
 
 abbrev Inv-loop : tie.InvT-loop
 Inv-loop list right₀ i₀ right i = (i ≤ length list) × (right ≤ i)
@@ -16,14 +16,8 @@ abbrev μ-loop : tie.MeasureT-loop
 loop-holds : tie.Need-loop-holds Inv-loop μ-loop
 loop-holds c = search needs
 
-mul-is-rootless : tie.Need-mul-is-rootless Inv-loop μ-loop
-mul-is-rootless c = search needs
-
-shared-slice-read-is-rootless : tie.Need-shared-slice-read-is-rootless Inv-loop μ-loop
-shared-slice-read-is-rootless c = search needs
-
-is-rootless-requires : tie.Need-is-rootless-requires Inv-loop μ-loop
-is-rootless-requires c κs = search needs
+shared-slice-read-if1 : tie.Need-shared-slice-read-if1 Inv-loop μ-loop
+shared-slice-read-if1 c = search needs
 
 add-right : tie.Need-add-right Inv-loop μ-loop
 add-right c = search needs
@@ -40,16 +34,14 @@ loop-again c = ⊎-elim (λ w. omega arith) (λ w. omega arith) (c .if1 .came)
 returns : tie.Need-returns Inv-loop μ-loop
 returns c = search needs
 
-pub rootless-spec : {M : Type 1} → statement M
-rootless-spec =
+pub count-spec : {M : Type 1} → statement M
+count-spec =
     tie.close
     (tie.spec
     Inv-loop
     μ-loop
     loop-holds
-    mul-is-rootless
-    shared-slice-read-is-rootless
-    is-rootless-requires
+    shared-slice-read-if1
     add-right
     add-i
     loop-less

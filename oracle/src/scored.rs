@@ -1,0 +1,228 @@
+//! The stored answers that the published Rust gives: transforms, squared errors and SSIM; refusals are the model's.
+
+use crate::lifting;
+use crate::model::{Lent, VALUE};
+use crate::random::Random;
+use published::plane::Plane;
+use published::video::{psnr, psnr_hvs, ssim};
+
+/// Kernels, one after the other as the table has them: lawful up to the fourth, then the forbidden ones.
+const KERNELS: [&[u16]; 7] =
+    [&[256], &[64, 128, 64], &[10, 60, 116, 60, 10], &[0, 1, 254, 1, 0], &[128, 0, 128], &[128, 128], &[64, 127, 64]];
+
+/// The program lends this many places of scratch at most.
+const SCRATCH: usize = 512;
+
+/// A part of the samples that all rows share, seen as a plane.
+#[derive(Clone, Copy)]
+struct View {
+    stride: usize,
+    from: usize,
+    end: usize,
+}
+
+#[derive(Clone, Copy)]
+struct Ask {
+    wide: bool,
+    depth: u32,
+    width: usize,
+    height: usize,
+    a: View,
+    b: View,
+}
+
+pub struct Samples {
+    pub bytes: Vec<u16>,
+    pub words: Vec<u16>,
+}
+
+impl Samples {
+    pub fn new(seed: u64) -> Samples {
+        let mut r = Random::of(seed, "samples", 0);
+        Samples { bytes: samples(&mut r, 255, 1), words: samples(&mut r, 4_095, 511) }
+    }
+
+    fn of(&self, wide: bool) -> &[u16] {
+        if wide {
+            &self.words
+        } else {
+            &self.bytes
+        }
+    }
+
+    /// The lowest of 1 to 6 that applies, or 0.
+    fn refusal(&self, ask: &Ask) -> u8 {
+        let planes = [ask.a, ask.b].map(|v| (v.stride, &self.of(ask.wide)[v.from..v.end]));
+        let Ask { wide, depth, width, height, .. } = *ask;
+        Lent { wide, depth, width, height, least: 0, planes }.refusal()
+    }
+
+    /// The visible samples, row after row.
+    fn visible(&self, ask: &Ask, v: View) -> Vec<u16> {
+        let list = &self.of(ask.wide)[v.from..v.end];
+        (0..ask.height).flat_map(|y| list[y * v.stride..][..ask.width].to_vec()).collect()
+    }
+}
+
+/// Document 01's three samples and three; four zeros and four of the largest; any; and any that suit the least depth.
+fn samples(r: &mut Random, max: u16, low: u16) -> Vec<u16> {
+    let mut list = vec![10, 20, 30, 13, 20, 26, 0, 0, 0, 0, max, max, max, max];
+    list.extend((0..46).map(|_| r.within(0, usize::from(max)) as u16));
+    list.extend((0..20).map(|_| r.within(0, usize::from(low)) as u16));
+    list
+}
+
+impl Ask {
+    fn row(&self) -> Vec<usize> {
+        let mut list = vec![usize::from(self.wide), self.depth as usize, self.width, self.height];
+        for v in [self.a, self.b] {
+            list.extend([v.stride, v.from, v.end]);
+        }
+        list
+    }
+}
+
+fn view(stride: usize, from: usize, end: usize) -> View {
+    View { stride, from, end }
+}
+
+/// Five by four, each plane with padding of its own, no sample past what is needed.
+fn padded(wide: bool) -> Ask {
+    let depth = if wide { 12 } else { 8 };
+    Ask { wide, depth, width: 5, height: 4, a: view(7, 14, 40), b: view(6, 30, 53) }
+}
+
+fn squared_asks(wide: bool) -> Vec<Ask> {
+    let ask = padded(wide);
+    let least = if wide { 9 } else { 1 };
+    let mut short = ask;
+    short.b.end -= 1;
+    let three = Ask { width: 3, height: 1, a: view(3, 0, 3), b: view(3, 3, 6), ..ask };
+    vec![
+        three,
+        Ask { b: ask.a, ..ask },
+        ask,
+        Ask { width: 4, height: 1, a: view(4, 6, 10), b: view(4, 10, 14), ..ask },
+        Ask { depth: least, height: 2, width: 4, a: view(6, 60, 70), b: view(5, 70, 80), ..ask },
+        Ask { depth: ask.depth + 1, ..ask },
+        Ask { width: 0, ..ask },
+        Ask { a: view(4, 14, 40), ..ask },
+        short,
+        Ask { depth: least, ..ask },
+    ]
+}
+
+/// Rows of 14: words (1) or bytes (0), depth, width, height; of each plane its stride, and where it begins and ends; the answer,
+/// and of an accepted one its squared error, its count of samples and their largest.
+pub fn squared(samples: &Samples) -> Vec<usize> {
+    let asks = [false, true].into_iter().flat_map(squared_asks);
+    asks.flat_map(|ask| {
+        let no = samples.refusal(&ask);
+        let (error, n, max) = if no == 0 { record(samples, &ask) } else { (0.0, 0, 0) };
+        let mut row = ask.row();
+        row.extend([usize::from(no), error as usize, n, max]);
+        row
+    })
+    .collect()
+}
+
+fn record(samples: &Samples, ask: &Ask) -> (f64, usize, usize) {
+    let [a, b] = [ask.a, ask.b].map(|v| Plane::new(samples.visible(ask, v), ask.width, ask.height));
+    psnr::probe_record(&a, &b, ask.depth as usize)
+}
+
+/// An SSIM to ask for, under the kernel of this number, with so many places of scratch.
+type Similar = (Ask, usize, usize);
+
+fn similar_asks(wide: bool) -> Vec<Similar> {
+    let ask = padded(wide);
+    let mut short = ask;
+    short.a.end -= 1;
+    let least = if wide { 9 } else { 1 };
+    let low = Ask { depth: least, height: 2, width: 4, a: view(6, 60, 70), b: view(5, 70, 80), ..ask };
+    let one = Ask { width: 2, height: 1, ..ask };
+    vec![
+        (ask, 1, 120),
+        (ask, 2, 240),
+        (Ask { b: ask.a, ..ask }, 1, SCRATCH),
+        (low, 3, 192),
+        (one, 2, 96),
+        (ask, 0, 30),
+        (ask, 4, SCRATCH),
+        (ask, 5, SCRATCH),
+        (ask, 6, SCRATCH),
+        (ask, 1, 119),
+        (short, 4, 0),
+    ]
+}
+
+/// Rows of 14: as `squared` up to the planes, then where the kernel begins and ends, the places of scratch, the answer. Then the
+/// ssim of each row and the cs of each, 0 where it is refused.
+pub fn similar(samples: &Samples) -> (Vec<usize>, Vec<f64>, Vec<f64>) {
+    let (mut rows, mut ssims, mut css) = (Vec::new(), Vec::new(), Vec::new());
+    for (ask, kernel, scratch) in [false, true].into_iter().flat_map(similar_asks) {
+        let begins: usize = KERNELS[..kernel].iter().map(|k| k.len()).sum();
+        let kernel = KERNELS[kernel];
+        let no = similar_refusal(samples.refusal(&ask), kernel, scratch, ask.width);
+        rows.extend(ask.row());
+        rows.extend([begins, begins + kernel.len(), scratch, usize::from(no)]);
+        let (ssim, cs) = if no == 0 { pair(samples, &ask, kernel) } else { (0.0, 0.0) };
+        ssims.push(ssim);
+        css.push(cs);
+    }
+    (rows, ssims, css)
+}
+
+pub fn kernels() -> Vec<u16> {
+    KERNELS.concat()
+}
+
+/// The planes' refusal before the kernel's, 7, before the scratch's, 8.
+fn similar_refusal(planes: u8, kernel: &[u16], scratch: usize, width: usize) -> u8 {
+    let turned: Vec<u16> = kernel.iter().rev().copied().collect();
+    let sum: u32 = kernel.iter().map(|tap| u32::from(*tap)).sum();
+    let lawful =
+        kernel.len() % 2 == 1 && kernel.len() <= 255 && sum == 256 && turned == kernel && kernel[kernel.len() / 2] >= 1;
+    match (planes, lawful) {
+        (0, false) => 7,
+        (0, true) => u8::from(scratch < 6 * width * kernel.len().next_power_of_two()) * 8,
+        _ => planes,
+    }
+}
+
+fn pair(samples: &Samples, ask: &Ask, kernel: &[u16]) -> (f64, f64) {
+    let [a, b] = [ask.a, ask.b].map(|v| samples.visible(ask, v).into_iter().map(u32::from).collect::<Vec<u32>>());
+    let taps: Vec<i64> = kernel.iter().map(|tap| i64::from(*tap)).collect();
+    ssim::probe_pair(&a, &b, ask.width, ask.height, (1 << ask.depth) - 1, &taps)
+}
+
+/// Rows of 130: the inverse (1) or forward (0), the answer, 64 numbers, and what they become: 64 zeros where they are refused.
+pub fn transforms(seed: u64) -> Vec<i32> {
+    let mut r = Random::of(seed, "transforms", 0);
+    let mut spike = [0; 64];
+    spike[9] = -4_095;
+    let any = [(); 64].map(|_| r.within(0, 8_190) as i32 - 4_095);
+    let mut list = Vec::new();
+    for block in [[8; 64], spike, any] {
+        transform_row(&mut list, 0, 0, &block, &forward(&block));
+    }
+    let coefs = forward(&any);
+    let back = lifting::inverse(&coefs);
+    assert_eq!(back, any);
+    transform_row(&mut list, 1, 0, &coefs, &back);
+    spike[9] = 4_096;
+    transform_row(&mut list, 0, VALUE, &spike, &[0; 64]);
+    list
+}
+
+fn transform_row(list: &mut Vec<i32>, back: i32, answer: u8, from: &[i32], to: &[i32]) {
+    list.extend([back, i32::from(answer)]);
+    list.extend(from);
+    list.extend(to);
+}
+
+fn forward(block: &[i32]) -> Vec<i32> {
+    let mut block = block.to_vec();
+    psnr_hvs::probe_forward(&mut block);
+    block
+}
