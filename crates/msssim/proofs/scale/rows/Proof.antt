@@ -35,7 +35,7 @@ add-end : tie.Need-add-end Inv-loop μ-loop
 add-end c = omega (arith, side-small, taps-room)
 
 loop-holds : tie.Need-loop-holds Inv-loop μ-loop
-loop-holds c = (search needs, refl, c .before .before .before .before .before .pre .1 .0, sym (totals-none _ _ _ _ _ _))
+loop-holds c = (search needs, refl, c .before .before .before .pre .1 .0, sym (totals-none _ _ _ _ _ _))
 
 mul-fill32 : tie.Need-mul-fill32 Inv-loop μ-loop
 mul-fill32 c = omega (arith, taps-room)
@@ -51,7 +51,7 @@ part-fill32-end c = omega arith
 
 fill32-requires : tie.Need-fill32-requires Inv-loop μ-loop
 fill32-requires c κs =
-    let s = c .before .before .before .before .before .before .before .before in
+    let s = c .before .before .before .before .before .before in
     let l = c .before .before .loop in
     let start = 5 * (length (now (s .args .kernel)) / 2) in
     let k = start + 5 * s .args .width - start in
@@ -59,11 +59,11 @@ fill32-requires c κs =
     (omega (arith, part-length start k (l .cols) room), (s .pre .1 .1 .0, (readable (s .pre .1 .1 .1 .1 .0) (omega arith), readable (s .pre .1 .1 .1 .1 .1) (omega arith))))
 
 weight-requires : tie.Need-weight-requires Inv-loop μ-loop
-weight-requires c κs = let s = c .before .before .before .before .before .before .before .before .before .before in (omega arith, (s .pre .1 .1 .0, s .pre .1 .1 .1 .0))
+weight-requires c κs = let s = c .before .before .before .before .before .before .before .before in (omega arith, (s .pre .1 .1 .0, s .pre .1 .1 .1 .0))
 
 centres-requires : tie.Need-centres-requires Inv-loop μ-loop
 centres-requires c κs =
-    let s = c .before .before .before .before .before .before .before .before .before .before .before .before in
+    let s = c .before .before .before .before .before .before .before .before .before .before in
     let f = c .before .before .before .fill32 in
     let l = c .before .before .before .before .before .before .loop in
     let start = 5 * (length (now (s .args .kernel)) / 2) in
@@ -95,7 +95,7 @@ loop-less c = search needs
 
 loop-again : tie.Need-loop-again Inv-loop μ-loop
 loop-again c =
-    let s = c .before .before .before .before .before .before .before .before .before .before .before .before .before in
+    let s = c .before .before .before .before .before .before .before .before .before .before .before in
     let f = c .before .before .before .before .fill32 in
     let l = c .before .before .before .before .before .before .before .loop in
     let start = 5 * (length (now (s .args .kernel)) / 2) in
@@ -119,7 +119,7 @@ same-length c = c .before .loop .inv .1
 
 returns : tie.Need-returns Inv-loop μ-loop
 returns c =
-    let e : c .before .loop .y ≡ c .before .before .before .before .before .before .before .args .height = omega arith in
+    let e : c .before .loop .y ≡ c .before .before .before .before .before .args .height = omega arith in
     rw e at (c .before .loop .inv .3)
 
 pub rows-spec : {M : Type 1} → statement M
