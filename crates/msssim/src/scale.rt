@@ -7,9 +7,9 @@ ghost use Rattle.number.specs.Steps as Steps;
 ghost use Rattle.plane.specs.Limits.{sideLimit};
 ghost use Rattle.plane.specs.Plane.{planeOf};
 ghost use Rattle.plane.specs.Sums.{sumTo};
-ghost use Rattle.window.specs.Kernel.{tap};
+ghost use Rattle.window.specs.Kernel.{tap, fixedKernel};
 ghost use Rattle.window.specs.Parts.{Kernel};
-ghost use Rattle.window.specs.Columns.{viewOf, mostSample};
+ghost use Rattle.window.specs.Columns.{viewOf, mostSample, columnsOf, Margins};
 ghost use Rattle.ssim.specs.Score.{totalsOf};
 ghost use Rattle.msssim.specs.Scale.{scaleOf, sumsOf, ssimOf, csOf, pairsFrom};
 ghost use Rattle.msssim.specs.Rooms.{Held};
@@ -30,7 +30,8 @@ fn rows(
     width: usize,
     height: usize,
 ) -> Totals
-    requires { ⌜ (width ≤ sideLimit) × (height ≤ sideLimit) × (5 * width ≤ length (now cols)) ⌝ }
+    requires { ⌜ (width ≤ sideLimit) × (height ≤ sideLimit) × (5 * columnsOf (now kernel) width ≤ length (now cols)) ⌝ }
+    requires { ⌜ Margins (now cols) (now kernel) width ⌝ }
     requires { ⌜ Kernel (now kernel) ⌝ }
     requires { ⌜ total ≡ sumTo (tap (now kernel)) (length (now kernel)) ⌝ }
     requires { ⌜ Held mostSample width height (now a) ⌝ }
@@ -38,22 +39,34 @@ fn rows(
     ensures { λ r. ⌜ r ≡ totalsOf max2 (now (kernel .entry)) width height (viewOf (planeOf (now (a .entry)) width))
         (viewOf (planeOf (now (b .entry)) width)) height ⌝ }
 {
+    let start = 5 * (kernel.len() / 2);
+    let end = start + 5 * width;
     let mut t = Totals {
         ssim: 0.0,
         cs: 0.0,
         ssimw: 0.0,
     };
     for y in 0..height {
-        window::columns32::fill32(cols, kernel, a, b, width, width, width, height, y);
+        window::columns32::fill32(
+            &mut cols[start..end],
+            kernel,
+            a,
+            b,
+            width,
+            width,
+            width,
+            height,
+            y,
+        );
         let down = window::row::weight(kernel, total, height, y);
         t = ssim::walk::centres(max2, t, kernel, total, cols, width, down);
     }
     t
 }
 
-// The sums over every centre of a scale, under the fixed kernel.
+// The sums over every centre of a scale, under the fixed kernel. What an earlier scale left in the margins is cleared first.
 fn sums(cols: &mut [i64], a: &[u32], b: &[u32], max: u32, width: usize, height: usize) -> Totals
-    requires { ⌜ (width ≤ sideLimit) × (height ≤ sideLimit) × (5 * width ≤ length (now cols)) × (max ≤ mostSample) ⌝ }
+    requires { ⌜ (width ≤ sideLimit) × (height ≤ sideLimit) × (5 * columnsOf fixedKernel width ≤ length (now cols)) × (max ≤ mostSample) ⌝ }
     requires { ⌜ Held max width height (now a) ⌝ }
     requires { ⌜ Held max width height (now b) ⌝ }
     ensures { λ r. ⌜ r ≡ sumsOf (scaleOf max width height (viewOf (planeOf (now (a .entry)) width))
@@ -61,6 +74,7 @@ fn sums(cols: &mut [i64], a: &[u32], b: &[u32], max: u32, width: usize, height: 
 {
     let kernel = [8u16, 37, 112, 218, 274, 218, 112, 37, 8];
     let max2 = ssim::score::squared(max);
+    ssim::walk::clear(cols);
     rows(cols, max2, &kernel, FIXED_TOTAL, a, b, width, height)
 }
 
@@ -85,7 +99,7 @@ pub fn scales(
     width: usize,
     height: usize,
 )
-    requires { ⌜ (width ≤ sideLimit) × (height ≤ sideLimit) × (5 * width ≤ length (now cols)) ⌝ }
+    requires { ⌜ (width ≤ sideLimit) × (height ≤ sideLimit) × (5 * columnsOf fixedKernel width ≤ length (now cols)) ⌝ }
     requires { ⌜ (length (now pairs) ≡ 2 * left) × (max * 4 ^ left ≤ 4 * mostSample) ⌝ }
     requires { ⌜ Held max width height (now a) ⌝ }
     requires { ⌜ Held max width height (now b) ⌝ }

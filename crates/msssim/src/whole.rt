@@ -6,6 +6,8 @@ ghost use lib.IntN.{pos};
 ghost use lib.ListN.{length, replicate};
 ghost use Rattle.plane.specs.Plane.{planeOf, samplesOf};
 ghost use Rattle.plane.specs.Lawful.{Accepted};
+ghost use Rattle.window.specs.Kernel.{fixedKernel};
+ghost use Rattle.window.specs.Columns.{columnsOf};
 ghost use Rattle.msssim.specs.Scale.{scaleCount, pairsFrom};
 ghost use Rattle.msssim.specs.Answer.{leastSide, roomOf, firstScale, scoreOf};
 use crate::MsSsim;
@@ -35,7 +37,7 @@ fn numbers(
 )
     requires { ⌜ Accepted wide (planeOf (samplesOf wide (now a8) (now a16)) «stride_a»
         ∷ planeOf (samplesOf wide (now b8) (now b16)) «stride_b» ∷ []) width height depth leastSide ⌝ }
-    requires { ⌜ (length (now pairs) ≡ 2 * scaleCount) × (5 * width ≤ length (now cols)) ⌝ }
+    requires { ⌜ (length (now pairs) ≡ 2 * scaleCount) × (5 * columnsOf fixedKernel width ≤ length (now cols)) ⌝ }
     requires { ⌜ (length (now «room_a») ≡ roomOf width height) × (length (now «room_b») ≡ roomOf width height) ⌝ }
     ensures { λ _. ⌜ now (pairs .exit) ≡ pairsFrom scaleCount
         (firstScale (planeOf (samplesOf wide (now (a8 .entry)) (now (a16 .entry))) «stride_a»)
@@ -65,7 +67,7 @@ pub fn answer(
 ) -> MsSsim
     requires { ⌜ Accepted wide (planeOf (samplesOf wide (now a8) (now a16)) «stride_a»
         ∷ planeOf (samplesOf wide (now b8) (now b16)) «stride_b» ∷ []) width height depth leastSide ⌝ }
-    requires { ⌜ 5 * width ≤ length (now cols) ⌝ }
+    requires { ⌜ 5 * columnsOf fixedKernel width ≤ length (now cols) ⌝ }
     requires { ⌜ (length (now «room_a») ≡ roomOf width height) × (length (now «room_b») ≡ roomOf width height) ⌝ }
     ensures { λ r. ⌜ r ≡ scoreOf (planeOf (samplesOf wide (now (a8 .entry)) (now (a16 .entry))) «stride_a»)
         (planeOf (samplesOf wide (now (b8 .entry)) (now (b16 .entry))) «stride_b») width height depth ⌝ }

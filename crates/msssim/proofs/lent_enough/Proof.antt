@@ -2,7 +2,7 @@
 use mathlib.Core.Path.{refl}
 use native.Mathlib.Nat.{mul-le-mul, lt-of-le-of-lt}
 use native.Mathlib.Omega.{arith}
-use Rattle.window.proofs.Windows.{side-room}
+use Rattle.plane.proofs.Limits.{side-small}
 use Rattle.msssim.specs.Answer.{lentEnough}
 use Rattle.msssim.proofs.Accept.{area-room}
 use Rattle.msssim.proofs.lent_enough.Statement.{statement}
@@ -14,10 +14,10 @@ mul-room : tie.Need-mul-room
 mul-room c = record { fits = lt-of-le-of-lt (mul-le-mul (c .pre .0) (c .pre .1)) area-room }
 
 mul-result : tie.Need-mul-result
-mul-result c = omega (arith, side-room)
+mul-result c = omega (arith, side-small)
 
 mul-result-2 : tie.Need-mul-result-2
-mul-result-2 c = omega (arith, side-room)
+mul-result-2 c = omega (arith, side-small)
 
 returns : tie.Need-returns
 unfolding lentEnough

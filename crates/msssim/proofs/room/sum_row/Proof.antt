@@ -1,5 +1,5 @@
 -- `msssim::room::sum_row` meets its contract. Assumes nothing.
-use Rattle.window.proofs.Windows.{side-room}
+use Rattle.plane.proofs.Limits.{side-small}
 use borrow.Author.Needs.{needs}
 use Prim.Native.Nat.{ℕ, _+_, _-_, _*_, _/_, _≤_, _<_, _^_}
 use native.Mathlib.Omega.{arith}
@@ -27,7 +27,7 @@ mul-to : tie.Need-mul-to Inv-loop μ-loop
 mul-to c = omega (arith, half-le (c .before .args .j) (c .before .args .width))
 
 mul-top : tie.Need-mul-top Inv-loop μ-loop
-mul-top c = omega (arith, side-room)
+mul-top c = omega (arith, side-small)
 
 mul-top-2 : tie.Need-mul-top-2 Inv-loop μ-loop
 mul-top-2 c = omega arith

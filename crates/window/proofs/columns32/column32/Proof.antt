@@ -9,7 +9,8 @@ use Rattle.plane.specs.Plane.{planeOf}
 use Rattle.plane.proofs.Rows as rows
 use Rattle.window.specs.Parts.{partsOf, quantOf}
 use Rattle.window.specs.Columns.{viewOf}
-use Rattle.window.proofs.Windows.{side-room, taps-room}
+use Rattle.plane.proofs.Limits.{side-small}
+use Rattle.window.proofs.Windows.{taps-room}
 use Rattle.window.proofs.Five.{quant-small, parts-more, parts-first, parts-last, parts-room}
 use Rattle.window.proofs.columns32.column32.Statement.{statement}
 use Rattle.window.proofs.columns32.column32.Tie as tie
@@ -36,7 +37,7 @@ loop-holds : tie.Need-loop-holds Inv-loop μ-loop
 loop-holds c = (omega arith, omega arith, sym (parts-first _ _ _ _ _ (omega arith)))
 
 add-r : tie.Need-add-r Inv-loop μ-loop
-add-r c = omega (arith, side-room, taps-room)
+add-r c = omega (arith, side-small, taps-room)
 
 sub-r : tie.Need-sub-r Inv-loop μ-loop
 sub-r c = search needs
