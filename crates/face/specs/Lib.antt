@@ -1,3 +1,4 @@
 pub mod Root
 pub mod Squared
 pub mod Ssim
+pub mod Scales
