@@ -1,4 +1,5 @@
 pub mod Root
+pub mod Scales
 pub mod Squared
 pub mod Ssim
 pub mod Visual
