@@ -12,6 +12,7 @@ mod published_numbers;
 mod random;
 mod root;
 mod samples;
+mod scales;
 mod series;
 mod squared;
 mod ssim;
@@ -25,7 +26,7 @@ use std::process::exit;
 /// A family's name, and what runs it.
 type Named = (&'static str, fn(Run) -> bool);
 
-const FAMILIES: [Named; 8] = [
+const FAMILIES: [Named; 9] = [
     ("published", published_numbers::compare),
     ("root", root::compare),
     ("plane", plane::compare),
@@ -34,6 +35,7 @@ const FAMILIES: [Named; 8] = [
     ("series", series::compare),
     ("ssim", ssim::compare),
     ("hvs", hvs::compare),
+    ("scales", scales::compare),
 ];
 
 fn main() {
