@@ -30,7 +30,14 @@ same-length-3 c = search needs
 returns-2 : tie.Need-returns-2
 returns-2 c =
     let e = c .before .before .before .before .before .scored .ensures in
-    rw (sym (c .before .before .before .before .before .before .before .before .before .before .refusal .ensures) ∙ c .before .before .before .before .before .before .before .before .before .if1 .left) (e .0, simp (e .1 .0, e .1 .1 .0, e .1 .1 .1))
+    rw (sym (c .before .before .before .before .before .before .before .before .before .before .refusal .ensures) ∙ c .before .before .before .before .before .before .before .before .before .if1 .left) (
+      e .0,
+      simp (
+        e .1 .0,
+        e .1 .1 .0,
+        e .1 .1 .1,
+      ),
+    )
 
 pub of-either-spec : {M : Type 1} → statement M
 of-either-spec =

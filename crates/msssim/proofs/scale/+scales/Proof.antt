@@ -105,7 +105,13 @@ scales-sub-scales : (t : ℕ) → scales-lts.Need-sub-scales (
 ) (scales-at t) scales.Post
 scales-sub-scales t c =
     let s = c .before .before .before .before .before .before .before .before .before .before .before .before .before .before .before .before .before .before .before .before .before in
-    omega (arith, c .before .before .before .before .before .before .before .before .before .before .put-pair .kept .0, s .pre .1 .1 .0 .0, c .before .before .before .before .before .before .before .before .before .before .before .before .before .before .before .before .before .if1 .taken)
+    omega (
+      arith,
+      c .before .before .before .before .before .before .before .before .before .before .put-pair .kept .0,
+      s .pre .1 .1 .0 .0,
+      c .before .before .before .before .before .before .before .before .before .before
+          .before .before .before .before .before .before .before .if1 .taken,
+    )
 
 scales-part-scales-start : (t : ℕ) → scales-lts.Need-part-scales-start (
   sums-reads.Asked,
@@ -119,7 +125,13 @@ scales-part-scales-start : (t : ℕ) → scales-lts.Need-part-scales-start (
 ) (scales-at t) scales.Post
 scales-part-scales-start t c =
     let s = c .before .before .before .before .before .before .before .before .before .before .before .before .before .before .before .before .before .before .before .before .before in
-    omega (arith, c .before .before .before .before .before .before .before .before .before .before .put-pair .kept .0, s .pre .1 .1 .0 .0, c .before .before .before .before .before .before .before .before .before .before .before .before .before .before .before .before .before .if1 .taken)
+    omega (
+      arith,
+      c .before .before .before .before .before .before .before .before .before .before .put-pair .kept .0,
+      s .pre .1 .1 .0 .0,
+      c .before .before .before .before .before .before .before .before .before .before
+          .before .before .before .before .before .before .before .if1 .taken,
+    )
 
 scales-part-scales-end : (t : ℕ) → scales-lts.Need-part-scales-end (
   sums-reads.Asked,
@@ -157,7 +169,8 @@ scales-mul-scales : (t : ℕ) → scales-lts.Need-mul-scales (
 ) (scales-at t) scales.Post
 scales-mul-scales t c =
     let s = c .before .before .before .before .before .before .before .before .before .before .before .before .before .before .before .before .before .before .before .before .before .before .before .before .before in
-    let room = left-room (s .args .left) (s .args .max) (c .before .before .before .before .before .before .before .before .before .before .before .before .before .before .before .before .before .before .before .before .before .if1 .taken) (s .pre .1 .1 .0 .1) in
+    let room = left-room (s .args .left) (s .args .max) (c .before .before .before .before .before .before .before .before .before .before .before .before .before .before .before .before .before .before .before .before
+    .before .if1 .taken) (s .pre .1 .1 .0 .1) in
     omega (arith, room .0, four-room)
 
 scales-scales-requires : (t : ℕ) → scales-lts.Need-scales-requires (
@@ -172,7 +185,8 @@ scales-scales-requires : (t : ℕ) → scales-lts.Need-scales-requires (
 ) (scales-at t) scales.Post
 scales-scales-requires t c κs =
     let s = c .before .before .before .before .before .before .before .before .before .before .before .before .before .before .before .before .before .before .before .before .before .before .before .before .before in
-    let room = left-room (s .args .left) (s .args .max) (c .before .before .before .before .before .before .before .before .before .before .before .before .before .before .before .before .before .before .before .before .before .if1 .taken) (s .pre .1 .1 .0 .1) in
+    let room = left-room (s .args .left) (s .args .max) (c .before .before .before .before .before .before .before .before .before .before .before .before .before .before .before .before .before .before .before .before
+    .before .if1 .taken) (s .pre .1 .1 .0 .1) in
     let a = c .before .before .before .before .before .before .before .before .before .before .downscale in
     let b = c .before .before .before .before .before .before .downscale2 in
     let p = c .before .before .before .before .before .before .before .before .before .before .before .before .before .before .put-pair in (
@@ -213,7 +227,8 @@ scales-same-length-2 : (t : ℕ) → scales-lts.Need-same-length-2 (
   scales-below t,
   scales.Post,
 ) (scales-at t) scales.Post
-scales-same-length-2 t c = c .before .before .before .before .before .before .before .scales .kept .1 .0 ∙ c .before .before .before .before .before .before .before .before .before .before .before .before .before .before .before .before .before .before .before .before .before .before .before .before .before .sums .kept .0
+scales-same-length-2 t c = c .before .before .before .before .before .before .before .scales .kept .1 .0 ∙ c .before .before .before .before .before .before .before .before .before .before .before .before .before .before
+    .before .before .before .before .before .before .before .before .before .before .before .sums .kept .0
 
 scales-same-length-3 : (t : ℕ) → scales-lts.Need-same-length-3 (
   sums-reads.Asked,
@@ -225,7 +240,8 @@ scales-same-length-3 : (t : ℕ) → scales-lts.Need-same-length-3 (
   scales-below t,
   scales.Post,
 ) (scales-at t) scales.Post
-scales-same-length-3 t c = c .before .before .before .before .before .before .before .scales .kept .1 .1 .0 ∙ c .before .before .before .before .before .before .before .before .before .before .before .before .before .before .before .before .before .before .downscale .kept .0
+scales-same-length-3 t c = c .before .before .before .before .before .before .before .scales .kept .1 .1 .0 ∙ c .before .before .before .before .before .before .before .before .before .before .before .before .before .before
+    .before .before .before .before .downscale .kept .0
 
 scales-same-length-4 : (t : ℕ) → scales-lts.Need-same-length-4 (
   sums-reads.Asked,
@@ -237,7 +253,8 @@ scales-same-length-4 : (t : ℕ) → scales-lts.Need-same-length-4 (
   scales-below t,
   scales.Post,
 ) (scales-at t) scales.Post
-scales-same-length-4 t c = c .before .before .before .before .before .before .before .scales .kept .1 .1 .1 .0 ∙ c .before .before .before .before .before .before .before .before .before .before .before .before .before .before .downscale2 .kept .0
+scales-same-length-4 t c = c .before .before .before .before .before .before .before .scales .kept .1 .1 .1 .0 ∙ c .before .before .before .before .before .before .before .before .before .before .before .before .before
+    .before .downscale2 .kept .0
 
 scales-returns : (t : ℕ) → scales-lts.Need-returns (
   sums-reads.Asked,
@@ -250,12 +267,16 @@ scales-returns : (t : ℕ) → scales-lts.Need-returns (
   scales.Post,
 ) (scales-at t) scales.Post
 scales-returns t c =
-    let s = c .before .before .before .before .before .before .before .before .before .before .before .before .before .before .before .before .before .before .before .before .before .before .before .before .before .before .before .before .before .before .before .before .before in
+    let s = c .before .before .before .before .before .before .before .before .before .before .before .before .before .before .before .before .before .before .before .before .before .before .before .before .before .before
+    .before .before .before .before .before .before .before in
     let a = c .before .before .before .before .before .before .before .before .before .before .before .before .before .before .before .before .before .before .downscale in
     let b = c .before .before .before .before .before .before .before .before .before .before .before .before .before .before .downscale2 in
     let p = c .before .before .before .before .before .before .before .before .before .before .before .before .before .before .before .before .before .before .before .before .before .before .put-pair in
     pairs-step (s .args .left) (s .args .max) (s .args .width) (s .args .height) (now (s .args .a)) (a .last .0) (now (s .args .b)) (b .last .0) _
-    (p .last .0) (c .before .before .before .before .before .before .before .scales .last .0) (c .before .before .before .before .before .before .before .before .before .before .before .before .before .before .before .before .before .before .before .before .before .before .before .before .before .before .before .before .before .if1 .taken) (rw (c .before .before .before .before .before .before .before .before .before .before .before .before .before .before .before .before .before .before .before .before .before .before .before .before .before .sums .ensures) at (p .ensures)) (c .before .before .before .before .before .before .before .scales .ensures) (a .ensures) (b .ensures)
+    (p .last .0) (c .before .before .before .before .before .before .before .scales .last .0) (c .before .before .before .before .before .before .before .before .before .before .before .before .before .before .before .before
+    .before .before .before .before .before .before .before .before .before .before .before .before .before .if1 .taken) (rw (c .before .before .before .before .before .before .before .before .before .before .before
+    .before .before .before .before .before .before .before .before .before .before .before .before .before .before .sums .ensures) at (p .ensures)) (c .before .before .before .before .before .before .before .scales
+    .ensures) (a .ensures) (b .ensures)
 
 scales-returns-2 : (t : ℕ) → scales-lts.Need-returns-2 (
   sums-reads.Asked,

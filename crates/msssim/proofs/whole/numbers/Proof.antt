@@ -34,8 +34,10 @@ scales-requires c κs =
     let s = c .before .before .before .before .before .before .before .before .before .before .before .before .before .before .before .before .before .before .before .before in
     let a = planeOf (samplesOf (s .args .wide) (now (s .args .a8)) (now (s .args .a16))) (s .args .stride-a) in
     let b = planeOf (samplesOf (s .args .wide) (now (s .args .b8)) (now (s .args .b16))) (s .args .stride-b) in
-    let held-a = held-widened _ _ _ _ _ a (s .pre .0 .each .0 .small) (c .before .before .before .before .before .before .before .before .before .before .before .widen .ensures) (c .before .before .before .before .before .before .before .before .before .before .before .widen .kept .0 ∙ s .pre .1 .1 .0) in
-    let held-b = held-widened _ _ _ _ _ b (s .pre .0 .each .1 .0 .small) (c .before .before .before .before .before .before .before .widen2 .ensures) (c .before .before .before .before .before .before .before .widen2 .kept .0 ∙ s .pre .1 .1 .1) in
+    let held-a = held-widened _ _ _ _ _ a (s .pre .0 .each .0 .small) (c .before .before .before .before .before .before .before .before .before .before .before .widen .ensures) (c .before .before .before .before .before
+    .before .before .before .before .before .before .widen .kept .0 ∙ s .pre .1 .1 .0) in
+    let held-b = held-widened _ _ _ _ _ b (s .pre .0 .each .1 .0 .small) (c .before .before .before .before .before .before .before .widen2 .ensures) (c .before .before .before .before .before .before .before .widen2 .kept
+    .0 ∙ s .pre .1 .1 .1) in
     rw (c .before .before .before .before .sample-max .ensures) (
       (s .pre .0 .width-most, s .pre .0 .height-most, s .pre .1 .0 .1),
       ((s .pre .1 .0 .0, first-room (s .args .wide) (s .args .depth) (s .pre .0 .depth-most)), (held-a, held-b)),
@@ -56,12 +58,14 @@ same-length-4 c = search needs
 returns : tie.Need-returns
 unfolding scaleCount
 returns c =
-    let s = c .before .before .before .before .before .before .before .before .before .before .before .before .before .before .before .before .before .before .before .before .before .before .before .before .before .before .before .before in
+    let s = c .before .before .before .before .before .before .before .before .before .before .before .before .before .before .before .before .before .before .before .before .before .before .before .before .before .before
+    .before .before in
     rw (c .before .before .before .before .before .before .before .scales .ensures, c .before .before .before .before .before .before .before .before .before .before .before .before .sample-max .ensures)
     (pairs-ext 5 (maxOf (s .args .depth)) (s .args .width) (s .args .height) _
     (viewOf (planeOf (samplesOf (s .args .wide) (now (s .args .a8)) (now (s .args .a16))) (s .args .stride-a))) _
     (viewOf (planeOf (samplesOf (s .args .wide) (now (s .args .b8)) (now (s .args .b16))) (s .args .stride-b)))
-    (c .before .before .before .before .before .before .before .before .before .before .before .before .before .before .before .before .before .before .before .widen .ensures .rows) (c .before .before .before .before .before .before .before .before .before .before .before .before .before .before .before .widen2 .ensures .rows))
+    (c .before .before .before .before .before .before .before .before .before .before .before .before .before .before .before .before .before .before .before .widen .ensures .rows) (c .before .before .before .before .before
+    .before .before .before .before .before .before .before .before .before .before .widen2 .ensures .rows))
 
 pub numbers-spec : {M : Type 1} → statement M
 numbers-spec =
