@@ -6,7 +6,6 @@ mod random;
 use published::plane::Plane;
 use published::video::{psnr, psnr_hvs, ssim};
 use random::Random;
-use std::hint::black_box;
 use std::time::Instant;
 
 extern "C" {
@@ -55,14 +54,43 @@ extern "C" {
         depth: u32,
         score: *mut f64,
     ) -> u8;
+    fn fuavelino_msssim8(
+        a: *const u8,
+        a_len: usize,
+        b: *const u8,
+        b_len: usize,
+        width: usize,
+        height: usize,
+        stride_a: usize,
+        stride_b: usize,
+        depth: u32,
+        scratch: *mut i64,
+        scratch_len: usize,
+        room_a: *mut u32,
+        room_a_len: usize,
+        room_b: *mut u32,
+        room_b_len: usize,
+        pairs: *mut f64,
+    ) -> u8;
+}
+
+/// Hides a value from the optimiser: `std::hint` has this only since Rust 1.66.
+fn black_box<T: Copy>(x: T) -> T {
+    unsafe { std::ptr::read_volatile(&x) }
 }
 
 const ROUNDS: usize = 60;
 
 type Named = (&'static str, fn());
 
-const ALL: [Named; 5] =
-    [("root", root), ("forward", forward), ("squared", squared), ("ssim", similarity), ("hvs", visual)];
+const ALL: [Named; 6] = [
+    ("root", root),
+    ("forward", forward),
+    ("squared", squared),
+    ("ssim", similarity),
+    ("hvs", visual),
+    ("scales", scales),
+];
 
 /// The sides of the planes.
 const WIDTH: usize = 640;
@@ -203,6 +231,42 @@ fn visual() {
     };
     let other = || {
         black_box(psnr_hvs::probe_plane(black_box(&a), black_box(&b), 0, 8));
+    };
+    beside(COUNT, "published", product, other);
+}
+
+/// Time for each sample of the first scale; the published side is its own five pairs, without the power product.
+fn scales() {
+    let [a, b] = planes();
+    let (x, y) = (a.data.as_ptr(), b.data.as_ptr());
+    let mut scratch = vec![0i64; 96 * WIDTH];
+    let [mut p, mut q] = [vec![0u32; COUNT], vec![0u32; COUNT]];
+    let product = || {
+        let mut pairs = [0.0; 10];
+        let (w, h) = (black_box(WIDTH), black_box(HEIGHT));
+        let (s, n) = (scratch.as_mut_ptr(), scratch.len());
+        let out = pairs.as_mut_ptr();
+        let answer = unsafe {
+            fuavelino_msssim8(x, COUNT, y, COUNT, w, h, w, w, 8, s, n, p.as_mut_ptr(), COUNT, q.as_mut_ptr(), COUNT, out)
+        };
+        assert_eq!(answer, 0);
+        black_box(pairs);
+    };
+    let kernel = ssim::probe_kernel(1.5, 5, 1_024);
+    let wide = |plane: &Plane<u8>| plane.data.iter().map(|s| u32::from(*s)).collect::<Vec<u32>>();
+    let (u, v) = (wide(&a), wide(&b));
+    let other = || {
+        let (mut u, mut v, mut w, mut h, mut max) = (u.clone(), v.clone(), WIDTH, HEIGHT, 255);
+        for scale in 0..5 {
+            if scale > 0 {
+                u = ssim::probe_downscale(&u, w, h);
+                v = ssim::probe_downscale(&v, w, h);
+                w /= 2;
+                h /= 2;
+                max *= 4;
+            }
+            black_box(ssim::probe_pair(black_box(&u), black_box(&v), w, h, max, black_box(&kernel)));
+        }
     };
     beside(COUNT, "published", product, other);
 }
