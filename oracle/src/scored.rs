@@ -196,6 +196,43 @@ fn pair(samples: &Samples, ask: &Ask, kernel: &[u16]) -> (f64, f64) {
     ssim::probe_pair(&a, &b, ask.width, ask.height, (1 << ask.depth) - 1, &taps)
 }
 
+/// Eight by eight and more, of every kind; and on the other side of the least side, 7.
+fn visual_asks(wide: bool) -> Vec<(Ask, usize)> {
+    let depth = if wide { 12 } else { 8 };
+    let ask = Ask { wide, depth, width: 8, height: 8, a: view(8, 0, 64), b: view(8, 16, 80) };
+    let wider = Ask { width: 9, a: view(9, 0, 72), b: view(9, 8, 80), ..ask };
+    let low = if wide { ask } else { Ask { depth: 7, ..ask } };
+    let mut list: Vec<(Ask, usize)> = (0..3).flat_map(|kind| [(ask, kind), (wider, kind)]).collect();
+    list.extend([(Ask { b: ask.a, ..ask }, 0), (Ask { height: 9, a: view(8, 0, 72), b: view(8, 8, 80), ..ask }, 2)]);
+    list.extend([(Ask { width: 7, ..ask }, 0), (Ask { height: 7, ..ask }, 1), (low, 1)]);
+    list
+}
+
+/// Rows of 14: as `squared` up to the planes, then the kind, 0, 0, the answer. Then the score of each row, 0 where it is refused.
+pub fn visual(samples: &Samples) -> (Vec<usize>, Vec<f64>) {
+    let (mut rows, mut scores) = (Vec::new(), Vec::new());
+    for (ask, kind) in [false, true].into_iter().flat_map(visual_asks) {
+        let planes = [ask.a, ask.b].map(|v| (v.stride, &samples.of(ask.wide)[v.from..v.end]));
+        let Ask { wide, depth, width, height, .. } = ask;
+        let no = Lent { wide, depth, width, height, least: 8, planes }.refusal();
+        rows.extend(ask.row());
+        rows.extend([kind, 0, 0, usize::from(no)]);
+        scores.push(if no == 0 { hvs(samples, &ask, kind) } else { 0.0 });
+    }
+    (rows, scores)
+}
+
+fn hvs(samples: &Samples, ask: &Ask, kind: usize) -> f64 {
+    let list = [ask.a, ask.b].map(|v| samples.visible(ask, v));
+    if ask.wide {
+        let [a, b] = list.map(|l| Plane::new(l, ask.width, ask.height));
+        psnr_hvs::probe_plane(&a, &b, kind, ask.depth as usize)
+    } else {
+        let [a, b] = list.map(|l| Plane::new(l.iter().map(|s| *s as u8).collect(), ask.width, ask.height));
+        psnr_hvs::probe_plane(&a, &b, kind, ask.depth as usize)
+    }
+}
+
 /// Rows of 130: the inverse (1) or forward (0), the answer, 64 numbers, and what they become: 64 zeros where they are refused.
 pub fn transforms(seed: u64) -> Vec<i32> {
     let mut r = Random::of(seed, "transforms", 0);

@@ -61,6 +61,11 @@ fn planes(samples: &Samples) {
     for (name, scores) in [("SSIMS", ssims), ("CSS", css)] {
         list(name, "f64", scores.iter().map(|score| number(score.to_bits())).collect());
     }
+    println!("// PSNR-HVS, 14 numbers each: as above up to the planes; then the kind (y 0, u 1, v 2), two zeros, the answer. Then the");
+    println!("// score of each, 0 where it is refused.");
+    let (rows, scores) = scored::visual(samples);
+    list("VISUAL", "usize", words(rows));
+    list("HVSS", "f64", scores.iter().map(|score| number(score.to_bits())).collect());
 }
 
 fn words<T: ToString>(numbers: impl IntoIterator<Item = T>) -> Vec<String> {

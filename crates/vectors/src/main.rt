@@ -8,6 +8,7 @@ mod squared;
 mod table;
 mod tell;
 mod transform;
+mod visual;
 
 fn main() {
     root::replay_roots();
@@ -18,4 +19,5 @@ fn main() {
     squared::replay();
     series::replay();
     similar::replay();
+    visual::replay();
 }

@@ -110,10 +110,6 @@ fn answer_is(answer: Ssim, no: usize, ssim: f64, cs: f64) -> bool {
     }
 }
 
-fn score(list: &[f64], at: usize) -> f64 {
-    if at < list.len() { list[at] } else { -2.0 }
-}
-
 // Whether a row gives its answer; its scores stand at `at` of each list.
 fn pair_is(
     row: &[usize; 14],
@@ -126,7 +122,12 @@ fn pair_is(
 ) -> bool {
     let mut scratch = [0i64; 512];
     let answer = with_kernel(row, bytes, words, taps, &mut scratch);
-    answer_is(answer, row[13], score(ssims, at), score(css, at))
+    answer_is(
+        answer,
+        row[13],
+        tell::score(ssims, at),
+        tell::score(css, at),
+    )
 }
 
 // How many rows of `list` give their answer.

@@ -70,3 +70,8 @@ pub fn double(n: usize) -> f64 {
         -1.0
     }
 }
+
+// What stands at a place of a list of scores, and no score past its end.
+pub fn score(list: &[f64], at: usize) -> f64 {
+    if at < list.len() { list[at] } else { -2.0 }
+}

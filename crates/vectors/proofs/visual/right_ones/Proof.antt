@@ -1,0 +1,57 @@
+-- `vectors::visual::right_ones` is safe and ends: the place stays within the list, and no more is right than was passed. Assumes nothing.
+use Prim.Native.Nat.{_≤_, _-_}
+use native.Mathlib.Omega.{arith}
+use borrow.Author.Needs.{needs}
+use lib.ListN.{length}
+use mathlib.Core.Logic.{⊎-elim}
+use Rattle.vectors.proofs.visual.right_ones.Statement.{statement}
+use Rattle.vectors.proofs.visual.right_ones.Tie as tie
+
+abbrev Inv-loop : tie.InvT-loop
+Inv-loop list scores bytes words right₀ i₀ right i = (i ≤ length list) × (right ≤ i)
+
+abbrev μ-loop : tie.MeasureT-loop
+μ-loop list scores bytes words right₀ i₀ right i = length list - i
+
+loop-holds : tie.Need-loop-holds Inv-loop μ-loop
+loop-holds c = search needs
+
+sub-loop : tie.Need-sub-loop Inv-loop μ-loop
+sub-loop c = search needs
+
+row-at-requires : tie.Need-row-at-requires Inv-loop μ-loop
+row-at-requires c κs = search needs
+
+score-is-requires : tie.Need-score-is-requires Inv-loop μ-loop
+score-is-requires c κs = search needs
+
+add-right : tie.Need-add-right Inv-loop μ-loop
+add-right c = search needs
+
+add-i : tie.Need-add-i Inv-loop μ-loop
+add-i c = search needs
+
+loop-less : tie.Need-loop-less Inv-loop μ-loop
+loop-less c = search needs
+
+loop-again : tie.Need-loop-again Inv-loop μ-loop
+loop-again c = ⊎-elim (λ w. omega arith) (λ w. omega arith) (c .if1 .came)
+
+returns : tie.Need-returns Inv-loop μ-loop
+returns c = search needs
+
+pub right-ones-spec : {M : Type 1} → statement M
+right-ones-spec =
+    tie.close
+    (tie.spec
+    Inv-loop
+    μ-loop
+    loop-holds
+    sub-loop
+    row-at-requires
+    score-is-requires
+    add-right
+    add-i
+    loop-less
+    loop-again
+    returns)
