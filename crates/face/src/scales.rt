@@ -47,7 +47,8 @@ pub extern "C" fn fuavelino_msssim8(
     room_b: &mut [u32],
     pairs: &mut [f64; 10],
 ) -> u8
-    ensures { λ r. ⌜ r ≡ scalesNumber (msssimOf false (planeOf (now (a .entry)) «stride_a») (planeOf (now (b .entry)) «stride_b») width height depth
+    ensures { λ r. ⌜ r ≡ scalesNumber (msssimOf false (planeOf (now (a .entry)) «stride_a»)
+        (planeOf (now (b .entry)) «stride_b») width height depth
         (lentOf (now (scratch .entry)) (now («room_a» .entry)) (now («room_b» .entry)))) ⌝ }
     ensures { λ _. ⌜ lentOf (now (scratch .exit)) (now («room_a» .exit)) (now («room_b» .exit)) ≡ lentAfter
         (refusalOf false (planeOf (now (a .entry)) «stride_a») (planeOf (now (b .entry)) «stride_b») width height depth
@@ -87,7 +88,8 @@ pub extern "C" fn fuavelino_msssim16(
     room_b: &mut [u32],
     pairs: &mut [f64; 10],
 ) -> u8
-    ensures { λ r. ⌜ r ≡ scalesNumber (msssimOf true (planeOf (now (a .entry)) «stride_a») (planeOf (now (b .entry)) «stride_b») width height depth
+    ensures { λ r. ⌜ r ≡ scalesNumber (msssimOf true (planeOf (now (a .entry)) «stride_a»)
+        (planeOf (now (b .entry)) «stride_b») width height depth
         (lentOf (now (scratch .entry)) (now («room_a» .entry)) (now («room_b» .entry)))) ⌝ }
     ensures { λ _. ⌜ lentOf (now (scratch .exit)) (now («room_a» .exit)) (now («room_b» .exit)) ≡ lentAfter
         (refusalOf true (planeOf (now (a .entry)) «stride_a») (planeOf (now (b .entry)) «stride_b») width height depth
