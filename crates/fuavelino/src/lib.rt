@@ -1,0 +1,68 @@
+// The face: what other languages link. Each call answers 0 where it accepts, or the number of its refusal, and writes its results to
+// places that the caller lends. Nothing is asked of the caller but that what it lends is there.
+ghost use mathlib.Core.Path.{_≡_};
+ghost use mathlib.Core.Bool.{true, false};
+ghost use mathlib.Core.List.{[], _∷_};
+ghost use Rattle.number.specs.Root.{rootOf};
+ghost use Rattle.plane.specs.Plane.{planeOf};
+ghost use Rattle.plane.specs.Tests.{planeRefusal};
+ghost use Rattle.fuavelino.specs.Root.{rootNumber, rootWritten};
+
+pub mod scales;
+pub mod similarity;
+pub mod squared;
+pub mod transform;
+pub mod visual;
+
+use number::Rooted;
+
+// The square root of x, written to `out`; 12 where x is not +0 or positive and finite, and `out` is as it was.
+#[no_mangle]
+pub extern "C" fn fuavelino_root(x: f64, out: &mut f64) -> u8
+    ensures { λ r. ⌜ r ≡ rootNumber (rootOf x) ⌝ }
+    ensures { λ _. ⌜ now (out .exit) ≡ rootWritten (rootOf x) (now (out .entry)) ⌝ }
+{
+    match number::root(x) {
+        Rooted::Root(r) => {
+            *out = r;
+            0
+        }
+        Rooted::Refused(n) => n,
+    }
+}
+
+// The lowest of 1 to 6 that applies to two planes of bytes, or 0. `least` is the least side that the caller takes, 0 where it takes any.
+#[no_mangle]
+pub extern "C" fn fuavelino_check8(
+    a: &[u8],
+    b: &[u8],
+    width: usize,
+    height: usize,
+    stride_a: usize,
+    stride_b: usize,
+    depth: u32,
+    least: usize,
+) -> u8
+    ensures { λ r. ⌜ r ≡ planeRefusal false (planeOf (now (a .entry)) «stride_a» ∷ planeOf (now (b .entry)) «stride_b» ∷ [])
+        width height depth least ⌝ }
+{
+    plane::check8(a, b, width, height, stride_a, stride_b, depth, least)
+}
+
+// The same of words.
+#[no_mangle]
+pub extern "C" fn fuavelino_check16(
+    a: &[u16],
+    b: &[u16],
+    width: usize,
+    height: usize,
+    stride_a: usize,
+    stride_b: usize,
+    depth: u32,
+    least: usize,
+) -> u8
+    ensures { λ r. ⌜ r ≡ planeRefusal true (planeOf (now (a .entry)) «stride_a» ∷ planeOf (now (b .entry)) «stride_b» ∷ [])
+        width height depth least ⌝ }
+{
+    plane::check16(a, b, width, height, stride_a, stride_b, depth, least)
+}

@@ -1,0 +1,106 @@
+// SSIM for other languages. `ssim` and `cs` are written where the answer is 0, and as they were otherwise.
+ghost use mathlib.Core.Path.{_≡_};
+ghost use mathlib.Core.Bool.{true, false};
+ghost use mathlib.Core.List.{[], _∷_};
+ghost use lib.ListN.{length};
+ghost use Rattle.plane.specs.Plane.{planeOf};
+ghost use Rattle.ssim.specs.Scratch.{placesOf, scratchAfter};
+ghost use Rattle.ssim.specs.Answer.{ssimRefusal, ssimOf};
+ghost use Rattle.fuavelino.specs.Ssim.{ssimNumber, ssimWritten, csWritten};
+use ssim::Ssim;
+
+// SSIM of two planes of bytes under a lent kernel: 0, or the lowest of 1 2 4 5 6 7 8 9.
+#[no_mangle]
+pub extern "C" fn fuavelino_ssim8(
+    a: &[u8],
+    b: &[u8],
+    width: usize,
+    height: usize,
+    stride_a: usize,
+    stride_b: usize,
+    depth: u32,
+    kernel: &[u16],
+    scratch: &mut [i64],
+    ssim: &mut f64,
+    cs: &mut f64,
+) -> u8
+    ensures { λ r. ⌜ r ≡ ssimNumber (ssimOf false (planeOf (now (a .entry)) «stride_a») (planeOf (now (b .entry)) «stride_b»)
+        width height depth (now (kernel .entry)) (length (now (scratch .entry)))) ⌝ }
+    ensures { λ _. ⌜ now (scratch .exit) ≡ scratchAfter
+        (ssimRefusal false (planeOf (now (a .entry)) «stride_a» ∷ planeOf (now (b .entry)) «stride_b» ∷ [])
+        width height depth (now (kernel .entry)) (length (now (scratch .entry))))
+        (placesOf width (length (now (kernel .entry)))) (now (scratch .entry)) ⌝ }
+    ensures { λ _. ⌜ now (ssim .exit) ≡ ssimWritten
+        (ssimOf false (planeOf (now (a .entry)) «stride_a») (planeOf (now (b .entry)) «stride_b»)
+        width height depth (now (kernel .entry)) (length (now (scratch .entry)))) (now (ssim .entry)) ⌝ }
+    ensures { λ _. ⌜ now (cs .exit) ≡ csWritten
+        (ssimOf false (planeOf (now (a .entry)) «stride_a») (planeOf (now (b .entry)) «stride_b»)
+        width height depth (now (kernel .entry)) (length (now (scratch .entry)))) (now (cs .entry)) ⌝ }
+{
+    match ssim::ssim8(
+        a,
+        b,
+        width,
+        height,
+        stride_a,
+        stride_b,
+        depth,
+        kernel,
+        scratch,
+    ) {
+        Ssim::Pair { ssim: s, cs: c } => {
+            *ssim = s;
+            *cs = c;
+            0
+        }
+        Ssim::Refused(n) => n,
+    }
+}
+
+// The same of words.
+#[no_mangle]
+pub extern "C" fn fuavelino_ssim16(
+    a: &[u16],
+    b: &[u16],
+    width: usize,
+    height: usize,
+    stride_a: usize,
+    stride_b: usize,
+    depth: u32,
+    kernel: &[u16],
+    scratch: &mut [i64],
+    ssim: &mut f64,
+    cs: &mut f64,
+) -> u8
+    ensures { λ r. ⌜ r ≡ ssimNumber (ssimOf true (planeOf (now (a .entry)) «stride_a») (planeOf (now (b .entry)) «stride_b»)
+        width height depth (now (kernel .entry)) (length (now (scratch .entry)))) ⌝ }
+    ensures { λ _. ⌜ now (scratch .exit) ≡ scratchAfter
+        (ssimRefusal true (planeOf (now (a .entry)) «stride_a» ∷ planeOf (now (b .entry)) «stride_b» ∷ [])
+        width height depth (now (kernel .entry)) (length (now (scratch .entry))))
+        (placesOf width (length (now (kernel .entry)))) (now (scratch .entry)) ⌝ }
+    ensures { λ _. ⌜ now (ssim .exit) ≡ ssimWritten
+        (ssimOf true (planeOf (now (a .entry)) «stride_a») (planeOf (now (b .entry)) «stride_b»)
+        width height depth (now (kernel .entry)) (length (now (scratch .entry)))) (now (ssim .entry)) ⌝ }
+    ensures { λ _. ⌜ now (cs .exit) ≡ csWritten
+        (ssimOf true (planeOf (now (a .entry)) «stride_a») (planeOf (now (b .entry)) «stride_b»)
+        width height depth (now (kernel .entry)) (length (now (scratch .entry)))) (now (cs .entry)) ⌝ }
+{
+    match ssim::ssim16(
+        a,
+        b,
+        width,
+        height,
+        stride_a,
+        stride_b,
+        depth,
+        kernel,
+        scratch,
+    ) {
+        Ssim::Pair { ssim: s, cs: c } => {
+            *ssim = s;
+            *cs = c;
+            0
+        }
+        Ssim::Refused(n) => n,
+    }
+}
