@@ -2,3 +2,4 @@ pub mod Powers
 pub mod Zeros
 pub mod Same
 pub mod Accept
+pub mod Worked
