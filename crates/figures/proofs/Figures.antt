@@ -4,7 +4,8 @@ use lib.Ieee.{ofInt, round, units, odd, size, climb, span, toUnsigned}
 use Rattle.plane.specs.Limits.{sideLimit, strideLimit, leastDepth, mostDepth}
 use Rattle.plane.specs.Plane.{maxOf, allTo}
 use Rattle.plane.specs.Sums.{sumTo}
-use Rattle.plane.specs.Tests.{depthSuits, sidesSuit, sidesReach, strideSuits, longEnough, noneAbove, rowSuits, samplesSuit, sizeTests, layoutTests}
+use Rattle.plane.specs.Tests.{depthSuits, sidesSuit, sidesReach, strideSuits, longEnough, noneAbove, rowSuits, samplesSuit}
+use Rattle.plane.specs.Tests.{sizeTests, layoutTests}
 use Rattle.psnr.specs.Squared.{squareOf, rowError, errorOf, squaredErrorOf}
 use Rattle.dct.specs.Steps.{half, part, steps, steps1, steps2, steps3, steps4, steps5}
 use Rattle.dct.specs.Block.{line, turn, transform}
@@ -17,4 +18,4 @@ unfolding figures sideLimit strideLimit leastDepth mostDepth maxOf allTo sumTo d
     noneAbove rowSuits samplesSuit sizeTests layoutTests squareOf rowError errorOf squaredErrorOf
     ofInt round units odd size climb span toUnsigned
     half part steps steps1 steps2 steps3 steps4 steps5 line turn transform inside momentAt listTo
-figures-held = (refl, (refl, (refl, (refl, (refl, (refl, (refl, (refl, (refl, (refl, (refl, tt)))))))))))
+figures-held = (refl, refl, refl, refl, refl, refl, refl, refl, refl, refl, refl, tt)

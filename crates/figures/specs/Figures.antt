@@ -81,7 +81,8 @@ figures =
     ∷ record { gives = downscaled 3 3 (1 ∷ 2 ∷ 3 ∷ 4 ∷ 5 ∷ 6 ∷ 7 ∷ 8 ∷ 9 ∷ []); says = pos 12 ∷ [] }
     -- blocks per side: 8→1, 14→1, 15→2, 22→3
     ∷ record { gives = counts (map blocksPerSide (8 ∷ 14 ∷ 15 ∷ 22 ∷ [])); says = counts (1 ∷ 1 ∷ 2 ∷ 3 ∷ []) }
-    -- kernel 64 128 64, one row (10,20) and (10,30), at x = 0: mux 327,680, muy 409,600, x2 4,915,200, xy 6,553,600, y2 9,011,200, w 24,576
+    -- kernel 64 128 64, one row (10,20) and (10,30), at x = 0: mux 327,680, muy 409,600, x2 4,915,200, xy 6,553,600, y2 9,011,200,
+    -- w 24,576
     ∷ record {
       gives = six (momentsAt (64 ∷ 128 ∷ 64 ∷ []) 2 1 (viewOf (planeOf (10 ∷ 20 ∷ []) 2)) (viewOf (planeOf (10 ∷ 30 ∷ []) 2)) 0 0);
       says = counts (327680 ∷ 409600 ∷ 4915200 ∷ 6553600 ∷ 9011200 ∷ 24576 ∷ []);
