@@ -18,4 +18,4 @@ unfolding figures sideLimit strideLimit leastDepth mostDepth maxOf allTo sumTo d
     noneAbove rowSuits samplesSuit sizeTests layoutTests squareOf rowError errorOf squaredErrorOf
     ofInt round units odd size climb span toUnsigned
     half part steps steps1 steps2 steps3 steps4 steps5 line turn transform inside momentAt listTo
-figures-held = (refl, refl, refl, refl, refl, refl, refl, refl, refl, refl, refl, tt)
+figures-held = (refl, (refl, (refl, (refl, (refl, (refl, (refl, (refl, (refl, (refl, (refl, tt)))))))))))
