@@ -7,4 +7,3 @@ pub mod Round
 pub mod Bound
 pub mod Range
 pub mod Calls
-pub mod Held

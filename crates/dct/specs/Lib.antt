@@ -3,4 +3,3 @@ pub mod Steps
 pub mod Block
 pub mod Call
 pub mod Operation
-pub mod Numbers

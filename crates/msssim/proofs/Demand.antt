@@ -2,7 +2,7 @@
 -- every centre of every scale. Assumes nothing.
 use mathlib.Core.Path.{_≡_, refl, sym, _∙_}
 use mathlib.Core.Bool.{Bool, true, false}
-use mathlib.Core.List.{List, [], _∷_}
+use mathlib.Core.List.{[], _∷_}
 use Prim.Native.Nat.{ℕ, zero, suc, _+_, _*_, _/_, _^_, _≤_, _<_}
 use native.Mathlib.Nat.{le-trans, pow-suc, mul-one}
 use native.Mathlib.Omega.{arith}
@@ -10,10 +10,9 @@ use lib.Dec.{lit≤}
 use lib.Ieee.{nan}
 use lib.ListN.{getD}
 use Rattle.plane.specs.Limits.{mostDepth}
-use Rattle.plane.specs.Plane.{Plane, planeOf, maxOf}
+use Rattle.plane.specs.Plane.{Plane, maxOf}
 use Rattle.plane.specs.Lawful.{Accepted}
 use Rattle.window.specs.Kernel.{fixedKernel, fixedTotal}
-use Rattle.window.specs.Columns.{viewOf}
 use Rattle.window.proofs.Demand.{Bounded, Demanded, scales, scaleMax, fixed-sums}
 use Rattle.msssim.specs.Scale.{Scale, scaleCount, summedOf, belowOf, scaleAt, sumsOf, ssimOf, csOf, pairsFrom}
 use Rattle.msssim.specs.Answer.{leastSide, firstScale}
@@ -81,10 +80,3 @@ module _ (wide : Bool) (p q : Plane) (width height depth k : ℕ) (c : Accepted 
       least : (w : Bool) → mostDepth w ≤ mostDepth true
       least true = lit≤ tt
       least false = lit≤ tt
-
--- ---- "3×3 of 1 to 9 downscales to 12"
-abbrev nine : List ℕ
-nine = 1 ∷ 2 ∷ 3 ∷ 4 ∷ 5 ∷ 6 ∷ 7 ∷ 8 ∷ 9 ∷ []
-
-pub worked : (3 / 2 ≡ 1) × (summedOf (viewOf (planeOf nine 3)) 0 0 ≡ 12)
-worked = (refl, refl)

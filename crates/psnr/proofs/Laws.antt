@@ -11,8 +11,7 @@ use lib.Dec.{lit≤}
 use lib.IntN.{pos}
 use lib.Ieee.{binary64, ofInt}
 use Rattle.plane.specs.Limits.{sideLimit, leastDepth, mostDepth}
-use Rattle.plane.specs.Plane.{Plane, planeOf, maxOf, sampleAt, every}
-use Rattle.plane.specs.Sums.{sumTo}
+use Rattle.plane.specs.Plane.{Plane, maxOf, sampleAt, every}
 use Rattle.plane.specs.Tests.{layoutTests, planeRefusal, longEnough, samplesSuit, strideSuits}
 use Rattle.plane.specs.Lawful.{Accepted}
 use Rattle.plane.proofs.Sums.{sum-ext, sum-zero}
@@ -76,11 +75,6 @@ refusal-exchanged wide a b width height depth least =
 pub answer-exchanged : (wide : Bool) (a b : Plane) (width height depth : ℕ) → squaredErrorOf wide a b width height depth ≡ squaredErrorOf wide b a width height depth
 unfolding squaredErrorOf
 answer-exchanged wide a b width height depth = rw (refusal-exchanged wide a b width height depth 0, exchanged a b width height)
-
--- "(10,20,30) and (13,20,26): 25"
-pub worked : errorOf (planeOf (10 ∷ 20 ∷ 30 ∷ []) 3) (planeOf (13 ∷ 20 ∷ 26 ∷ []) 3) 3 1 ≡ 25
-unfolding errorOf rowError squareOf sumTo
-worked = refl
 
 -- ---- the record
 -- no plane has more samples than a record may count: said of the limits, whatever they are

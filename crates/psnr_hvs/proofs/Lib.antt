@@ -7,4 +7,3 @@ pub mod Fractions
 pub mod Variance
 pub mod Quarters
 pub mod Levels
-pub mod Held

@@ -5,4 +5,3 @@ pub mod Block
 pub mod Score
 pub mod Legible
 pub mod Levels
-pub mod Numbers

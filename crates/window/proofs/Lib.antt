@@ -7,4 +7,3 @@ pub mod Held
 pub mod Cauchy
 pub mod DemandMoments
 pub mod Demand
-pub mod Worked
