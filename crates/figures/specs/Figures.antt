@@ -6,7 +6,7 @@ use mathlib.Core.List.{List, [], _∷_, map}
 use Prim.Native.Nat.{ℕ}
 use lib.IntN.{ℤ, pos, negsuc}
 use lib.ListN.{replicate}
-use Rattle.plane.specs.Plane.{Plane, planeOf}
+use Rattle.plane.specs.Plane.{planeOf}
 use Rattle.psnr.specs.Record.{wholeOf}
 use Rattle.psnr.specs.Squared.{squaredErrorOf}
 use Rattle.psnr.specs.declared.SquaredError.{SquaredError}

@@ -1,8 +1,8 @@
 -- What holds where no test of MS-SSIM refuses, and what the answer is where one does. Assumes nothing.
-use mathlib.Core.Path.{_≡_, refl, sym, _∙_}
-use mathlib.Core.Bool.{Bool, true, false, _&&_}
+use mathlib.Core.Path.{_≡_, sym, _∙_}
+use mathlib.Core.Bool.{Bool, true, false}
 use mathlib.Core.List.{List, [], _∷_}
-use Prim.Native.Nat.{ℕ, zero, suc, _*_, _≤_, _<_, _^_}
+use Prim.Native.Nat.{ℕ, _*_, _≤_, _<_, _^_}
 use native.Mathlib.Nat.{le-trans}
 use native.Mathlib.Decide.{decLt}
 use native.Mathlib.Omega.{arith}
@@ -10,7 +10,6 @@ use borrow.Author.Tests.{leb-true}
 use lib.Dec.{leb, lit<, lit≤}
 use lib.ListN.{length, List·getD-eq-default}
 use Rattle.refusal.specs.Numbers.{scratchNo}
-use Rattle.refusal.specs.First.{firstBroken}
 use Rattle.refusal.proofs.Chain.{and-left, and-right, passed}
 use Rattle.plane.specs.Limits.{sideLimit, mostDepth}
 use Rattle.plane.specs.Plane.{Plane, at, maxOf, sampleAt}
@@ -22,9 +21,7 @@ use Rattle.window.specs.Columns.{viewOf, mostSample}
 use Rattle.window.proofs.Demand.{scales, scaleMax, scale-small}
 use Rattle.ssim.proofs.Accept.{halves}
 use Rattle.msssim.specs.Rooms.{Filled, Held}
-use Rattle.msssim.specs.Answer.{leastSide, placesOf, roomOf, lentEnough, msssimRefusal, answerFor, Lent, lentAfter}
-use Rattle.msssim.specs.declared.MsSsim.{MsSsim}
-use Rattle.msssim.specs.declared.MsSsim.the-variants.{Refused}
+use Rattle.msssim.specs.Answer.{leastSide, placesOf, roomOf, lentEnough, msssimRefusal}
 use Rattle.msssim.proofs.Rooms.{rows-all}
 
 -- ---- 8, after the planes
@@ -84,12 +81,3 @@ held-widened max width height old new p h f e =
     go : (i : ℕ) → Dec (i < height * width) → at new i ≤ max
     go i (yes l) = rows-all (λ (v : ℕ). v ≤ max) old new width (viewOf p) height f (λ r c k m. h c r m k) i l
     go i (no l) = rw (List·getD-eq-default new 0 {n = i} (omega (arith, e))) (omega arith)
-
--- ---- a refused call
-pub refused : (n : ℕ) (score : MsSsim) → (n ≡ 0 → ⊥) → Refused n ≡ answerFor n score
-refused zero score h = absurd (h refl)
-refused (suc n) score h = refl
-
-pub untouched : (n width height : ℕ) (l : Lent) → (n ≡ 0 → ⊥) → l ≡ lentAfter n width height l
-untouched zero width height l h = absurd (h refl)
-untouched (suc n) width height l h = refl

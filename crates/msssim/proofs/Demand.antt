@@ -10,7 +10,7 @@ use lib.Dec.{lit≤}
 use lib.Ieee.{nan}
 use lib.ListN.{getD}
 use Rattle.plane.specs.Limits.{mostDepth}
-use Rattle.plane.specs.Plane.{Plane, maxOf}
+use Rattle.plane.specs.Plane.{Plane}
 use Rattle.plane.specs.Lawful.{Accepted}
 use Rattle.window.specs.Kernel.{fixedKernel, fixedTotal}
 use Rattle.window.proofs.Demand.{Bounded, Demanded, scales, scaleMax, fixed-sums}

@@ -1,10 +1,9 @@
 -- Laws of the 32-bit places: one store more in a row, one row more, and what all places then are. Assumes nothing.
-use mathlib.Core.Path.{_≡_, refl, sym, _∙_}
+use mathlib.Core.Path.{_≡_, refl, _∙_}
 use mathlib.Core.List.{List}
 use Prim.Native.Nat.{ℕ, zero, suc, _+_, _-_, _*_, _/_, _≤_, _<_, _^_}
 use native.Mathlib.Nat.{ne-of-lt, add-mul, one-mul, mul-le-mul-left, mul-le-mul-right, mul-sub, le-refl, le-trans}
 use native.Mathlib.Decide.{decLt}
-use native.Mathlib.Numerals.{add-one}
 use native.Mathlib.Omega.{arith}
 use borrow.Author.Count.{below-more, below-none}
 use lib.Dec.{lit<}

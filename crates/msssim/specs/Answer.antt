@@ -2,14 +2,14 @@
 -- places afterwards. Definitions only.
 use mathlib.Core.Bool.{Bool, true, false, _&&_}
 use mathlib.Core.List.{List, [], _∷_, _++_}
-use Prim.Native.Nat.{ℕ, zero, suc, _*_}
+use Prim.Native.Nat.{ℕ, _*_}
 use lib.Dec.{leb}
 use lib.Ieee.{Float, nan}
 use lib.Ieee.Scale as Ieee
 use lib.IntN.{ℤ}
 use lib.ListN.{length, getD, replicate, drop}
 use Rattle.refusal.specs.Numbers.{scratchNo, notFiniteNo}
-use Rattle.refusal.specs.First.{firstBroken}
+use Rattle.refusal.specs.First.{firstBroken, byRefusal}
 use Rattle.plane.specs.Plane.{Plane, maxOf, allTo}
 use Rattle.plane.specs.Tests.{planeTests}
 use Rattle.window.specs.Columns.{viewOf}
@@ -80,11 +80,6 @@ firstScale a b width height depth = scaleOf (maxOf depth) width height (viewOf a
 abbrev pub scoreOf : Plane → Plane → ℕ → ℕ → ℕ → MsSsim
 scoreOf a b width height depth = gatheredOf (pairsFrom scaleCount (firstScale a b width height depth))
 
--- the refusal, where there is one; else the score
-abbrev pub answerFor : ℕ → MsSsim → MsSsim
-answerFor zero score = score
-answerFor (suc n) score = Refused (suc n)
-
 -- ---- what is lent beside the planes: the 64-bit places, and the 32-bit places of each plane
 pub record Lent : Type 0 where
   pub scratch : List ℤ
@@ -98,9 +93,11 @@ abbrev pub refusalOf : Bool → Plane → Plane → ℕ → ℕ → ℕ → Lent
 refusalOf wide a b width height depth l =
     msssimRefusal wide (a ∷ b ∷ []) width height depth (length (l .scratch)) (length (l .room-a)) (length (l .room-b))
 
--- the answer of a call
+-- the refusal, where there is one; else the score
 abbrev pub msssimOf : Bool → Plane → Plane → ℕ → ℕ → ℕ → Lent → MsSsim
-msssimOf wide a b width height depth l = answerFor (refusalOf wide a b width height depth l) (scoreOf a b width height depth)
+msssimOf wide a b width height depth l =
+    let n = refusalOf wide a b width height depth l in
+    byRefusal n (scoreOf a b width height depth) (Refused n)
 
 -- "the needed part all zero, the rest unchanged"
 abbrev pub roomCleared : ℕ → List ℕ → List ℕ
@@ -108,6 +105,7 @@ roomCleared need s = replicate need 0 ++ drop need s
 
 -- what then stands in what was lent, after a call that found this refusal before it scored: 0 is none
 abbrev pub lentAfter : ℕ → ℕ → ℕ → Lent → Lent
-lentAfter zero width height l =
-    lentOf (cleared (placesOf width) (l .scratch)) (roomCleared (roomOf width height) (l .room-a)) (roomCleared (roomOf width height) (l .room-b))
-lentAfter (suc n) width height l = l
+lentAfter n width height l =
+    byRefusal n
+    (lentOf (cleared (placesOf width) (l .scratch)) (roomCleared (roomOf width height) (l .room-a)) (roomCleared (roomOf width height) (l .room-b)))
+    l

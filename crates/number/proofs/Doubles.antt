@@ -16,7 +16,6 @@ use lib.Ieee.Exact.{HasValue, odd-sign, units-val}
 use lib.Ieee.Bits.{ofBits-toBits, nanBits-above}
 use borrow.Author.Tests.{lt-leb, le-leb, le-ltb, ne-eqb}
 use Rattle.refusal.specs.Numbers.{valueNo}
-use Rattle.number.specs.declared.Rooted.{Rooted}
 use Rattle.number.specs.declared.Rooted.the-variants.{Root, Refused}
 use Rattle.number.specs.Root.{nearestRoot, unitsOf, rootOfUnits, rootOf}
 

@@ -12,11 +12,9 @@ use native.Mathlib.Omega.{arith}
 use lib.Dec.{T, eqb, leb, ltb, leb→le, ltb→lt}
 use lib.IntN.{ℤ, pos, negsuc}
 use lib.Pow.{pow-add, pow-pos, pow-mono, pow-lt, shl-lt}
-use lib.Ieee.{Float, fin, binary64, up, down, low, emax, prec, fits, size, units}
+use lib.Ieee.{Float, fin, binary64, up, down, low, emax, prec, fits, size}
 use lib.Ieee.Digits.{size-lt, size-reaches, size-le}
 use lib.Ieee.Fits.{and-l, and-r, down-pos}
-use lib.Ieee.Positive.{positive}
-use lib.Ieee.Scale.{finite}
 use Rattle.number.specs.Root.{nearestRoot, unitsOf, rootOfUnits}
 use Rattle.number.proofs.Whole.{Near, Scaled, shifted, near-from, near-upto, nearest-near, above-square, below-square, sorted}
 use Rattle.number.proofs.Doubles.{units-are, units-value, units-fit, scaled-root, other-scale, scale-from}

@@ -4,6 +4,7 @@ use mathlib.Core.List.{[], _∷_}
 use Prim.Native.Nat.{ℕ, zero, suc, _+_, _-_, _*_}
 use lib.IntN.{pos}
 use lib.Ieee.{binary64, ofInt}
+use Rattle.refusal.specs.First.{byRefusal}
 use Rattle.plane.specs.Plane.{Plane, maxOf, sampleAt}
 use Rattle.plane.specs.Sums.{sumTo}
 use Rattle.plane.specs.Tests.{planeRefusal}
@@ -32,13 +33,13 @@ abbrev pub recordOf : Plane → Plane → ℕ → ℕ → ℕ → Record
 recordOf a b width height depth =
     record { «sq_err» = ofInt binary64 (pos (errorOf a b width height)); n = width * height; «sample_max» = maxOf depth }
 
--- the answer, from the refusal, the error and the record: "with error 0 it says identical, 100 beside it"
-abbrev pub compared : ℕ → ℕ → Record → SquaredError
-compared zero zero r = Identical r
-compared zero (suc e) r = Differs r
-compared (suc k) e r = Refused (suc k)
+-- "with error 0 it says identical, 100 beside it"
+abbrev pub compared : ℕ → Record → SquaredError
+compared zero r = Identical r
+compared (suc e) r = Differs r
 
 -- 3 does not belong to this call, so that the least side is 0
 unfoldable pub squaredErrorOf : Bool → Plane → Plane → ℕ → ℕ → ℕ → SquaredError
 squaredErrorOf wide a b width height depth =
-    compared (planeRefusal wide (a ∷ b ∷ []) width height depth 0) (errorOf a b width height) (recordOf a b width height depth)
+    let n = planeRefusal wide (a ∷ b ∷ []) width height depth 0 in
+    byRefusal n (compared (errorOf a b width height) (recordOf a b width height depth)) (Refused n)

@@ -1,17 +1,14 @@
 -- What planes that no test refuses give the score, and the answer by cases. Assumes nothing.
-use mathlib.Core.Path.{_≡_, refl}
 use mathlib.Core.Bool.{Bool}
-use Prim.Native.Nat.{ℕ, zero, suc, _-_, _*_, _≤_, _^_}
+use Prim.Native.Nat.{ℕ, _-_, _*_, _≤_, _^_}
 use native.Mathlib.Nat.{mul-le-mul, le-trans}
 use native.Mathlib.Omega.{arith}
-use lib.Ieee.{Float}
 use Rattle.plane.specs.Limits.{sideLimit, mostDepth}
 use Rattle.plane.specs.Plane.{Plane, maxOf}
 use Rattle.plane.specs.Lawful.{Lawful}
 use Rattle.plane.proofs.Limits.{side-small}
 use Rattle.plane.proofs.Depth.{max-small}
-use Rattle.psnr_hvs.specs.declared.Hvs.the-variants.{Refused}
-use Rattle.psnr_hvs.specs.Score.{blocksPerSide, answerFor}
+use Rattle.psnr_hvs.specs.Score.{blocksPerSide}
 use Rattle.psnr_hvs.specs.Legible.{Legible}
 
 pub legible : (wide : Bool) {width height depth : ℕ} (p : Plane) → Lawful width height depth p → depth ≤ mostDepth wide → Legible width height p
@@ -29,8 +26,3 @@ blocks-few width height w h =
 
 pub max-square : (wide : Bool) (depth : ℕ) → depth ≤ mostDepth wide → maxOf depth * maxOf depth ≤ 2 ^ 24
 max-square wide depth l = let m : maxOf depth ≤ 2 ^ 12 = omega (arith, max-small wide l) in mul-le-mul m m
-
--- ---- the answer
-pub refused : (n : ℕ) (s : Float) → (n ≡ 0 → ⊥) → Refused n ≡ answerFor n s
-refused zero s h = absurd (h refl)
-refused (suc n) s h = refl

@@ -1,11 +1,12 @@
 -- Document 01, "HVS, SSIM and scales", HVS: the blocks of two planes, the score, and the answer. Definitions only.
 use mathlib.Core.Bool.{Bool, true, false}
 use mathlib.Core.List.{List, [], _∷_}
-use Prim.Native.Nat.{ℕ, zero, suc, _+_, _-_, _*_, _/_, _%_}
+use Prim.Native.Nat.{ℕ, _+_, _-_, _*_, _/_, _%_}
 use lib.IntN.{ℤ, pos}
 use lib.Ieee.{Float}
 use lib.Ieee.Scale.{finite}
 use Rattle.refusal.specs.Numbers.{notFiniteNo}
+use Rattle.refusal.specs.First.{byRefusal}
 use Rattle.plane.specs.Plane.{Plane, sampleAt, maxOf}
 use Rattle.plane.specs.Tests.{planeRefusal}
 use Rattle.number.specs.Steps.{foldTo, _⊘_, double}
@@ -60,10 +61,8 @@ scored true s = Score s
 scored false s = Refused notFiniteNo
 
 -- the lowest of 1 to 6 that applies, and the score where none does
-abbrev pub answerFor : ℕ → Float → Hvs
-answerFor zero s = scored (finite s) s
-answerFor (suc n) s = Refused (suc n)
-
 unfoldable pub hvsOf : Bool → Kind → Plane → Plane → ℕ → ℕ → ℕ → Hvs
 hvsOf wide kind p q width height depth =
-    answerFor (planeRefusal wide (p ∷ q ∷ []) width height depth blockSide) (hvsScore kind p q width height depth)
+    let n = planeRefusal wide (p ∷ q ∷ []) width height depth blockSide in
+    let s = hvsScore kind p q width height depth in
+    byRefusal n (scored (finite s) s) (Refused n)

@@ -1,7 +1,6 @@
 // One block of 8 by 8 of each plane: its samples, the mask of both, and its error.
 use crate::spread;
 use number::Rooted;
-ghost use mathlib.Core.Bool.{Bool};
 ghost use mathlib.Core.Path.{_≡_};
 ghost use Prim.Native.Nat.{_+_, _<_, _≤_};
 ghost use lib.ListN.{length};

@@ -2,10 +2,10 @@
 use mathlib.Core.Path.{_≡_, refl, sym, _∙_}
 use mathlib.Core.Bool.{Bool, true, false, not, _&&_}
 use mathlib.Core.List.{List, [], _∷_, _++_}
-use Prim.Native.Nat.{ℕ, _≤_}
+use Prim.Native.Nat.{ℕ, zero, suc, _≤_}
 use native.Mathlib.Omega.{arith}
 use borrow.Author.Tests.{not-true, not-false}
-use Rattle.refusal.specs.First.{firstBroken}
+use Rattle.refusal.specs.First.{firstBroken, byRefusal}
 
 -- ---- two tests that both passed
 pub and-left : (a b : Bool) → (a && b) ≡ true → a ≡ true
@@ -57,3 +57,8 @@ stop ts more e h = e ∙ head ts more (λ z. h (e ∙ z))
 -- it did not: the answer is that of the other tests
 pub go-on : {n m : ℕ} (ts more : List (ℕ × Bool)) → Named ts → n ≡ firstBroken ts → n ≡ 0 → m ≡ firstBroken more → m ≡ firstBroken (ts ++ more)
 go-on ts more named e z f = f ∙ sym (rest ts more named (sym e ∙ z))
+
+-- ---- a refused call gives, and leaves, what it does where it refuses
+pub refused : {A : Type 0} (n : ℕ) (a r : A) → (n ≡ 0 → ⊥) → r ≡ byRefusal n a r
+refused zero a r h = absurd (h refl)
+refused (suc n) a r h = refl

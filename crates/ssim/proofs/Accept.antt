@@ -2,12 +2,11 @@
 use mathlib.Core.Path.{_≡_, refl, sym, _∙_}
 use mathlib.Core.Bool.{Bool, true, false}
 use mathlib.Core.List.{List, [], _∷_, _++_}
-use Prim.Native.Nat.{ℕ, zero, suc, _+_, _*_, _/_, _≤_, _<_}
+use Prim.Native.Nat.{ℕ, _+_, _*_, _/_, _≤_, _<_}
 use native.Mathlib.Nat.{mul-le-mul-left, mul-add, mul-comm, mul-assoc}
 use native.Mathlib.Omega.{arith}
 use borrow.Author.Tests.{leb-true, le-leb, lt-leb}
 use lib.Dec.{lit≤}
-use lib.IntN.{ℤ}
 use lib.ListN.{length, getD}
 use Rattle.refusal.specs.Numbers.{kernelNo, scratchNo}
 use Rattle.refusal.specs.First.{firstBroken}
@@ -19,11 +18,9 @@ use Rattle.plane.proofs.Depth.{depth-small}
 use Rattle.window.specs.Kernel.{mostTaps, lawful, lentTotal}
 use Rattle.window.specs.Columns.{columnsOf, mostSample}
 use Rattle.window.proofs.KernelSays.{kernel-says, kernel-serves, lent-total}
-use Rattle.ssim.specs.Scratch.{linesOf, placesOf, scratchAfter}
-use Rattle.ssim.specs.Answer.{lentTests, ssimRefusal, answerFor}
+use Rattle.ssim.specs.Scratch.{linesOf, placesOf}
+use Rattle.ssim.specs.Answer.{lentTests, ssimRefusal}
 use Rattle.ssim.specs.Sound.{Sound}
-use Rattle.ssim.specs.declared.Ssim.{Ssim}
-use Rattle.ssim.specs.declared.Ssim.the-variants.{Refused}
 use Rattle.ssim.proofs.Powers.{lines-reach}
 
 -- ---- what a lawful kernel says of the count of its taps
@@ -104,12 +101,3 @@ pub either-small : (wide : Bool) (bytes words : List ℕ) → ((i : ℕ) → get
 unfolding mostSample
 either-small true bytes words h k i = omega (arith, k i)
 either-small false bytes words h k i = omega (arith, h i)
-
--- ---- a refused call
-pub refused : (n : ℕ) (score : Ssim) → (n ≡ 0 → ⊥) → Refused n ≡ answerFor n score
-refused zero score h = absurd (h refl)
-refused (suc n) score h = refl
-
-pub untouched : (n need : ℕ) (s : List ℤ) → (n ≡ 0 → ⊥) → s ≡ scratchAfter n need s
-untouched zero need s h = absurd (h refl)
-untouched (suc n) need s h = refl

@@ -3,10 +3,9 @@
 use mathlib.Core.Path.{_≡_, refl}
 use mathlib.Core.List.{[], _∷_}
 use lib.Ieee.{binary64, ofBits, ofInt, add, sub, mul, div}
-use Rattle.number.specs.Steps.{double, foldTo}
+use Rattle.number.specs.Steps.{foldTo}
 use Rattle.plane.specs.Plane.{Plane, planeOf, maxOf}
 use Rattle.plane.specs.Sums.{sumTo}
-use Rattle.window.specs.Parts.{momentsAt}
 use Rattle.window.specs.Moments.{inside, momentAt}
 use Rattle.ssim.specs.declared.Ssim.the-variants.{Pair}
 use Rattle.ssim.specs.Score.{stepOf, totalsOf}

@@ -1,13 +1,13 @@
 -- Document 01: the answer of SSIM for every case, the pair or the lowest refusal of 1 2 4 5 6 7 8, then 9. Definitions only.
 use mathlib.Core.Bool.{Bool, true, false, _&&_}
 use mathlib.Core.List.{List, [], _∷_, _++_}
-use Prim.Native.Nat.{ℕ, zero, suc, _*_}
+use Prim.Native.Nat.{ℕ, _*_}
 use lib.Dec.{leb}
 use lib.Ieee.{Float}
 use lib.Ieee.Scale as Scale
 use lib.ListN.{length}
 use Rattle.refusal.specs.Numbers.{kernelNo, scratchNo, notFiniteNo}
-use Rattle.refusal.specs.First.{firstBroken}
+use Rattle.refusal.specs.First.{firstBroken, byRefusal}
 use Rattle.number.specs.Steps.{_⊘_, double}
 use Rattle.plane.specs.Plane.{Plane, maxOf}
 use Rattle.plane.specs.Tests.{planeTests}
@@ -50,10 +50,7 @@ scoreOf a b width height depth ker =
     pairOf (totalsOf (double (maxOf depth * maxOf depth)) ker width height (viewOf a) (viewOf b) height)
 
 -- the refusal, where there is one; else the score
-abbrev pub answerFor : ℕ → Ssim → Ssim
-answerFor zero score = score
-answerFor (suc n) score = Refused (suc n)
-
 abbrev pub ssimOf : Bool → Plane → Plane → ℕ → ℕ → ℕ → List ℕ → ℕ → Ssim
 ssimOf wide a b width height depth ker places =
-    answerFor (ssimRefusal wide (a ∷ b ∷ []) width height depth ker places) (scoreOf a b width height depth ker)
+    let n = ssimRefusal wide (a ∷ b ∷ []) width height depth ker places in
+    byRefusal n (scoreOf a b width height depth ker) (Refused n)

@@ -2,10 +2,11 @@
 -- count", and what stands there afterwards. Definitions only.
 use mathlib.Core.Bool.{cond}
 use mathlib.Core.List.{List, _++_}
-use Prim.Native.Nat.{ℕ, zero, suc, _*_}
+use Prim.Native.Nat.{ℕ, _*_}
 use lib.Dec.{ltb}
 use lib.IntN.{ℤ, pos}
 use lib.ListN.{replicate, drop}
+use Rattle.refusal.specs.First.{byRefusal}
 use Rattle.number.specs.Steps.{foldTo}
 
 -- p, or twice p where p is below n
@@ -26,5 +27,4 @@ cleared need s = replicate need (pos 0) ++ drop need s
 
 -- what stands in the scratch after a call that found this refusal before it scored: 0 is none
 abbrev pub scratchAfter : ℕ → ℕ → List ℤ → List ℤ
-scratchAfter zero need s = cleared need s
-scratchAfter (suc n) need s = s
+scratchAfter n need s = byRefusal n (cleared need s) s

@@ -1,6 +1,6 @@
 // The double steps, each rounded once, in the order of the Rust.
 ghost use mathlib.Core.Path.{_≡_};
-ghost use Prim.Native.Nat.{_*_, _^_, _≤_};
+ghost use Prim.Native.Nat.{_*_};
 ghost use Rattle.number.specs.Steps as Steps;
 ghost use Rattle.ssim.specs.Score.{stepOf};
 ghost use Rattle.ssim.specs.Answer as Answer;

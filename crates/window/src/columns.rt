@@ -7,7 +7,7 @@ ghost use lib.ListN.{length, set};
 ghost use Rattle.plane.specs.Limits.{sideLimit};
 ghost use Rattle.plane.specs.Plane.{planeOf, samplesOf};
 ghost use Rattle.window.specs.Kernel.{mostTaps};
-ghost use Rattle.window.specs.Parts.{Kernel, quantOf, nth, tappedOf, Room, partsOf};
+ghost use Rattle.window.specs.Parts.{Kernel, quantOf, tappedOf, Room, partsOf};
 ghost use Rattle.window.specs.Columns.{viewOf, Readable, Holds, Fits};
 use crate::Sums;
 

@@ -1,7 +1,7 @@
 // Along the row: at each centre the five sums over the column sums, and the weight. The columns stand between margins of zeros, half a
 // kernel wide, so that the sums need no limits.
 ghost use mathlib.Core.Path.{_≡_};
-ghost use Prim.Native.Nat.{ℕ, _+_, _*_, _/_, _<_, _≤_, _^_};
+ghost use Prim.Native.Nat.{ℕ, _+_, _*_, _/_, _<_, _≤_};
 ghost use lib.Dec.{T};
 ghost use lib.IntN.{pos, natAbs};
 ghost use lib.ListN.{length};

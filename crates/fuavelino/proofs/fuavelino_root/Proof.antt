@@ -1,5 +1,5 @@
 -- `fuavelino::fuavelino_root` meets its contract: by what the root answered. Assumes nothing.
-use mathlib.Core.Path.{refl, sym, _∙_}
+use mathlib.Core.Path.{refl}
 use borrow.Author.Needs.{needs}
 use Rattle.fuavelino.proofs.fuavelino_root.Statement.{statement}
 use Rattle.fuavelino.proofs.fuavelino_root.Tie as tie

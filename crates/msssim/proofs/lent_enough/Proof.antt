@@ -7,8 +7,6 @@ use Rattle.msssim.specs.Answer.{lentEnough}
 use Rattle.msssim.proofs.Accept.{area-room}
 use Rattle.msssim.proofs.lent_enough.Statement.{statement}
 use Rattle.msssim.proofs.lent_enough.Tie as tie
-use Rattle.msssim.proofs.lent_enough.Reads as reads
-use Rattle.msssim.proofs.lent_enough.Lts as lts
 
 mul-room : tie.Need-mul-room
 mul-room c = record { fits = lt-of-le-of-lt (mul-le-mul (c .pre .0) (c .pre .1)) area-room }

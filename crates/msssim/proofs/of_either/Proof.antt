@@ -1,19 +1,16 @@
 -- `msssim::of_either` meets its contract. Assumes nothing.
 use mathlib.Core.Path.{sym, _∙_}
-use Rattle.msssim.proofs.Accept.{sound, refused, untouched}
+use Rattle.msssim.proofs.Accept.{sound}
 use borrow.Author.Needs.{needs}
+use Rattle.refusal.proofs.Chain.{refused}
 use Rattle.msssim.proofs.of_either.Statement.{statement}
 use Rattle.msssim.proofs.of_either.Tie as tie
-use Rattle.msssim.proofs.of_either.Reads as reads
-use Rattle.msssim.proofs.of_either.Lts as lts
-use Rattle.msssim.proofs.refusal.Reads as refusal-reads
-use Rattle.msssim.proofs.scored.Reads as scored-reads
 
 refusal-requires : tie.Need-refusal-requires
 refusal-requires c κs = search needs
 
 returns : tie.Need-returns
-returns c = rw (← (c .before .refusal .ensures)) (refused _ _ (c .if1 .taken), untouched _ _ _ _ (c .if1 .taken))
+returns c = rw (← (c .before .refusal .ensures)) (refused _ _ _ (c .if1 .taken), refused _ _ _ (c .if1 .taken))
 
 scored-requires : tie.Need-scored-requires
 scored-requires c κs = sound _ _ _ _ _ _ _ _ (c .before .before .before .before .refusal .ensures) (c .before .before .before .if1 .left)

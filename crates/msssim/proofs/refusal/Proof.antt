@@ -6,10 +6,6 @@ use Rattle.msssim.proofs.Accept.{lent-refuses, none-refuses}
 use borrow.Author.Needs.{needs}
 use Rattle.msssim.proofs.refusal.Statement.{statement}
 use Rattle.msssim.proofs.refusal.Tie as tie
-use Rattle.msssim.proofs.refusal.Reads as reads
-use Rattle.msssim.proofs.refusal.Lts as lts
-use Rattle.msssim.proofs.lent_enough.Reads as lent-enough-reads
-use Rattle.plane.proofs.check.Reads as check-reads
 
 check-requires : tie.Need-check-requires
 check-requires c κs = search needs

@@ -7,9 +7,6 @@ use Rattle.msssim.specs.Answer.{placesOf, roomOf}
 use borrow.Author.Needs.{needs}
 use Rattle.msssim.proofs.scored.Statement.{statement}
 use Rattle.msssim.proofs.scored.Tie as tie
-use Rattle.msssim.proofs.scored.Reads as reads
-use Rattle.msssim.proofs.scored.Lts as lts
-use Rattle.msssim.proofs.whole.answer.Reads as answer-reads
 
 mul-places : tie.Need-mul-places
 mul-places c = search needs

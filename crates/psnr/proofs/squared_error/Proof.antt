@@ -6,13 +6,14 @@ use native.Mathlib.Nat.{lt-of-le-of-lt, le-of-lt, le-refl}
 use native.Mathlib.Omega.{arith}
 use borrow.Author.Needs.{needs}
 use denote.Ref.{now}
+use Rattle.refusal.proofs.Chain.{refused}
 use Rattle.plane.specs.Plane.{Plane, planeOf, samplesOf}
 use Rattle.plane.specs.Tests.{planeRefusal}
 use Rattle.plane.specs.Lawful.{Accepted}
 use Rattle.plane.proofs.Accept.{accepted}
 use Rattle.plane.proofs.Depth.{depth-small}
 use Rattle.psnr.specs.declared.Record.{Record}
-use Rattle.psnr.specs.declared.SquaredError.the-variants.{Differs, Identical, Refused}
+use Rattle.psnr.specs.declared.SquaredError.the-variants.{Differs, Identical}
 use Rattle.psnr.specs.Limits.{totalLimit}
 use Rattle.psnr.specs.Squared.{compared, squaredErrorOf}
 use Rattle.psnr.proofs.Squares.{walkable, error-below, count-le, count-fits}
@@ -20,15 +21,11 @@ use Rattle.psnr.proofs.squared_error.Statement.{statement}
 use Rattle.psnr.proofs.squared_error.Tie as tie
 
 -- the answer by its cases
-refused : (k e : ℕ) (r : Record) → (k ≡ 0 → ⊥) → Refused k ≡ compared k e r
-refused zero e r n = absurd (n refl)
-refused (suc k) e r n = refl
-
-identical : (e : ℕ) (r : Record) → e ≡ 0 → Identical r ≡ compared 0 e r
+identical : (e : ℕ) (r : Record) → e ≡ 0 → Identical r ≡ compared e r
 identical zero r z = refl
 identical (suc e) r z = absurd (omega arith)
 
-differs : (e : ℕ) (r : Record) → (e ≡ 0 → ⊥) → Differs r ≡ compared 0 e r
+differs : (e : ℕ) (r : Record) → (e ≡ 0 → ⊥) → Differs r ≡ compared e r
 differs zero r n = absurd (n refl)
 differs (suc e) r n = refl
 

@@ -1,8 +1,9 @@
+-- `psnr_hvs::answer` meets its contract. Assumes nothing.
 use borrow.Author.Needs.{needs}
 use mathlib.Core.Path.{sym, _∙_}
+use Rattle.refusal.proofs.Chain.{refused}
 use Rattle.plane.proofs.Several.{planes-say}
 use Rattle.psnr_hvs.specs.Score.{hvsOf}
-use Rattle.psnr_hvs.proofs.Taken.{refused}
 use Rattle.psnr_hvs.proofs.answer.Statement.{statement}
 use Rattle.psnr_hvs.proofs.answer.Tie as tie
 
@@ -11,7 +12,7 @@ check-requires c κs = search needs
 
 returns : tie.Need-returns
 unfolding hvsOf
-returns c = rw (← (c .before .check .ensures)) (refused _ _ (c .if1 .taken))
+returns c = rw (← (c .before .check .ensures)) (refused _ _ _ (c .if1 .taken))
 
 score-requires : tie.Need-score-requires
 score-requires c κs = planes-say _ _ _ _ _ _ (c .before .check .ensures) (c .if1 .left)

@@ -1,7 +1,8 @@
 -- `ssim::of_either` meets its contract. Assumes nothing.
 use mathlib.Core.Path.{sym, _∙_}
 use borrow.Author.Needs.{needs}
-use Rattle.ssim.proofs.Accept.{sound, refused, untouched}
+use Rattle.refusal.proofs.Chain.{refused}
+use Rattle.ssim.proofs.Accept.{sound}
 use Rattle.ssim.proofs.of_either.Statement.{statement}
 use Rattle.ssim.proofs.of_either.Tie as tie
 
@@ -9,7 +10,7 @@ refusal-requires : tie.Need-refusal-requires
 refusal-requires c κs = search needs
 
 returns : tie.Need-returns
-returns c = rw (← (c .before .refusal .ensures)) (refused _ _ (c .if1 .taken), untouched _ _ _ (c .if1 .taken))
+returns c = rw (← (c .before .refusal .ensures)) (refused _ _ _ (c .if1 .taken), refused _ _ _ (c .if1 .taken))
 
 scored-requires : tie.Need-scored-requires
 scored-requires c κs = sound _ _ _ _ _ _ _ _ (c .before .before .refusal .ensures) (c .before .if1 .left)

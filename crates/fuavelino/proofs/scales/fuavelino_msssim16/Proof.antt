@@ -2,10 +2,6 @@
 use borrow.Author.Needs.{needs}
 use Rattle.fuavelino.proofs.scales.fuavelino_msssim16.Statement.{statement}
 use Rattle.fuavelino.proofs.scales.fuavelino_msssim16.Tie as tie
-use Rattle.fuavelino.proofs.scales.fuavelino_msssim16.Reads as reads
-use Rattle.fuavelino.proofs.scales.fuavelino_msssim16.Lts as lts
-use Rattle.fuavelino.proofs.scales.put_pairs.Reads as put-pairs-reads
-use Rattle.msssim.proofs.msssim16.Reads as msssim16-reads
 
 msssim16-requires : tie.Need-msssim16-requires
 msssim16-requires c κs = search needs

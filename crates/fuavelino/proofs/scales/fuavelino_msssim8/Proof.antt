@@ -2,10 +2,6 @@
 use borrow.Author.Needs.{needs}
 use Rattle.fuavelino.proofs.scales.fuavelino_msssim8.Statement.{statement}
 use Rattle.fuavelino.proofs.scales.fuavelino_msssim8.Tie as tie
-use Rattle.fuavelino.proofs.scales.fuavelino_msssim8.Reads as reads
-use Rattle.fuavelino.proofs.scales.fuavelino_msssim8.Lts as lts
-use Rattle.fuavelino.proofs.scales.put_pairs.Reads as put-pairs-reads
-use Rattle.msssim.proofs.msssim8.Reads as msssim8-reads
 
 msssim8-requires : tie.Need-msssim8-requires
 msssim8-requires c κs = search needs

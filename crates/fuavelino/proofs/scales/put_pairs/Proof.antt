@@ -3,8 +3,6 @@ use mathlib.Core.Path.{refl}
 use borrow.Author.Needs.{needs}
 use Rattle.fuavelino.proofs.scales.put_pairs.Statement.{statement}
 use Rattle.fuavelino.proofs.scales.put_pairs.Tie as tie
-use Rattle.fuavelino.proofs.scales.put_pairs.Reads as reads
-use Rattle.fuavelino.proofs.scales.put_pairs.Lts as lts
 
 enum-known-answer : tie.Need-enum-known-answer
 enum-known-answer c = search needs

@@ -12,9 +12,6 @@ use Rattle.plane.proofs.All.{all-none, all-more}
 use Rattle.msssim.specs.Answer.{allFinite}
 use Rattle.msssim.proofs.gather.all_finite.Statement.{statement}
 use Rattle.msssim.proofs.gather.all_finite.Tie as tie
-use Rattle.msssim.proofs.gather.all_finite.Reads as reads
-use Rattle.msssim.proofs.gather.all_finite.Lts as lts
-use Rattle.number.proofs.finite.Reads as finite-reads
 
 abbrev Inv-loop : tie.InvT-loop
 Inv-loop l ok₀ i₀ i-end ok i = (i ≤ length l) × (ok ≡ allTo (λ (k : ℕ). Ieee.finite (getD l k nan)) i)

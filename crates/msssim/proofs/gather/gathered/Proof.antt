@@ -3,9 +3,6 @@ use Rattle.refusal.proofs.Chain.{fails, holds}
 use borrow.Author.Needs.{needs}
 use Rattle.msssim.proofs.gather.gathered.Statement.{statement}
 use Rattle.msssim.proofs.gather.gathered.Tie as tie
-use Rattle.msssim.proofs.gather.gathered.Reads as reads
-use Rattle.msssim.proofs.gather.gathered.Lts as lts
-use Rattle.msssim.proofs.gather.all_finite.Reads as all-finite-reads
 
 all-finite-requires : tie.Need-all-finite-requires
 all-finite-requires c κs = search needs

@@ -9,8 +9,6 @@ use lib.ListN.{length, replicate, drop, length-set, drop-of-length-le}
 use Rattle.ssim.proofs.Zeros.{fill-more}
 use Rattle.msssim.proofs.room.clear.Statement.{statement}
 use Rattle.msssim.proofs.room.clear.Tie as tie
-use Rattle.msssim.proofs.room.clear.Reads as reads
-use Rattle.msssim.proofs.room.clear.Lts as lts
 
 abbrev Inv-loop : tie.InvT-loop
 Inv-loop room₀ i₀ i-end room i = (i ≤ length room₀) × (length room ≡ length room₀) × (room ≡ replicate i 0 ++ drop i room₀)

@@ -1,6 +1,6 @@
 -- `msssim::room::downscale` meets its contract: the rows above j stand there, and all from row j on is as it was. Assumes nothing.
 use mathlib.Core.Path.{_≡_, refl, _∙_}
-use Prim.Native.Nat.{ℕ, _+_, _-_, _*_, _/_, _≤_, _<_}
+use Prim.Native.Nat.{_+_, _-_, _*_, _/_, _≤_}
 use native.Mathlib.Nat.{mul-le-mul-right}
 use native.Mathlib.Omega.{arith}
 use borrow.Author.Needs.{needs}
@@ -13,9 +13,6 @@ use Rattle.msssim.specs.Scale.{summedOf}
 use Rattle.msssim.proofs.Rooms.{filled-none, filled-more, sum-still}
 use Rattle.msssim.proofs.room.downscale.Statement.{statement}
 use Rattle.msssim.proofs.room.downscale.Tie as tie
-use Rattle.msssim.proofs.room.downscale.Reads as reads
-use Rattle.msssim.proofs.room.downscale.Lts as lts
-use Rattle.msssim.proofs.room.sum_row.Reads as sum-row-reads
 
 abbrev Inv-loop : tie.InvT-loop
 Inv-loop room₀ width height j₀ j-end room j =

@@ -5,8 +5,6 @@ use Rattle.msssim.proofs.Rooms.{four-room}
 use borrow.Author.Needs.{needs}
 use Rattle.msssim.proofs.room.four.Statement.{statement}
 use Rattle.msssim.proofs.room.four.Tie as tie
-use Rattle.msssim.proofs.room.four.Reads as reads
-use Rattle.msssim.proofs.room.four.Lts as lts
 
 mul-result : tie.Need-mul-result
 mul-result c = search needs

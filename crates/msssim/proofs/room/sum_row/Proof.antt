@@ -1,9 +1,9 @@
 -- `msssim::room::sum_row` meets its contract. Assumes nothing.
 use Rattle.plane.proofs.Limits.{side-small}
 use borrow.Author.Needs.{needs}
-use Prim.Native.Nat.{ℕ, _+_, _-_, _*_, _/_, _≤_, _<_, _^_}
+use Prim.Native.Nat.{_-_, _*_, _/_, _≤_}
 use native.Mathlib.Omega.{arith}
-use mathlib.Core.Path.{_≡_, refl, _∙_}
+use mathlib.Core.Path.{_≡_, refl}
 use denote.Ref.{now}
 use lib.ListN.{length, length-set}
 use Rattle.plane.specs.Plane.{planeOf}
@@ -13,9 +13,6 @@ use Rattle.msssim.specs.Rooms.{Put}
 use Rattle.msssim.proofs.Rooms.{put-none, put-more, half-le, sum-same, sum-small}
 use Rattle.msssim.proofs.room.sum_row.Statement.{statement}
 use Rattle.msssim.proofs.room.sum_row.Tie as tie
-use Rattle.msssim.proofs.room.sum_row.Reads as reads
-use Rattle.msssim.proofs.room.sum_row.Lts as lts
-use Rattle.msssim.proofs.room.four.Reads as four-reads
 
 abbrev Inv-loop : tie.InvT-loop
 Inv-loop room₀ width j half to top c₀ room c = (c ≤ width / 2) × (length room ≡ length room₀) × Put room₀ room (j * (width / 2)) c (summedOf (viewOf (planeOf room₀ width)) j)

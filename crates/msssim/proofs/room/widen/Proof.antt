@@ -1,6 +1,6 @@
 -- `msssim::room::widen` meets its contract: the rows above y stand there. Assumes nothing.
 use mathlib.Core.Path.{_≡_, refl, _∙_}
-use Prim.Native.Nat.{ℕ, _+_, _-_, _*_, _/_, _≤_, _<_}
+use Prim.Native.Nat.{_-_, _≤_}
 use native.Mathlib.Nat.{mul-le-mul-right}
 use native.Mathlib.Omega.{arith}
 use borrow.Author.Needs.{needs}
@@ -13,9 +13,6 @@ use Rattle.plane.proofs.Rows.{row-inside, count-fits}
 use Rattle.msssim.proofs.Rooms.{filled-none, filled-more}
 use Rattle.msssim.proofs.room.widen.Statement.{statement}
 use Rattle.msssim.proofs.room.widen.Tie as tie
-use Rattle.msssim.proofs.room.widen.Reads as reads
-use Rattle.msssim.proofs.room.widen.Lts as lts
-use Rattle.msssim.proofs.room.widen_row.Reads as widen-row-reads
 
 abbrev Inv-loop : tie.InvT-loop
 Inv-loop room₀ bytes words wide width height stride y₀ room y =

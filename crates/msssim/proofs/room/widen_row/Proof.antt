@@ -1,9 +1,9 @@
 -- `msssim::room::widen_row` meets its contract. Assumes nothing.
 use Rattle.plane.proofs.Rows.{count-fits}
 use borrow.Author.Needs.{needs}
-use Prim.Native.Nat.{ℕ, _+_, _-_, _*_, _/_, _≤_, _<_, _^_}
+use Prim.Native.Nat.{ℕ, _+_, _-_, _≤_}
 use native.Mathlib.Omega.{arith}
-use mathlib.Core.Path.{_≡_, refl, _∙_}
+use mathlib.Core.Path.{_≡_, refl}
 use denote.Ref.{now}
 use lib.ListN.{length, length-set}
 use Rattle.plane.specs.Plane.{at, samplesOf}
@@ -11,9 +11,6 @@ use Rattle.msssim.specs.Rooms.{Put}
 use Rattle.msssim.proofs.Rooms.{put-none, put-more}
 use Rattle.msssim.proofs.room.widen_row.Statement.{statement}
 use Rattle.msssim.proofs.room.widen_row.Tie as tie
-use Rattle.msssim.proofs.room.widen_row.Reads as reads
-use Rattle.msssim.proofs.room.widen_row.Lts as lts
-use Rattle.plane.proofs.sample.Reads as sample-reads
 
 abbrev Inv-loop : tie.InvT-loop
 Inv-loop room₀ bytes words wide start to width x₀ room x = (x ≤ width) × (length room ≡ length room₀) × Put room₀ room to x (λ (i : ℕ). at (samplesOf wide bytes words) (start + i))

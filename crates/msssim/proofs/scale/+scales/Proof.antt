@@ -1,7 +1,7 @@
 -- The proof of the cycle of calls {scales}. The measure is the number of scales that are left. Assumes nothing.
 use Prim.Native.Nat.{ℕ, _-_, _<_}
 use borrow.Rule.Slice.PartMut.{same-len-mid}
-use mathlib.Core.Path.{_≡_, refl, sym, _∙_}
+use mathlib.Core.Path.{_∙_}
 use native.Mathlib.Nat.{le-refl, le-trans}
 use native.Mathlib.Omega.{arith}
 use denote.Ref.{now}

@@ -4,8 +4,6 @@ use Rattle.msssim.proofs.Scales.{two-set}
 use borrow.Author.Needs.{needs}
 use Rattle.msssim.proofs.scale.put_pair.Statement.{statement}
 use Rattle.msssim.proofs.scale.put_pair.Tie as tie
-use Rattle.msssim.proofs.scale.put_pair.Reads as reads
-use Rattle.msssim.proofs.scale.put_pair.Lts as lts
 
 slice-write-pairs : tie.Need-slice-write-pairs
 slice-write-pairs c = search needs

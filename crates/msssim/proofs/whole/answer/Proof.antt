@@ -7,12 +7,6 @@ use Rattle.msssim.specs.Scale.{scaleCount}
 use borrow.Author.Needs.{needs}
 use Rattle.msssim.proofs.whole.answer.Statement.{statement}
 use Rattle.msssim.proofs.whole.answer.Tie as tie
-use Rattle.msssim.proofs.whole.answer.Reads as reads
-use Rattle.msssim.proofs.whole.answer.Lts as lts
-use Rattle.msssim.proofs.gather.gathered.Reads as gathered-reads
-use Rattle.msssim.proofs.room.clear.Reads as room-clear-reads
-use Rattle.msssim.proofs.whole.numbers.Reads as numbers-reads
-use Rattle.ssim.proofs.walk.clear.Reads as walk-clear-reads
 
 slice-aggregate-numbers : tie.Need-slice-aggregate-numbers
 slice-aggregate-numbers c = search needs

@@ -11,11 +11,6 @@ use Rattle.msssim.proofs.Scales.{pairs-ext}
 use borrow.Author.Needs.{needs}
 use Rattle.msssim.proofs.whole.numbers.Statement.{statement}
 use Rattle.msssim.proofs.whole.numbers.Tie as tie
-use Rattle.msssim.proofs.whole.numbers.Reads as reads
-use Rattle.msssim.proofs.whole.numbers.Lts as lts
-use Rattle.msssim.proofs.room.widen.Reads as widen-reads
-use Rattle.msssim.proofs.scale.scales.Reads as scales-reads
-use Rattle.plane.proofs.sample_max.Reads as sample-max-reads
 
 widen-requires : tie.Need-widen-requires
 widen-requires c κs = search needs

@@ -1,10 +1,9 @@
 -- `window::columns32::column32` meets its contract. Assumes nothing.
-use mathlib.Core.Path.{_≡_, sym, ap, _∙_}
-use Prim.Native.Nat.{ℕ, _≤_, _<_, _-_, _+_, _*_, _/_, _^_}
+use mathlib.Core.Path.{_≡_, sym}
+use Prim.Native.Nat.{ℕ, _≤_, _-_}
 use native.Mathlib.Omega.{arith}
 use borrow.Author.Needs.{needs}
 use denote.Ref.{now}
-use lib.ListN.{length}
 use Rattle.plane.specs.Plane.{planeOf}
 use Rattle.plane.proofs.Rows as rows
 use Rattle.window.specs.Parts.{partsOf, quantOf}
@@ -14,12 +13,6 @@ use Rattle.window.proofs.Windows.{taps-room}
 use Rattle.window.proofs.Five.{quant-small, parts-more, parts-first, parts-last, parts-room}
 use Rattle.window.proofs.columns32.column32.Statement.{statement}
 use Rattle.window.proofs.columns32.column32.Tie as tie
-use Rattle.window.proofs.columns32.column32.Reads as reads
-use Rattle.window.proofs.columns32.column32.Lts as lts
-use Rattle.window.proofs.columns.first.Reads as first-reads
-use Rattle.window.proofs.columns.past.Reads as past-reads
-use Rattle.window.proofs.columns32.sample32.Reads as sample32-reads
-use Rattle.window.proofs.columns.tapped.Reads as tapped-reads
 
 abbrev Inv-loop : tie.InvT-loop
 Inv-loop kernel a b stride-a stride-b width height x y n off t₀ k₀ k-end t k = (k₀ ≤ k) × (k ≤ k-end) × (t ≡ partsOf kernel height (λ (m i : ℕ). quantOf m (viewOf (planeOf a stride-a) i x) (viewOf (planeOf b stride-b) i x)) y k)

@@ -1,6 +1,6 @@
 -- `window::columns32::fill32` meets its contract: the columns before x stand there. Assumes nothing.
 use mathlib.Core.Path.{_≡_, refl, _∙_}
-use Prim.Native.Nat.{ℕ, _≤_, _-_, _*_, _^_}
+use Prim.Native.Nat.{ℕ, _≤_, _-_, _*_}
 use native.Mathlib.Omega.{arith}
 use borrow.Author.Needs.{needs}
 use denote.Ref.{now}
@@ -12,10 +12,6 @@ use Rattle.window.proofs.Five.{quant-le, parts-low}
 use Rattle.window.proofs.Held.{holds-none, holds-more}
 use Rattle.window.proofs.columns32.fill32.Statement.{statement}
 use Rattle.window.proofs.columns32.fill32.Tie as tie
-use Rattle.window.proofs.columns32.fill32.Reads as reads
-use Rattle.window.proofs.columns32.fill32.Lts as lts
-use Rattle.window.proofs.columns32.column32.Reads as column32-reads
-use Rattle.window.proofs.columns.put.Reads as put-reads
 
 abbrev Inv-loop : tie.InvT-loop
 Inv-loop cols₀ kernel a b stride-a stride-b width height y x₀ cols x =

@@ -4,8 +4,6 @@ use native.Mathlib.Omega.{arith}
 use borrow.Author.Needs.{needs}
 use Rattle.window.proofs.columns32.sample32.Statement.{statement}
 use Rattle.window.proofs.columns32.sample32.Tie as tie
-use Rattle.window.proofs.columns32.sample32.Reads as reads
-use Rattle.window.proofs.columns32.sample32.Lts as lts
 
 mul-result : tie.Need-mul-result
 mul-result c = search needs
