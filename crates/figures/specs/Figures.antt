@@ -30,6 +30,7 @@ abbrev pub Held : List Figure → Type 0
 Held [] = Unit {0}
 Held (f ∷ fs) = (f .gives ≡ f .says) × Held fs
 
+-- numbers that have no sign, among those that have one
 abbrev counts : List ℕ → List ℤ
 counts = map pos
 
@@ -41,17 +42,18 @@ errorTold (Differs r) = pos (wholeOf (r .«sq_err»)) ∷ []
 errorTold (Identical r) = pos (wholeOf (r .«sq_err»)) ∷ []
 errorTold (Refused k) = []
 
--- one row of three bytes beside another
+-- of one row of three bytes beside another
 abbrev errorOfThree : List ℕ → List ℕ → List ℤ
 errorOfThree a b = errorTold (squaredErrorOf false (planeOf a 3) (planeOf b 3) 3 1 8)
 
 -- the first plane of a scale, row by row
-abbrev samplesOf : Scale → List ℤ
-samplesOf s = rows (λ (r : ℕ). listTo (λ (c : ℕ). pos (s .a r c)) (s .width)) (s .height)
+abbrev rowByRow : Scale → List ℤ
+rowByRow s = rows (λ (r : ℕ). listTo (λ (c : ℕ). pos (s .a r c)) (s .width)) (s .height)
 
+-- the scale below a plane of bytes with no padding
 abbrev downscaled : ℕ → ℕ → List ℕ → List ℤ
 downscaled width height samples =
-    samplesOf (belowOf (firstScale (planeOf samples width) (planeOf samples width) width height 8))
+    rowByRow (belowOf (firstScale (planeOf samples width) (planeOf samples width) width height 8))
 
 -- mux, muy, x2, xy, y2, w
 abbrev six : Moments → List ℤ
