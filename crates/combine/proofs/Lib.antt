@@ -1,2 +1,3 @@
 -- What combining answers case by case, and the laws of its figures.
 pub mod Answers
+pub mod Swap
