@@ -1,7 +1,6 @@
 -- What overflows on the way is not lost: where a figure is finite, so is every step that led to it. Assumes nothing.
 use mathlib.Core.Path.{_≡_, refl, sym}
 use mathlib.Core.Bool.{Bool, true, false, cond, true≢false}
-use Prim.Native.Nat.{ℕ}
 use lib.Dec.{eqb}
 use lib.Ieee.{Float, nan, inf, fin, Format, binary64, add, mul, unlike}
 use lib.Ieee.Scale.{finite}
