@@ -65,13 +65,13 @@ pub fn compare(ask: Run) -> bool {
         println!("combine: FAILED: {}", why);
         return false;
     }
-    let mut sums = Sums { told: [0; WAYS.len()] };
+    let mut sums = Sums { told: vec![0; WAYS.len()] };
     let cases = if ask.full { 80_000_000 } else { 4_000_000 };
     if !run("combine", &mut sums, cases, ask) {
         return false;
     }
-    let untold = WAYS.iter().zip(sums.told).filter(|(_, told)| *told == 0).map(|(way, _)| way.0);
-    let untold: Vec<&str> = untold.collect();
+    let counted = WAYS.iter().zip(&sums.told);
+    let untold: Vec<&str> = counted.filter(|(_, told)| **told == 0).map(|(way, _)| way.0).collect();
     if !untold.is_empty() {
         println!("combine: FAILED: no case tells the published steps from {}", untold.join(", "));
     }
@@ -155,7 +155,7 @@ const WAYS: [Way; 5] = [
 
 /// How many cases told each way from the published one.
 struct Sums {
-    told: [u64; WAYS.len()],
+    told: Vec<u64>,
 }
 
 impl Sums {
