@@ -200,7 +200,7 @@ impl Family for Sums {
         let (answer, left) = case.asked();
         let (wanted, then) = case.wanted();
         if (answer, left) != (wanted, then) {
-            return Err(format!("answered {} and left {:#018X?}, not {} and {:#018X?}", answer, left, wanted, then));
+            return Err(format!("answered {} and left {}, not {} and {}", answer, hex(&left), wanted, hex(&then)));
         }
         if answer == 0 {
             let (ours, published) = case.decibels(left);
@@ -230,12 +230,17 @@ impl Family for Sums {
     fn show(&self, case: &Case) -> String {
         let (c, scores) = case.numbers();
         let call = if case.hvs { "HVS" } else { "SSIM" };
-        format!("combine {} of {:#018X?} ({:?}) under {:#018X} ({:e})", call, case.scores, scores, case.c, c)
+        format!("{} of {} ({:?}) under {} ({:?})", call, hex(&case.scores), scores, hex(&[case.c]), c)
     }
 
     fn answers(&self) -> Vec<u8> {
         vec![0, NOT_FINITE, WEIGHT]
     }
+}
+
+fn hex(list: &[u64]) -> String {
+    let words: Vec<String> = list.iter().map(|bits| format!("{:#018X}", bits)).collect();
+    words.join(" ")
 }
 
 /// Two decibels that are the same number, or both none.
