@@ -36,7 +36,30 @@ const SCALES: usize = 16;
 
 pub fn compare(ask: Run) -> bool {
     let cases = if ask.full { 40_000 } else { 1_000 };
+    if let Err(why) = kernels(ask) {
+        println!("together: FAILED: {}", why);
+        return false;
+    }
     run("together", &mut Frames { scratch: Scratch::new() }, cases, ask)
+}
+
+/// The kernels that the bindings build, for planes of every height and for other arguments.
+fn kernels(ask: Run) -> Result<(), String> {
+    for height in 1..=8_192 {
+        for width in [height, height / 3 + 1, 8_192] {
+            let taps: Vec<i64> = Kernel::for_plane(width, height).taps().iter().map(|t| i64::from(*t)).collect();
+            same("kernel", taps, ssim::probe_kernel(height as f64 * 1.5 / 256.0, width.min(height), 256))?;
+        }
+    }
+    for number in 0..10_000 {
+        let r = &mut Random::of(ask.seed, "kernels", number);
+        let sigma = r.within(1, 4_000) as f64 / 64.0 * r.pick(&[1.0, 0.01, 1.1]);
+        let (most, weight) = (r.within(1, 300), r.pick(&[1, 256, 1_024, 65_536, 1 << 40]));
+        let ours = fuavelino::build_gaussian_kernel(sigma, most, weight);
+        same("kernel", ours, ssim::probe_kernel(sigma, most, weight)).map_err(|e| format!("sigma {}, {}", sigma, e))?;
+    }
+    println!("together: the kernels of every height are those published");
+    Ok(())
 }
 
 /// Two frames: one pair of planes, or three, all of one depth.
