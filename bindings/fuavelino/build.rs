@@ -18,6 +18,8 @@ fn main() {
         eprintln!("or set {} to the folder that holds it.", FOLDER);
         exit(1);
     }
+    // the folder in full, since cargo links from another place than this runs in
+    let folder = folder.canonicalize().unwrap_or(folder);
     println!("cargo:rustc-link-search=native={}", folder.display());
     println!("cargo:rustc-link-lib=static=fuavelino");
 }

@@ -98,11 +98,8 @@ impl Case {
         let (c, [y, u, v]) = self.numbers();
         let mut places = BEFORE.map(f64::from_bits);
         let [first, second] = &mut places;
-        let said = if self.hvs {
-            lent::combine_hvs(c, y, u, v, first)
-        } else {
-            lent::combine_ssim(c, y, u, v, first, second)
-        };
+        let said =
+            if self.hvs { lent::combine_hvs(c, y, u, v, first) } else { lent::combine_ssim(c, y, u, v, first, second) };
         (number(said), places.map(f64::to_bits))
     }
 

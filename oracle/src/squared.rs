@@ -39,11 +39,8 @@ impl Family for Errors {
     }
 
     fn judge(&mut self, p: &Pair) -> Result<u8, String> {
-        let (answer, left) = if p.wide {
-            p.lend(|s| s, |a, b| asked(p, a, b))?
-        } else {
-            p.lend(|s| s as u8, |a, b| asked(p, a, b))?
-        };
+        let (answer, left) =
+            if p.wide { p.lend(|s| s, |a, b| asked(p, a, b))? } else { p.lend(|s| s as u8, |a, b| asked(p, a, b))? };
         let wanted = match p.refusal(0) {
             0 if p.wide => (0, record(&p.unpadded(|s| s), p.depth)),
             0 => (0, record(&p.unpadded(|s| s as u8), p.depth)),

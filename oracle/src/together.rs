@@ -1,5 +1,5 @@
-//! Whole frames through every call of the bindings, in one scratch for all cases: each plane's scores, their combination, and the decibels of the
-//! frame functions, against the published Rust of the unpadded copies, bit for bit.
+//! Whole frames through every call of the bindings, in one scratch for all cases: each plane's scores, their combination, and the decibels
+//! of the frame functions, against the published Rust of the unpadded copies, bit for bit.
 
 use crate::family::{run, Family, Run};
 use crate::hvs;
@@ -135,11 +135,7 @@ fn sides(r: &mut Random) -> (usize, usize) {
     }
 }
 
-fn judged<T: Sample + Pixel + PartialEq>(
-    c: &Case,
-    scratch: &mut Scratch,
-    narrow: fn(u16) -> T,
-) -> Result<u8, String> {
+fn judged<T: Sample + Pixel + PartialEq>(c: &Case, scratch: &mut Scratch, narrow: fn(u16) -> T) -> Result<u8, String> {
     let scores = planes(c, scratch, narrow)?;
     combined(c, &scores)?;
     let samples: Vec<[Vec<T>; 2]> =
@@ -189,7 +185,8 @@ fn planes<T: Sample + Pixel + PartialEq>(
             let (a, b, shape) = (p.plane(0, a), p.plane(1, b), p.shape());
             same("check", fuavelino::check(a, b, shape, 0), Ok(()))?;
             let record = fuavelino::squared_error(a, b, shape);
-            let pair = fuavelino::ssim(a, b, shape, &kernel, scratch).map(|pair| [pair.ssim, pair.cs].map(f64::to_bits));
+            let pair =
+                fuavelino::ssim(a, b, shape, &kernel, scratch).map(|pair| [pair.ssim, pair.cs].map(f64::to_bits));
             let five = fuavelino::msssim(a, b, shape, scratch).map(|five| bits(product(&five)));
             let score = fuavelino::psnr_hvs(a, b, shape, KINDS[i]).map(f64::to_bits);
             Ok((record, pair, five, score))
