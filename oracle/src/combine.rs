@@ -61,13 +61,13 @@ pub fn compare(ask: Run) -> bool {
         println!("combine: FAILED: {}", why);
         return false;
     }
-    let mut sums = Sums { told: [0; WAYS.len()] };
+    let mut sums = Sums { told: vec![0; WAYS.len()] };
     let cases = if ask.full { 80_000_000 } else { 4_000_000 };
     if !run("combine", &mut sums, cases, ask) {
         return false;
     }
-    let untold = WAYS.iter().zip(sums.told).filter(|(_, told)| *told == 0).map(|(way, _)| way.0);
-    let untold: Vec<&str> = untold.collect();
+    let counted = WAYS.iter().zip(&sums.told);
+    let untold: Vec<&str> = counted.filter(|(_, told)| **told == 0).map(|(way, _)| way.0).collect();
     if !untold.is_empty() {
         println!("combine: FAILED: no case tells the published steps from {}", untold.join(", "));
     }
@@ -146,7 +146,7 @@ const WAYS: [Way; 5] = [
 
 /// How many cases told each way from the published one.
 struct Sums {
-    told: [u64; WAYS.len()],
+    told: Vec<u64>,
 }
 
 impl Sums {
@@ -191,7 +191,7 @@ impl Family for Sums {
         let (answer, left) = case.asked();
         let (wanted, then) = case.wanted();
         if (answer, left) != (wanted, then) {
-            return Err(format!("answered {} and left {:#018X?}, not {} and {:#018X?}", answer, left, wanted, then));
+            return Err(format!("answered {} and left {}, not {} and {}", answer, hex(&left), wanted, hex(&then)));
         }
         if answer == 0 {
             let (ours, published) = case.decibels(left);
@@ -221,12 +221,17 @@ impl Family for Sums {
     fn show(&self, case: &Case) -> String {
         let (c, scores) = case.numbers();
         let call = if case.hvs { "HVS" } else { "SSIM" };
-        format!("combine {} of {:#018X?} ({:?}) under {:#018X} ({:e})", call, case.scores, scores, case.c, c)
+        format!("{} of {} ({:?}) under {} ({:?})", call, hex(&case.scores), scores, hex(&[case.c]), c)
     }
 
     fn answers(&self) -> Vec<u8> {
         vec![0, NOT_FINITE, WEIGHT]
     }
+}
+
+fn hex(list: &[u64]) -> String {
+    let words: Vec<String> = list.iter().map(|bits| format!("{:#018X}", bits)).collect();
+    words.join(" ")
 }
 
 /// Two decibels that are the same number, or both none.

@@ -1,2 +1,5 @@
 -- What combining answers case by case, and the laws of its figures.
 pub mod Answers
+pub mod Overflow
+pub mod Swap
+pub mod Weight
