@@ -46,3 +46,8 @@ pub use scores::{
     check, combine_hvs, combine_ssim, forward, inverse, msssim, psnr_hvs, root, series, squared_error, ssim,
 };
 pub use scratch::Scratch;
+
+/// Has the examples of the document run as tests.
+#[cfg(doctest)]
+#[doc = include_str!("../../../docs/MOVING.md")]
+mod moving {}
