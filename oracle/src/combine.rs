@@ -1,18 +1,14 @@
 //! Combining the scores of three planes, for SSIM and for HVS: the published expressions, bit for bit, and the model's refusals. What the
 //! published code gives are decibels only; those made of the product's figures must be those that it gives itself.
 
-use crate::family::{run, Family, Run};
+use crate::family::{number, run, Family, Run};
 use crate::random::Random;
+use fuavelino::lent;
 use published::frame::Frame;
 use published::plane::Plane;
 use published::prelude::ChromaSampling;
 use published::video::pixel::Pixel;
 use published::video::{psnr_hvs, ssim};
-
-extern "C" {
-    fn fuavelino_combine_ssim(c: f64, y: f64, u: f64, v: f64, sum: *mut f64, weight: *mut f64) -> u8;
-    fn fuavelino_combine_hvs(c: f64, y: f64, u: f64, v: f64, score: *mut f64) -> u8;
-}
 
 /// What the places lent hold before a call, and must hold after a refusal. HVS is lent the first alone.
 const BEFORE: [u64; 2] = [0x7FF4_DEAD_BEEF_0001, 0xFFF4_DEAD_BEEF_0002];
@@ -102,14 +98,9 @@ impl Case {
         let (c, [y, u, v]) = self.numbers();
         let mut places = BEFORE.map(f64::from_bits);
         let [first, second] = &mut places;
-        let answer = unsafe {
-            if self.hvs {
-                fuavelino_combine_hvs(c, y, u, v, first)
-            } else {
-                fuavelino_combine_ssim(c, y, u, v, first, second)
-            }
-        };
-        (answer, places.map(f64::to_bits))
+        let said =
+            if self.hvs { lent::combine_hvs(c, y, u, v, first) } else { lent::combine_ssim(c, y, u, v, first, second) };
+        (number(said), places.map(f64::to_bits))
     }
 
     /// What the rules and the published expressions say.
