@@ -1,3 +1,4 @@
+pub mod Planar
 pub mod Root
 pub mod Scales
 pub mod Squared

@@ -8,6 +8,7 @@ ghost use Rattle.plane.specs.Plane.{planeOf};
 ghost use Rattle.plane.specs.Tests.{planeRefusal};
 ghost use Rattle.fuavelino.specs.Root.{rootNumber, rootWritten};
 
+pub mod planar;
 pub mod scales;
 pub mod similarity;
 pub mod squared;

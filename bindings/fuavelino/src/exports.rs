@@ -1,0 +1,191 @@
+//! The exports of `libfuavelino.a`, declared once, and the only unsafe code of this crate.
+//!
+//! Each export is proved to read and write no place but those that it is lent, whatever the numbers beside them, so that a slice and a
+//! reference are all that a call needs to be safe.
+
+#![allow(unsafe_code)]
+
+use crate::plane::{Pair, Plane, PlaneKind, PsnrMetrics, Shape};
+
+extern "C" {
+    fn fuavelino_root(x: f64, out: &mut f64) -> u8;
+    fn fuavelino_series(
+        records: *const PsnrMetrics,
+        count: usize,
+        sq_err: &mut f64,
+        n: &mut u64,
+        sample_max: &mut u32,
+    ) -> u8;
+    fn fuavelino_combine_ssim(c: f64, y: f64, u: f64, v: f64, sum: &mut f64, weight: &mut f64) -> u8;
+    fn fuavelino_combine_hvs(c: f64, y: f64, u: f64, v: f64, score: &mut f64) -> u8;
+    fn fuavelino_forward(block: *const i32, block_len: usize, out: *mut i32, out_len: usize) -> u8;
+    fn fuavelino_inverse(coefs: *const i32, coefs_len: usize, out: *mut i32, out_len: usize) -> u8;
+}
+
+pub fn root(x: f64, out: &mut f64) -> u8 {
+    unsafe { fuavelino_root(x, out) }
+}
+
+pub fn series(records: &[PsnrMetrics], out: &mut PsnrMetrics) -> u8 {
+    let PsnrMetrics { sq_err, n_pixels, sample_max } = out;
+    unsafe { fuavelino_series(records.as_ptr(), records.len(), sq_err, n_pixels, sample_max) }
+}
+
+pub fn combine_ssim(c: f64, y: f64, u: f64, v: f64, sum: &mut f64, weight: &mut f64) -> u8 {
+    unsafe { fuavelino_combine_ssim(c, y, u, v, sum, weight) }
+}
+
+pub fn combine_hvs(c: f64, y: f64, u: f64, v: f64, score: &mut f64) -> u8 {
+    unsafe { fuavelino_combine_hvs(c, y, u, v, score) }
+}
+
+pub fn forward(block: &[i32], out: &mut [i32]) -> u8 {
+    unsafe { fuavelino_forward(block.as_ptr(), block.len(), out.as_mut_ptr(), out.len()) }
+}
+
+pub fn inverse(coefs: &[i32], out: &mut [i32]) -> u8 {
+    unsafe { fuavelino_inverse(coefs.as_ptr(), coefs.len(), out.as_mut_ptr(), out.len()) }
+}
+
+/// The exports of one sample width.
+pub trait Width: Copy {
+    fn check(a: Plane<'_, Self>, b: Plane<'_, Self>, shape: Shape, least: usize) -> u8;
+
+    fn squared_error(a: Plane<'_, Self>, b: Plane<'_, Self>, shape: Shape, out: &mut PsnrMetrics) -> u8;
+
+    fn ssim(
+        a: Plane<'_, Self>,
+        b: Plane<'_, Self>,
+        shape: Shape,
+        kernel: &[u16],
+        scratch: &mut [i64],
+        out: &mut Pair,
+    ) -> u8;
+
+    fn msssim(
+        a: Plane<'_, Self>,
+        b: Plane<'_, Self>,
+        shape: Shape,
+        scratch: &mut [i64],
+        room_a: &mut [u32],
+        room_b: &mut [u32],
+        out: &mut [Pair; 5],
+    ) -> u8;
+
+    fn psnr_hvs(a: Plane<'_, Self>, b: Plane<'_, Self>, shape: Shape, kind: PlaneKind, out: &mut f64) -> u8;
+}
+
+/// Declares the exports of one width by their names, and has the width call them.
+macro_rules! width {
+    ($sample:ty, $check:ident, $squared_error:ident, $ssim:ident, $msssim:ident, $hvs_y:ident, $hvs_u:ident, $hvs_v:ident) => {
+        declare!($sample, $check: least: usize);
+        declare!($sample, $squared_error: sq_err: &mut f64, n: &mut u64, sample_max: &mut u32);
+        declare!(
+            $sample, $ssim: kernel: *const u16, taps: usize, scratch: *mut i64, places: usize, ssim: &mut f64, cs: &mut f64
+        );
+        declare!(
+            $sample, $msssim: scratch: *mut i64, places: usize, room_a: *mut u32, places_a: usize, room_b: *mut u32,
+            places_b: usize, pairs: *mut Pair
+        );
+        declare!($sample, $hvs_y: score: &mut f64);
+        declare!($sample, $hvs_u: score: &mut f64);
+        declare!($sample, $hvs_v: score: &mut f64);
+
+        impl Width for $sample {
+            fn check(a: Plane<'_, Self>, b: Plane<'_, Self>, shape: Shape, least: usize) -> u8 {
+                lend!($check, a, b, shape, least)
+            }
+
+            fn squared_error(a: Plane<'_, Self>, b: Plane<'_, Self>, shape: Shape, out: &mut PsnrMetrics) -> u8 {
+                let PsnrMetrics { sq_err, n_pixels, sample_max } = out;
+                lend!($squared_error, a, b, shape, sq_err, n_pixels, sample_max)
+            }
+
+            fn ssim(
+                a: Plane<'_, Self>,
+                b: Plane<'_, Self>,
+                shape: Shape,
+                kernel: &[u16],
+                scratch: &mut [i64],
+                out: &mut Pair,
+            ) -> u8 {
+                let (taps, places) = (kernel.len(), scratch.len());
+                let Pair { ssim, cs } = out;
+                lend!($ssim, a, b, shape, kernel.as_ptr(), taps, scratch.as_mut_ptr(), places, ssim, cs)
+            }
+
+            fn msssim(
+                a: Plane<'_, Self>,
+                b: Plane<'_, Self>,
+                shape: Shape,
+                scratch: &mut [i64],
+                room_a: &mut [u32],
+                room_b: &mut [u32],
+                out: &mut [Pair; 5],
+            ) -> u8 {
+                let (s, x, y) = (scratch.as_mut_ptr(), room_a.as_mut_ptr(), room_b.as_mut_ptr());
+                let (i, j, k) = (scratch.len(), room_a.len(), room_b.len());
+                // five pairs lie in memory as the ten doubles that the export writes
+                lend!($msssim, a, b, shape, s, i, x, j, y, k, out.as_mut_ptr())
+            }
+
+            fn psnr_hvs(a: Plane<'_, Self>, b: Plane<'_, Self>, shape: Shape, kind: PlaneKind, out: &mut f64) -> u8 {
+                match kind {
+                    PlaneKind::Y => lend!($hvs_y, a, b, shape, out),
+                    PlaneKind::U => lend!($hvs_u, a, b, shape, out),
+                    PlaneKind::V => lend!($hvs_v, a, b, shape, out),
+                }
+            }
+        }
+    };
+}
+
+/// Declares one export that is lent two planes, then what is named.
+macro_rules! declare {
+    ($sample:ty, $name:ident: $($place:ident: $kind:ty),*) => {
+        extern "C" {
+            fn $name(
+                a: *const $sample,
+                a_len: usize,
+                b: *const $sample,
+                b_len: usize,
+                width: usize,
+                height: usize,
+                stride_a: usize,
+                stride_b: usize,
+                depth: u32,
+                $($place: $kind),*
+            ) -> u8;
+        }
+    };
+}
+
+/// Calls such an export: each slice is lent with its own length.
+macro_rules! lend {
+    ($name:ident, $a:ident, $b:ident, $shape:ident, $($value:expr),*) => {{
+        let (x, y) = ($a.data.as_ptr(), $b.data.as_ptr());
+        let (i, j, Shape { width, height, bit_depth }) = ($a.data.len(), $b.data.len(), $shape);
+        unsafe { $name(x, i, y, j, width, height, $a.stride, $b.stride, bit_depth, $($value),*) }
+    }};
+}
+
+width!(
+    u8,
+    fuavelino_check8,
+    fuavelino_squared_error8,
+    fuavelino_ssim8,
+    fuavelino_msssim8,
+    fuavelino_psnr_hvs_y_8,
+    fuavelino_psnr_hvs_u_8,
+    fuavelino_psnr_hvs_v_8
+);
+width!(
+    u16,
+    fuavelino_check16,
+    fuavelino_squared_error16,
+    fuavelino_ssim16,
+    fuavelino_msssim16,
+    fuavelino_psnr_hvs_y_16,
+    fuavelino_psnr_hvs_u_16,
+    fuavelino_psnr_hvs_v_16
+);

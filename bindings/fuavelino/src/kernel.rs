@@ -1,0 +1,64 @@
+//! Kernels of SSIM, and the bell curve that av-metrics makes them from.
+
+use std::f64::consts::{E, PI};
+
+/// The taps of a kernel, for rows and columns alike. It holds what it is given; [`ssim`](crate::ssim) judges it, and refuses an unlawful
+/// one with 7. Lawful is: an odd count of taps from 1 to 255, each from 0 to 256, summing to 256, the same from both ends, the middle one
+/// at least 1.
+#[derive(Clone, Debug, PartialEq, Eq)]
+pub struct Kernel {
+    taps: Vec<u16>,
+}
+
+/// What the taps of a lent kernel sum to.
+const WEIGHT: usize = 256;
+
+/// The most taps on each side of the middle that [`build_gaussian_kernel`] makes. No lawful kernel has more than 127.
+const MOST: usize = 65_535;
+
+impl Kernel {
+    /// These taps, lawful or not.
+    pub fn from_taps(taps: Vec<u16>) -> Kernel {
+        Kernel { taps }
+    }
+
+    /// The kernel that av-metrics chooses for a plane: its width grows with the height.
+    pub fn for_plane(width: usize, height: usize) -> Kernel {
+        let built = build_gaussian_kernel(height as f64 * 1.5 / 256.0, width.min(height), WEIGHT);
+        // a tap that no word holds becomes one that is unlawful too
+        Kernel { taps: built.into_iter().map(|tap| u16::try_from(tap).unwrap_or(u16::MAX)).collect() }
+    }
+
+    /// The taps, from one end to the other.
+    pub fn taps(&self) -> &[u16] {
+        &self.taps
+    }
+}
+
+/// The kernel that av-metrics builds: a bell curve of this sigma in whole numbers that sum to `kernel_weight`, with fewer than `max_len`
+/// taps on each side of the middle. It is worked out by the host's `exp` and logarithm, and so is not proved; what it gives is judged
+/// when it is lent.
+///
+/// It takes any arguments: a `max_len` of 0 counts as 1, a sigma that gives no curve (0, below 0, infinite, not a number) gives
+/// the one tap `kernel_weight`, and no kernel has more than 65,535 taps on each side.
+pub fn build_gaussian_kernel(sigma: f64, max_len: usize, kernel_weight: usize) -> Vec<i64> {
+    let weight = kernel_weight as f64;
+    let side = reach(sigma, weight).min(max_len.saturating_sub(1)).min(MOST);
+    let peak = 1.0 / ((2.0 * PI).sqrt() * sigma);
+    let fall = -0.5 / sigma.powi(2);
+    let tap = |from_middle: usize| (weight * peak * E.powf(fall * from_middle.pow(2) as f64) + 0.5) as i64;
+    let half: Vec<i64> = (1..=side).map(tap).collect();
+    let sum = half.iter().fold(0i64, |sum, tap| sum.saturating_add(*tap));
+    let middle = (kernel_weight as i64).saturating_sub(sum.saturating_mul(2));
+    half.iter().rev().chain([&middle]).chain(&half).copied().collect()
+}
+
+/// How far from the middle a tap still counts: past it, a tap is less than half a unit of the weight.
+fn reach(sigma: f64, weight: f64) -> usize {
+    let s = (0.5 * PI).sqrt() * sigma * (1.0 / weight);
+    if s >= 1.0 {
+        0
+    } else {
+        (sigma * (-2.0 * s.log(E)).sqrt()).floor() as usize
+    }
+}

@@ -1,0 +1,91 @@
+//! Each export of the library as a safe function, with everything that it writes lent by the caller.
+//!
+//! A call that refuses leaves every lent place as it was, but that refusal 9 leaves scratch as acceptance does: the needed part 0, the
+//! rest unchanged. Nothing here allocates. The functions above this module are these with the places kept for you.
+
+use crate::exports;
+use crate::plane::{Pair, Plane, PlaneKind, PsnrMetrics, Sample, Shape};
+use crate::refusal::{told, Refusal};
+
+/// The square root of `x`, the double nearest the exact one. Refuses 12.
+pub fn root(x: f64, out: &mut f64) -> Result<(), Refusal> {
+    told(exports::root(x, out))
+}
+
+/// Judges two planes by tests 1 to 6. `least` is the least side that is taken, 0 where any is.
+pub fn check<T: Sample>(a: Plane<'_, T>, b: Plane<'_, T>, shape: Shape, least: usize) -> Result<(), Refusal> {
+    told(T::check(a, b, shape, least))
+}
+
+/// The squared error of two planes. Refuses 1 2 4 5 6.
+pub fn squared_error<T: Sample>(
+    a: Plane<'_, T>,
+    b: Plane<'_, T>,
+    shape: Shape,
+    out: &mut PsnrMetrics,
+) -> Result<(), Refusal> {
+    told(T::squared_error(a, b, shape, out))
+}
+
+/// The total of a run of records. Refuses 10 11.
+pub fn series(records: &[PsnrMetrics], out: &mut PsnrMetrics) -> Result<(), Refusal> {
+    told(exports::series(records, out))
+}
+
+/// SSIM under a lent kernel. It needs 6 × width × L places of scratch, L the least power of two not below the count of taps.
+/// Refuses 1 2 4 5 6 7 8 9.
+pub fn ssim<T: Sample>(
+    a: Plane<'_, T>,
+    b: Plane<'_, T>,
+    shape: Shape,
+    kernel: &[u16],
+    scratch: &mut [i64],
+    out: &mut Pair,
+) -> Result<(), Refusal> {
+    told(T::ssim(a, b, shape, kernel, scratch, out))
+}
+
+/// The five scales, the planes themselves first. It needs 96 × width places of scratch, and width × height of room for each plane.
+/// Refuses 1 2 3 4 5 6 8 9.
+pub fn msssim<T: Sample>(
+    a: Plane<'_, T>,
+    b: Plane<'_, T>,
+    shape: Shape,
+    scratch: &mut [i64],
+    room_a: &mut [u32],
+    room_b: &mut [u32],
+    out: &mut [Pair; 5],
+) -> Result<(), Refusal> {
+    told(T::msssim(a, b, shape, scratch, room_a, room_b, out))
+}
+
+/// PSNR-HVS. Refuses 1 2 3 4 5 6 9.
+pub fn psnr_hvs<T: Sample>(
+    a: Plane<'_, T>,
+    b: Plane<'_, T>,
+    shape: Shape,
+    kind: PlaneKind,
+    out: &mut f64,
+) -> Result<(), Refusal> {
+    told(T::psnr_hvs(a, b, shape, kind, out))
+}
+
+/// SSIM of three planes with chroma weight `c`: y + c × (u + v), and 1 + 2c. Refuses 13, then 9.
+pub fn combine_ssim(c: f64, y: f64, u: f64, v: f64, sum: &mut f64, weight: &mut f64) -> Result<(), Refusal> {
+    told(exports::combine_ssim(c, y, u, v, sum, weight))
+}
+
+/// PSNR-HVS of three planes with chroma weight `c`: (1 + 2c) × (y + c × (u + v)). Refuses 13, then 9.
+pub fn combine_hvs(c: f64, y: f64, u: f64, v: f64, score: &mut f64) -> Result<(), Refusal> {
+    told(exports::combine_hvs(c, y, u, v, score))
+}
+
+/// The transform of a block of 64 numbers from −4,095 to 4,095 into 64 places. Refuses 12.
+pub fn forward(block: &[i32], out: &mut [i32]) -> Result<(), Refusal> {
+    told(exports::forward(block, out))
+}
+
+/// The one block whose transform is these 64 coefficients, each from −1,048,575 to 1,048,575. Refuses 12.
+pub fn inverse(coefs: &[i32], out: &mut [i32]) -> Result<(), Refusal> {
+    told(exports::inverse(coefs, out))
+}

@@ -1,0 +1,47 @@
+//! Plane-level video quality scores that cannot mislead a gate: a finite score, or a numbered [`Refusal`].
+//!
+//! These are the calls of `libfuavelino.a`, in which each function is proved to meet its contract: safe for whatever it is lent, with the
+//! exact conditions under which it refuses, and with the numbers of the published av-metrics 0.9.1, bit for bit, for planes with no padding.
+//! No caller checks first. What this crate adds to the library, and so is tested and not proved, is little: slices and scratch are lent
+//! for you, [`Kernel`]s are built, and [`video`] has the decibels of av-metrics' own frame functions.
+//!
+//! ```
+//! use fuavelino::{psnr_hvs, squared_error, ssim, Kernel, Plane, PlaneKind, Refusal, Scratch, Shape};
+//!
+//! fn judge(original: &[u8], decoded: &[u8], scratch: &mut Scratch) -> Result<(), Refusal> {
+//!     // two planes of 64 by 48 bytes; the second has 16 bytes of padding after each row
+//!     let a = Plane { data: original, stride: 64 };
+//!     let b = Plane { data: decoded, stride: 80 };
+//!     let shape = Shape { width: 64, height: 48, bit_depth: 8 };
+//!     let record = squared_error(a, b, shape)?;
+//!     let pair = ssim(a, b, shape, &Kernel::for_plane(64, 48), scratch)?;
+//!     let seen = psnr_hvs(a, b, shape, PlaneKind::Y)?;
+//!     println!("{} {} {}", record.sq_err, pair.ssim, seen);
+//!     Ok(())
+//! }
+//!
+//! let mut scratch = Scratch::new();
+//! assert_eq!(judge(&[90; 64 * 48], &[91; 80 * 48], &mut scratch), Ok(()));
+//! // too few samples: said, and nothing is read past the end
+//! assert_eq!(judge(&[90; 64 * 48], &[91; 80 * 47], &mut scratch), Err(Refusal::Short));
+//! ```
+
+#![deny(missing_docs)]
+#![deny(unsafe_code)]
+#![warn(rust_2018_idioms)]
+
+mod exports;
+mod kernel;
+pub mod lent;
+mod plane;
+mod refusal;
+mod scores;
+mod scratch;
+
+pub use kernel::{build_gaussian_kernel, Kernel};
+pub use plane::{Pair, Plane, PlaneKind, PsnrMetrics, Sample, Shape};
+pub use refusal::Refusal;
+pub use scores::{
+    check, combine_hvs, combine_ssim, forward, inverse, msssim, psnr_hvs, root, series, squared_error, ssim,
+};
+pub use scratch::Scratch;

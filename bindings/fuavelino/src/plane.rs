@@ -1,0 +1,69 @@
+//! What is lent: planes with their shape, and what comes back beside scores.
+
+use crate::exports;
+
+/// A sample: a byte (depths 1 to 8) or a 16-bit word (depths 9 to 12). No other type can be one.
+pub trait Sample: exports::Width {}
+
+impl Sample for u8 {}
+impl Sample for u16 {}
+
+/// One plane: sample (x, y) stands at `y * stride + x` of `data`. What lies between rows, and after the last, is never read.
+#[derive(Clone, Copy, Debug)]
+pub struct Plane<'a, T> {
+    /// The samples, from the first visible one on.
+    pub data: &'a [T],
+    /// From the start of one row to that of the next.
+    pub stride: usize,
+}
+
+/// What both planes of a call share.
+#[derive(Clone, Copy, Debug, PartialEq, Eq)]
+pub struct Shape {
+    /// Visible samples in a row, 1 to 8,192.
+    pub width: usize,
+    /// Rows, 1 to 8,192.
+    pub height: usize,
+    /// Bits of a sample: the largest is 2^depth − 1.
+    pub bit_depth: u32,
+}
+
+/// Which plane of a frame it is: PSNR-HVS has a table of contrasts for each.
+#[derive(Clone, Copy, Debug, PartialEq, Eq, Hash)]
+pub enum PlaneKind {
+    /// Luma.
+    Y,
+    /// The first chroma plane, Cb.
+    U,
+    /// The second chroma plane, Cr.
+    V,
+}
+
+/// The record of a plane, or the total of a series of them.
+#[repr(C)]
+#[derive(Clone, Copy, Debug, Default, PartialEq)]
+pub struct PsnrMetrics {
+    /// The squared error: a whole number.
+    pub sq_err: f64,
+    /// How many samples were compared.
+    pub n_pixels: u64,
+    /// The largest sample of the depth.
+    pub sample_max: u32,
+}
+
+impl PsnrMetrics {
+    /// Whether every visible sample was the same. PSNR says 100 then.
+    pub fn is_identical(&self) -> bool {
+        self.sq_err == 0.0
+    }
+}
+
+/// SSIM of a plane, or of one scale of it. Equal planes come close to 1, from either side.
+#[repr(C)]
+#[derive(Clone, Copy, Debug, Default, PartialEq)]
+pub struct Pair {
+    /// The mean score.
+    pub ssim: f64,
+    /// The mean of contrast and structure, without luminance.
+    pub cs: f64,
+}

@@ -1,0 +1,92 @@
+//! The thirteen refusals.
+
+use std::error::Error;
+use std::fmt;
+
+/// Why a call gives no answer. Where several reasons apply, the call names the one with the lowest number that belongs to it.
+#[derive(Clone, Copy, Debug, PartialEq, Eq, Hash, PartialOrd, Ord)]
+pub enum Refusal {
+    /// 1: the depth does not suit the sample width. Bytes carry 1 to 8, words 9 to 12.
+    Depth = 1,
+    /// 2: width or height is 0 or above 8,192.
+    Size,
+    /// 3: a side is below the call's least: 8 for PSNR-HVS, 16 for MS-SSIM.
+    Side,
+    /// 4: a stride is below the width or above 16,384.
+    Stride,
+    /// 5: a plane has fewer than stride × (height − 1) + width samples.
+    Short,
+    /// 6: a visible sample is above 2^depth − 1.
+    Sample,
+    /// 7: the lent kernel is unlawful.
+    Kernel,
+    /// 8: lent scratch is too short.
+    Scratch,
+    /// 9: nothing else applies, and the defined score is infinite or not a number.
+    NotFinite,
+    /// 10: a series of none or over 65,536 records, or with a bad one.
+    Record,
+    /// 11: a series whose exact total is above 2^53.
+    Total,
+    /// 12: a root of what is not +0 or positive and finite; a transform of other than 64 places, or of a value out of range.
+    Value,
+    /// 13: combining with a weight outside 0 to 1, or of a number that is not finite.
+    Weight,
+}
+
+/// Each refusal with its rule, in the order of the numbers.
+const RULES: [(Refusal, &str); 13] = [
+    (Refusal::Depth, "the depth does not suit the sample width"),
+    (Refusal::Size, "width or height is 0 or above 8192"),
+    (Refusal::Side, "a side is below the least that this score takes"),
+    (Refusal::Stride, "a stride is below the width or above 16384"),
+    (Refusal::Short, "a plane has too few samples"),
+    (Refusal::Sample, "a visible sample is above the depth's largest"),
+    (Refusal::Kernel, "the kernel is unlawful"),
+    (Refusal::Scratch, "lent scratch is too short"),
+    (Refusal::NotFinite, "the score is infinite or not a number"),
+    (Refusal::Record, "a series of no records, of too many, or with a bad one"),
+    (Refusal::Total, "the exact total of a series is above 2^53"),
+    (Refusal::Value, "a value, or a count of values, is out of range"),
+    (Refusal::Weight, "a weight is outside 0 to 1, or a number is not finite"),
+];
+
+impl Refusal {
+    /// Its number, 1 to 13.
+    pub fn number(self) -> u8 {
+        self as u8
+    }
+
+    /// Its rule, in words.
+    pub fn rule(self) -> &'static str {
+        RULES[usize::from(self.number() - 1)].1
+    }
+
+    /// The refusal of this number, where there is one.
+    pub fn from_number(number: u8) -> Option<Refusal> {
+        let at = usize::from(number).checked_sub(1)?;
+        RULES.get(at).map(|known| known.0)
+    }
+}
+
+impl fmt::Display for Refusal {
+    fn fmt(&self, f: &mut fmt::Formatter<'_>) -> fmt::Result {
+        write!(f, "refusal {}: {}", self.number(), self.rule())
+    }
+}
+
+impl Error for Refusal {}
+
+/// What an export's number says.
+///
+/// The library is proved to answer 0 to 13 only. Another number means that this crate is linked with a library that it was not
+/// written for; then nothing that it says can be taken for good, so this panics.
+pub(crate) fn told(number: u8) -> Result<(), Refusal> {
+    match (number, Refusal::from_number(number)) {
+        (0, _) => Ok(()),
+        (_, Some(refusal)) => Err(refusal),
+        (_, None) => {
+            panic!("libfuavelino.a answered {}: it is not the library that this crate was written for", number)
+        }
+    }
+}

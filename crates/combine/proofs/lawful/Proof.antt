@@ -1,0 +1,21 @@
+-- `combine::lawful` meets its contract. Assumes nothing.
+use borrow.Author.Needs.{needs}
+use Rattle.combine.specs.Combine.{combinable}
+use Rattle.combine.proofs.lawful.Statement.{statement}
+use Rattle.combine.proofs.lawful.Tie as tie
+
+finite-requires : tie.Need-finite-requires
+finite-requires c κs = search needs
+
+finite-requires-2 : tie.Need-finite-requires-2
+finite-requires-2 c κs = search needs
+
+finite-requires-3 : tie.Need-finite-requires-3
+finite-requires-3 c κs = search needs
+
+returns : tie.Need-returns
+unfolding combinable
+returns c = cc
+
+pub lawful-spec : {M : Type 1} → statement M
+lawful-spec = tie.close (tie.spec finite-requires finite-requires-2 finite-requires-3 returns)

@@ -1,0 +1,12 @@
+-- `combine::weighted_sum` meets its contract. Assumes nothing.
+use mathlib.Core.Path.{refl}
+use Rattle.combine.specs.Combine.{sumOf}
+use Rattle.combine.proofs.weighted_sum.Statement.{statement}
+use Rattle.combine.proofs.weighted_sum.Tie as tie
+
+returns : tie.Need-returns
+unfolding sumOf
+returns c = refl
+
+pub weighted-sum-spec : {M : Type 1} → statement M
+weighted-sum-spec = tie.close (tie.spec returns)

@@ -1,0 +1,65 @@
+-- Document 01, "HVS, SSIM and scales": "Combining, weight c: SSIM gives y + c × (u + v) and 1 + 2c. HVS gives (1 + 2c) × (y + c × (u + v))",
+-- each operation rounded once; and the two refusals of "When the desk says no" that belong to it. Definitions only.
+use mathlib.Core.Bool.{Bool, _&&_}
+use mathlib.Core.List.{List, [], _∷_}
+use Prim.Native.Nat.{ℕ, zero, suc}
+use lib.Ieee.{Float, binary64, ofBits, le}
+use lib.Ieee.Scale.{finite}
+use Rattle.refusal.specs.Numbers.{notFiniteNo, weightNo}
+use Rattle.refusal.specs.First.{firstBroken}
+use Rattle.number.specs.Steps.{_⊕_, _⊗_}
+use Rattle.combine.specs.declared.Planar.{Planar}
+use Rattle.combine.specs.declared.CombinedSsim.{CombinedSsim}
+use Rattle.combine.specs.declared.CombinedSsim.the-variants as similarity
+use Rattle.combine.specs.declared.CombinedHvs.{CombinedHvs}
+use Rattle.combine.specs.declared.CombinedHvs.the-variants as visual
+
+-- 0.0, 1.0, 2.0
+abbrev pub none : Float
+none = ofBits binary64 0
+
+abbrev pub one : Float
+one = ofBits binary64 0x3FF0000000000000
+
+abbrev pub two : Float
+two = ofBits binary64 0x4000000000000000
+
+-- ---- the figures
+
+-- y + c × (u + v)
+unfoldable pub sumOf : Float → Planar → Float
+sumOf c s = s .y ⊕ c ⊗ (s .u ⊕ s .v)
+
+-- 1 + 2c
+unfoldable pub weightOf : Float → Float
+weightOf c = one ⊕ two ⊗ c
+
+-- HVS: (1 + 2c) × (y + c × (u + v))
+unfoldable pub scoreOf : Float → Planar → Float
+scoreOf c s = weightOf c ⊗ sumOf c s
+
+-- ---- the refusals
+
+-- 13 is not given: the weight is from 0 to 1, which -0 is and not-a-number is not, and the three numbers are finite
+unfoldable pub combinable : Float → Planar → Bool
+combinable c s = le none c && le c one && (finite (s .y) && finite (s .u) && finite (s .v))
+
+-- 13, then 9, which is given only where no other refusal applies
+abbrev pub refusalOf : Float → Planar → Bool → ℕ
+refusalOf c s isFinite = firstBroken ((weightNo, combinable c s) ∷ (notFiniteNo, isFinite) ∷ [])
+
+-- ---- the answers
+
+abbrev pub sumFor : ℕ → Float → Float → CombinedSsim
+sumFor zero sum weight = similarity.Sum sum weight
+sumFor (suc n) sum weight = similarity.Refused (suc n)
+
+abbrev pub ssimOf : Float → Planar → CombinedSsim
+ssimOf c s = sumFor (refusalOf c s (finite (sumOf c s) && finite (weightOf c))) (sumOf c s) (weightOf c)
+
+abbrev pub scoreFor : ℕ → Float → CombinedHvs
+scoreFor zero score = visual.Score score
+scoreFor (suc n) score = visual.Refused (suc n)
+
+abbrev pub hvsOf : Float → Planar → CombinedHvs
+hvsOf c s = scoreFor (refusalOf c s (finite (scoreOf c s))) (scoreOf c s)
