@@ -1,0 +1,12 @@
+//! The command from end to end: files in, reports, messages and statuses out.
+
+mod files;
+mod hostile;
+mod json;
+mod limits;
+mod published;
+mod reports;
+mod run;
+mod scores;
+mod usage;
+mod video;
