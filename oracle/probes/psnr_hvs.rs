@@ -19,3 +19,25 @@ pub fn probe_pass(out: &mut [i32], x: &[i32]) {
 pub fn probe_tables() -> [[[f64; 8]; 8]; 3] {
     [CSF_Y, CSF_CB420, CSF_CR420]
 }
+
+/// The product that `log10_convert` makes of the frame function's sum and weight. Nothing gives it bare, so it is written again.
+pub fn probe_combined(c: f64, [y, u, v]: [f64; 3]) -> f64 {
+    (1.0 + 2.0 * c) * (y + c * (u + v))
+}
+
+/// The decibels of a combined score.
+pub fn probe_decibels(score: f64) -> f64 {
+    log10_convert(score, 1.0)
+}
+
+/// The decibels of a video of one frame with these scores, under any weight.
+pub fn probe_aggregate(c: f64, [y, u, v]: [f64; 3]) -> f64 {
+    let frame = PlanarMetrics { y, u, v, avg: 0.0 };
+    PsnrHvs { cweight: Some(c) }.aggregate_frame_results(&[frame]).unwrap().avg
+}
+
+/// The scores of a frame's planes, before they are combined.
+pub fn probe_scores<T: Pixel>(a: &Frame<T>, b: &Frame<T>, depth: usize) -> [f64; 3] {
+    let m = PsnrHvs::default().process_frame(a, b, depth, ChromaSampling::Cs444).unwrap();
+    [m.y, m.u, m.v]
+}

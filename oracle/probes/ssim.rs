@@ -19,3 +19,25 @@ pub fn probe_kernel(sigma: f64, max_len: usize, weight: usize) -> Vec<i64> {
 pub fn probe_product<T: Pixel>(a: &Plane<T>, b: &Plane<T>, depth: usize) -> f64 {
     calculate_plane_msssim(a, b, depth)
 }
+
+/// The sum and the weight that the frame function hands to `log10_convert`. Nothing gives them bare, so they are written again.
+pub fn probe_combined(c: f64, [y, u, v]: [f64; 3]) -> (f64, f64) {
+    (y + c * (u + v), 1.0 + 2.0 * c)
+}
+
+/// The decibels of a sum and its weight.
+pub fn probe_decibels(sum: f64, weight: f64) -> f64 {
+    log10_convert(sum, weight)
+}
+
+/// The decibels of a video of one frame with these scores, under any weight.
+pub fn probe_aggregate(c: f64, [y, u, v]: [f64; 3]) -> f64 {
+    let frame = PlanarMetrics { y, u, v, avg: 0.0 };
+    Ssim { cweight: Some(c) }.aggregate_frame_results(&[frame]).unwrap().avg
+}
+
+/// The scores of a frame's planes, before they are combined.
+pub fn probe_scores<T: Pixel>(a: &Frame<T>, b: &Frame<T>, depth: usize) -> [f64; 3] {
+    let m = Ssim::default().process_frame(a, b, depth, ChromaSampling::Cs444).unwrap();
+    [m.y, m.u, m.v]
+}

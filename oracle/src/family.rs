@@ -1,6 +1,7 @@
 //! How a family of cases is run: each case is made, judged and counted; the first that fails is made small.
 
 use crate::random::Random;
+use fuavelino::Refusal;
 use std::panic::{catch_unwind, AssertUnwindSafe};
 use std::sync::atomic::{AtomicBool, Ordering};
 use std::time::{Duration, Instant};
@@ -23,6 +24,11 @@ pub trait Family {
 pub struct Run {
     pub seed: u64,
     pub full: bool,
+}
+
+/// What a call said, as a number: 0, or its refusal's.
+pub fn number(said: Result<(), Refusal>) -> u8 {
+    said.map_or_else(Refusal::number, |()| 0)
 }
 
 /// How long a failing case is made smaller.

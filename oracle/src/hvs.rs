@@ -1,54 +1,17 @@
 //! PSNR-HVS of both widths and the three kinds: the published score of the unpadded copies, and the model's refusals.
 
-use crate::family::{run, Family, Run};
+use crate::family::{number, run, Family, Run};
 use crate::hvs_ways;
 use crate::plane;
 use crate::random::Random;
 use crate::samples::{sound, sound_of, Pair};
+use fuavelino::{lent, PlaneKind, Sample};
 use published::plane::Plane;
 use published::video::pixel::Pixel;
 use published::video::psnr_hvs;
 
-/// The call of one width and kind.
-type Call<T> = unsafe extern "C" fn(
-    a: *const T,
-    a_len: usize,
-    b: *const T,
-    b_len: usize,
-    width: usize,
-    height: usize,
-    stride_a: usize,
-    stride_b: usize,
-    depth: u32,
-    score: *mut f64,
-) -> u8;
-
-/// Declares calls that differ in name and width only.
-macro_rules! calls {
-    ($($name:ident: $sample:ty),*) => {
-        extern "C" {
-            $(fn $name(
-                a: *const $sample,
-                a_len: usize,
-                b: *const $sample,
-                b_len: usize,
-                width: usize,
-                height: usize,
-                stride_a: usize,
-                stride_b: usize,
-                depth: u32,
-                score: *mut f64,
-            ) -> u8;)*
-        }
-    };
-}
-
-calls!(fuavelino_psnr_hvs_y_8: u8, fuavelino_psnr_hvs_u_8: u8, fuavelino_psnr_hvs_v_8: u8);
-calls!(fuavelino_psnr_hvs_y_16: u16, fuavelino_psnr_hvs_u_16: u16, fuavelino_psnr_hvs_v_16: u16);
-
-/// By kind: y, u, v.
-const BYTES: [Call<u8>; 3] = [fuavelino_psnr_hvs_y_8, fuavelino_psnr_hvs_u_8, fuavelino_psnr_hvs_v_8];
-const WORDS: [Call<u16>; 3] = [fuavelino_psnr_hvs_y_16, fuavelino_psnr_hvs_u_16, fuavelino_psnr_hvs_v_16];
+/// By number.
+const KINDS: [PlaneKind; 3] = [PlaneKind::Y, PlaneKind::U, PlaneKind::V];
 
 /// What the score holds before a call, and must hold after a refusal.
 const BEFORE: u64 = 0x7FF4_DEAD_BEEF_0001;
@@ -90,9 +53,9 @@ impl Family for Scores {
 
     fn judge(&mut self, (p, kind): &(Pair, usize)) -> Result<u8, String> {
         let (answer, left) = if p.wide {
-            p.lend(|s| s, |a, b| asked(WORDS[*kind], p, a, b))?
+            p.lend(|s| s, |a, b| asked(KINDS[*kind], p, a, b))?
         } else {
-            p.lend(|s| s as u8, |a, b| asked(BYTES[*kind], p, a, b))?
+            p.lend(|s| s as u8, |a, b| asked(KINDS[*kind], p, a, b))?
         };
         let (wanted, then) = match p.refusal(LEAST) {
             0 => finite(published(p, *kind)),
@@ -119,10 +82,9 @@ impl Family for Scores {
     }
 }
 
-fn asked<T>(call: Call<T>, p: &Pair, a: &[T], b: &[T]) -> (u8, u64) {
+fn asked<T: Sample>(kind: PlaneKind, p: &Pair, a: &[T], b: &[T]) -> (u8, u64) {
     let mut score = f64::from_bits(BEFORE);
-    let (w, h, [s, t]) = (p.width, p.height, p.strides);
-    let answer = unsafe { call(a.as_ptr(), a.len(), b.as_ptr(), b.len(), w, h, s, t, p.depth, &mut score) };
+    let answer = number(lent::psnr_hvs(p.plane(0, a), p.plane(1, b), p.shape(), kind, &mut score));
     (answer, score.to_bits())
 }
 

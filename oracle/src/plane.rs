@@ -1,35 +1,9 @@
 //! What a plane may be: the check of both widths, against the model.
 
-use crate::family::{run, Family, Run};
+use crate::family::{number, run, Family, Run};
 use crate::model::{Check, Plane};
 use crate::random::Random;
-
-extern "C" {
-    fn fuavelino_check8(
-        a: *const u8,
-        a_len: usize,
-        b: *const u8,
-        b_len: usize,
-        width: usize,
-        height: usize,
-        stride_a: usize,
-        stride_b: usize,
-        depth: u32,
-        least: usize,
-    ) -> u8;
-    fn fuavelino_check16(
-        a: *const u16,
-        a_len: usize,
-        b: *const u16,
-        b_len: usize,
-        width: usize,
-        height: usize,
-        stride_a: usize,
-        stride_b: usize,
-        depth: u32,
-        least: usize,
-    ) -> u8;
-}
+use fuavelino::{lent, Sample, Shape};
 
 /// Random planes hold no more samples than this.
 const ROOM: u128 = 40_000;
@@ -102,20 +76,23 @@ fn show(p: &Plane) -> String {
     format!("stride {}, {} samples, visible {}, others {}{}", p.stride, p.len, p.fill, p.padding, odd.concat())
 }
 
-/// Asks, and says whether both planes are as they were. An empty slice's pointer is aligned and not null.
+/// Asks, and says whether both planes are as they were.
 fn ask8(c: &Check, a: &[u16], b: &[u16]) -> (u8, bool) {
     let [x, y] = [a, b].map(|list| list.iter().map(|s| *s as u8).collect::<Vec<u8>>());
-    let (w, h, p, q) = (c.width, c.height, c.a.stride, c.b.stride);
-    let answer = unsafe { fuavelino_check8(x.as_ptr(), x.len(), y.as_ptr(), y.len(), w, h, p, q, c.depth, c.least) };
+    let answer = asked(c, &x, &y);
     let kept = |now: &[u8], was: &[u16]| now.iter().map(|s| u16::from(*s)).eq(was.iter().copied());
     (answer, kept(&x, a) && kept(&y, b))
 }
 
 fn ask16(c: &Check, a: &[u16], b: &[u16]) -> (u8, bool) {
     let (x, y) = (a.to_vec(), b.to_vec());
-    let (w, h, p, q) = (c.width, c.height, c.a.stride, c.b.stride);
-    let answer = unsafe { fuavelino_check16(x.as_ptr(), x.len(), y.as_ptr(), y.len(), w, h, p, q, c.depth, c.least) };
-    (answer, x == a && y == b)
+    (asked(c, &x, &y), x == a && y == b)
+}
+
+fn asked<T: Sample>(c: &Check, a: &[T], b: &[T]) -> u8 {
+    let shape = Shape { width: c.width, height: c.height, bit_depth: c.depth };
+    let (a, b) = (fuavelino::Plane { data: a, stride: c.a.stride }, fuavelino::Plane { data: b, stride: c.b.stride });
+    number(lent::check(a, b, shape, c.least))
 }
 
 /// Smaller numbers to try in place of this one.

@@ -1,12 +1,9 @@
 //! The root, against the processor's own, bit for bit.
 
-use crate::family::{run, Family, Run};
+use crate::family::{number, run, Family, Run};
 use crate::model;
 use crate::random::Random;
-
-extern "C" {
-    fn fuavelino_root(x: f64, out: *mut f64) -> u8;
-}
+use fuavelino::lent;
 
 /// What `out` holds before a call: a pattern that is no root, and must stay on a refusal.
 const BEFORE: u64 = 0x7FF4_DEAD_BEEF_0001;
@@ -34,7 +31,7 @@ impl Family for Roots {
 
     fn judge(&mut self, bits: &u64) -> Result<u8, String> {
         let mut out = f64::from_bits(BEFORE);
-        let answer = unsafe { fuavelino_root(f64::from_bits(*bits), &mut out) };
+        let answer = number(lent::root(f64::from_bits(*bits), &mut out));
         let (wanted, left) = match model::root(*bits) {
             Some(root) => (0, root),
             None => (model::VALUE, BEFORE),

@@ -3,6 +3,7 @@
 use crate::model::{needs, Check, Lent};
 use crate::plane::less;
 use crate::random::Random;
+use fuavelino::Shape;
 use published::plane::Plane;
 
 /// Two planes as a call is lent them, with stride and samples of each. Bytes are kept as words here.
@@ -55,6 +56,16 @@ impl Pair {
     /// The planes as the published code takes them.
     pub fn unpadded<T: Copy>(&self, narrow: fn(u16) -> T) -> [Plane<T>; 2] {
         self.visible().map(|list| Plane::new(list.into_iter().map(narrow).collect(), self.width, self.height))
+    }
+
+    /// What both planes share, as the product takes it.
+    pub fn shape(&self) -> Shape {
+        Shape { width: self.width, height: self.height, bit_depth: self.depth }
+    }
+
+    /// One of the planes as the product takes it, of these samples.
+    pub fn plane<'a, T>(&self, i: usize, data: &'a [T]) -> fuavelino::Plane<'a, T> {
+        fuavelino::Plane { data, stride: self.strides[i] }
     }
 
     /// Lends copies of both planes, and sees that they stay as they are.

@@ -1,69 +1,11 @@
 //! MS-SSIM's five pairs of both widths: the published pair at each published scale, the rules' refusals, and what is left in all that is lent.
 
-use crate::family::{run, Family, Run};
+use crate::family::{number, run, Family, Run};
 use crate::plane;
 use crate::random::Random;
 use crate::samples::{sound, sound_of, Pair};
+use fuavelino::{lent, Sample};
 use published::video::ssim;
-
-/// The call of one width.
-type Call<T> = unsafe extern "C" fn(
-    a: *const T,
-    a_len: usize,
-    b: *const T,
-    b_len: usize,
-    width: usize,
-    height: usize,
-    stride_a: usize,
-    stride_b: usize,
-    depth: u32,
-    scratch: *mut i64,
-    scratch_len: usize,
-    room_a: *mut u32,
-    room_a_len: usize,
-    room_b: *mut u32,
-    room_b_len: usize,
-    pairs: *mut f64,
-) -> u8;
-
-extern "C" {
-    fn fuavelino_msssim8(
-        a: *const u8,
-        a_len: usize,
-        b: *const u8,
-        b_len: usize,
-        width: usize,
-        height: usize,
-        stride_a: usize,
-        stride_b: usize,
-        depth: u32,
-        scratch: *mut i64,
-        scratch_len: usize,
-        room_a: *mut u32,
-        room_a_len: usize,
-        room_b: *mut u32,
-        room_b_len: usize,
-        pairs: *mut f64,
-    ) -> u8;
-    fn fuavelino_msssim16(
-        a: *const u16,
-        a_len: usize,
-        b: *const u16,
-        b_len: usize,
-        width: usize,
-        height: usize,
-        stride_a: usize,
-        stride_b: usize,
-        depth: u32,
-        scratch: *mut i64,
-        scratch_len: usize,
-        room_a: *mut u32,
-        room_a_len: usize,
-        room_b: *mut u32,
-        room_b_len: usize,
-        pairs: *mut f64,
-    ) -> u8;
-}
 
 /// What each place of the answer holds before a call, and must hold after a refusal.
 const BEFORE: u64 = 0x7FF4_DEAD_BEEF_0001;
@@ -97,13 +39,13 @@ impl Family for Scales {
     }
 
     fn judge(&mut self, c: &Case) -> Result<u8, String> {
-        let mut scratch: Vec<i64> = (0..lent(c, 0)).map(|i| noise(i) as i64).collect();
-        let mut rooms = [1, 2].map(|k| (0..lent(c, k)).map(noise).collect::<Vec<u32>>());
+        let mut scratch: Vec<i64> = (0..places(c, 0)).map(|i| noise(i) as i64).collect();
+        let mut rooms = [1, 2].map(|k| (0..places(c, k)).map(noise).collect::<Vec<u32>>());
         let [x, y] = &mut rooms;
         let (answer, left) = if c.pair.wide {
-            c.pair.lend(|s| s, |a, b| asked(fuavelino_msssim16, c, &mut scratch, x, y, a, b))?
+            c.pair.lend(|s| s, |a, b| asked(c, &mut scratch, x, y, a, b))?
         } else {
-            c.pair.lend(|s| s as u8, |a, b| asked(fuavelino_msssim8, c, &mut scratch, x, y, a, b))?
+            c.pair.lend(|s| s as u8, |a, b| asked(c, &mut scratch, x, y, a, b))?
         };
         let (wanted, then) = model(c);
         if (answer, left) != (wanted, then) {
@@ -153,12 +95,11 @@ fn needed(p: &Pair, which: usize) -> usize {
     }
 }
 
-fn lent(c: &Case, which: usize) -> usize {
+fn places(c: &Case, which: usize) -> usize {
     (needed(&c.pair, which) as isize + c.over[which]).max(0) as usize
 }
 
-fn asked<T>(
-    call: Call<T>,
+fn asked<T: Sample>(
     c: &Case,
     scratch: &mut [i64],
     x: &mut [u32],
@@ -166,18 +107,17 @@ fn asked<T>(
     a: &[T],
     b: &[T],
 ) -> (u8, [u64; 10]) {
-    let mut pairs = [f64::from_bits(BEFORE); 10];
-    let (w, h, [s, t], d) = (c.pair.width, c.pair.height, c.pair.strides, c.pair.depth);
-    let (p, q, r) = (scratch.as_mut_ptr(), x.as_mut_ptr(), y.as_mut_ptr());
-    let (i, j, k) = (scratch.len(), x.len(), y.len());
-    let answer =
-        unsafe { call(a.as_ptr(), a.len(), b.as_ptr(), b.len(), w, h, s, t, d, p, i, q, j, r, k, pairs.as_mut_ptr()) };
-    (answer, pairs.map(f64::to_bits))
+    let before = f64::from_bits(BEFORE);
+    let mut out = [fuavelino::Pair { ssim: before, cs: before }; 5];
+    let (a, b, shape) = (c.pair.plane(0, a), c.pair.plane(1, b), c.pair.shape());
+    let answer = number(lent::msssim(a, b, shape, scratch, x, y, &mut out));
+    let at = |i: usize| if i % 2 == 0 { out[i / 2].ssim } else { out[i / 2].cs };
+    (answer, [0, 1, 2, 3, 4, 5, 6, 7, 8, 9].map(|i| at(i).to_bits()))
 }
 
 /// The answer, and what the ten places hold after it.
 fn model(c: &Case) -> (u8, [u64; 10]) {
-    let short = (0..3).any(|k| lent(c, k) < needed(&c.pair, k));
+    let short = (0..3).any(|k| places(c, k) < needed(&c.pair, k));
     match c.pair.refusal(16) {
         0 if short => (8, [BEFORE; 10]),
         0 => {

@@ -1,28 +1,10 @@
 //! Series of records, against the rules of document 01 in wide whole numbers.
 
-use crate::family::{run, Family, Run};
+use crate::family::{number, run, Family, Run};
 use crate::plane::less;
 use crate::random::Random;
 use crate::samples::runs;
-
-extern "C" {
-    fn fuavelino_series(
-        records: *const Record,
-        records_len: usize,
-        sq_err: *mut f64,
-        n: *mut u64,
-        sample_max: *mut u32,
-    ) -> u8;
-}
-
-/// A record as the product declares it.
-#[repr(C)]
-#[derive(Clone, Copy, Debug)]
-struct Record {
-    sq_err: f64,
-    n: u64,
-    sample_max: u32,
-}
+use fuavelino::{lent, PsnrMetrics as Record};
 
 /// What is left at the three places: the error's bits, n, sample_max.
 type Left = (u64, u64, u32);
@@ -40,7 +22,7 @@ pub fn compare(ask: Run) -> bool {
 
 /// The error as a whole number, or None where the record is bad, the first record's max being known.
 fn sound_error(record: &Record, first_max: u32) -> Option<u128> {
-    let (n, max) = (u128::from(record.n), u128::from(record.sample_max));
+    let (n, max) = (u128::from(record.n_pixels), u128::from(record.sample_max));
     let error = record.sq_err;
     let whole = error.is_sign_positive() && error.is_finite() && error.fract() == 0.0;
     let max_suits = (1..=12).any(|d| max == (1 << d) - 1) && record.sample_max == first_max;
@@ -58,7 +40,7 @@ fn model(records: &[Record]) -> Result<Left, u8> {
     let (mut error, mut n) = (0, 0);
     for record in records {
         error += sound_error(record, max).ok_or(10u8)?;
-        n += record.n;
+        n += record.n_pixels;
     }
     if error > u128::from(MOST_ERROR) {
         return Err(11);
@@ -81,12 +63,12 @@ impl Family for Series {
     }
 
     fn judge(&mut self, records: &Vec<Record>) -> Result<u8, String> {
-        let (mut error, mut n, mut max) = (f64::from_bits(BEFORE.0), BEFORE.1, BEFORE.2);
-        let lent = records.clone();
-        let answer = unsafe { fuavelino_series(lent.as_ptr(), lent.len(), &mut error, &mut n, &mut max) };
-        let left = (error.to_bits(), n, max);
-        let bits = |r: &Record| (r.sq_err.to_bits(), r.n, r.sample_max);
-        if !lent.iter().map(bits).eq(records.iter().map(bits)) {
+        let bits = |r: &Record| (r.sq_err.to_bits(), r.n_pixels, r.sample_max);
+        let mut total = Record { sq_err: f64::from_bits(BEFORE.0), n_pixels: BEFORE.1, sample_max: BEFORE.2 };
+        let copies = records.clone();
+        let answer = number(lent::series(&copies, &mut total));
+        let left = bits(&total);
+        if !copies.iter().map(bits).eq(records.iter().map(bits)) {
             return Err("a record was altered".to_string());
         }
         let wanted = match model(records) {
@@ -118,7 +100,7 @@ impl Family for Series {
     }
 
     fn show(&self, records: &Vec<Record>) -> String {
-        let word = |r: &Record| format!("{} ({:#018X}) {} {}", r.sq_err, r.sq_err.to_bits(), r.n, r.sample_max);
+        let word = |r: &Record| format!("{} ({:#018X}) {} {}", r.sq_err, r.sq_err.to_bits(), r.n_pixels, r.sample_max);
         format!("a series of {} records:\n    {}", records.len(), runs(records, word).join("\n    "))
     }
 
@@ -131,7 +113,7 @@ fn smaller_record(record: &Record) -> Vec<Record> {
     let error = record.sq_err;
     let errors = [0.0, 1.0, (error / 2.0).floor(), error - 1.0].into_iter().filter(|e| e.abs() < error.abs());
     let mut list: Vec<Record> = errors.map(|sq_err| Record { sq_err, ..*record }).collect();
-    list.extend(less(record.n as usize).into_iter().map(|n| Record { n: n as u64, ..*record }));
+    list.extend(less(record.n_pixels as usize).into_iter().map(|n| Record { n_pixels: n as u64, ..*record }));
     list.extend(less(record.sample_max as usize).into_iter().map(|max| Record { sample_max: max as u32, ..*record }));
     list
 }
@@ -145,18 +127,18 @@ fn sound(r: &mut Random, depth: u32) -> Record {
     let error = r.next() % (most + 1);
     let small = r.bits(20).min(most);
     let error = r.pick(&[0, 0, 1, most, most - 1, error, error, small]);
-    Record { sq_err: error as f64, n, sample_max: max as u32 }
+    Record { sq_err: error as f64, n_pixels: n, sample_max: max as u32 }
 }
 
 /// The kinds of bad record, made from a sound one: one more at the end for a max that is lawful, and not the first's.
 const KINDS: usize = 24;
 
 fn spoilt(record: &Record, kind: usize) -> Record {
-    let Record { sq_err, n, sample_max: max } = *record;
+    let Record { sq_err, n_pixels: n, sample_max: max } = *record;
     let most = n as f64 * f64::from(max) * f64::from(max);
-    let error = |sq_err: f64| Record { sq_err, n, sample_max: max };
-    let count = |n: u64| Record { sq_err, n, sample_max: max };
-    let largest = |sample_max: u32| Record { sq_err, n, sample_max };
+    let error = |sq_err: f64| Record { sq_err, n_pixels: n, sample_max: max };
+    let count = |n: u64| Record { sq_err, n_pixels: n, sample_max: max };
+    let largest = |sample_max: u32| Record { sq_err, n_pixels: n, sample_max };
     match kind {
         0 => error(-1.0),
         1 => error(-0.0),
@@ -214,7 +196,7 @@ fn near_the_limit(r: &mut Random) -> Vec<Record> {
     while left > 0 {
         let part = most - r.bits(40);
         let part = r.pick(&[most, part, part, 1]).min(left);
-        records.push(Record { sq_err: part as f64, n: MOST_SAMPLES, sample_max: 4_095 });
+        records.push(Record { sq_err: part as f64, n_pixels: MOST_SAMPLES, sample_max: 4_095 });
         left -= part;
     }
     // the small parts must not all come late
@@ -232,9 +214,9 @@ fn run_of(count: usize, record: Record, last: Record) -> Vec<Record> {
 }
 
 fn listed() -> Vec<Vec<Record>> {
-    let full = |error: u64| Record { sq_err: error as f64, n: MOST_SAMPLES, sample_max: 4_095 };
+    let full = |error: u64| Record { sq_err: error as f64, n_pixels: MOST_SAMPLES, sample_max: 4_095 };
     let most = MOST_SAMPLES * 4_095 * 4_095;
-    let small = Record { sq_err: 3.0, n: 7, sample_max: 255 };
+    let small = Record { sq_err: 3.0, n_pixels: 7, sample_max: 255 };
     let same = Record { sq_err: 0.0, ..small };
     let mut list = vec![
         vec![],
@@ -267,6 +249,6 @@ fn listed() -> Vec<Vec<Record>> {
 
 /// Short and long, with little error, with none, and with more than 2^53.
 fn bases(small: Record, full: Record, none: Record) -> Vec<Vec<Record>> {
-    let one = Record { sq_err: 1.0, n: 1, sample_max: 1 };
+    let one = Record { sq_err: 1.0, n_pixels: 1, sample_max: 1 };
     vec![vec![small], vec![small; 3], vec![full; 9], vec![none; 4], vec![full; 101], vec![one; 3], vec![small; 1_001]]
 }

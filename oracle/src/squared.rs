@@ -1,59 +1,13 @@
 //! Squared error of both widths: the published record of the unpadded copies, and the model's refusals.
 
-use crate::family::{run, Family, Run};
+use crate::family::{number, run, Family, Run};
 use crate::plane;
 use crate::random::Random;
 use crate::samples::{sound, sound_of, Pair};
+use fuavelino::{lent, PsnrMetrics, Sample};
 use published::plane::Plane;
 use published::video::pixel::Pixel;
 use published::video::psnr;
-
-/// The call of one width.
-type Call<T> = unsafe extern "C" fn(
-    a: *const T,
-    a_len: usize,
-    b: *const T,
-    b_len: usize,
-    width: usize,
-    height: usize,
-    stride_a: usize,
-    stride_b: usize,
-    depth: u32,
-    sq_err: *mut f64,
-    n: *mut u64,
-    sample_max: *mut u32,
-) -> u8;
-
-extern "C" {
-    fn fuavelino_squared_error8(
-        a: *const u8,
-        a_len: usize,
-        b: *const u8,
-        b_len: usize,
-        width: usize,
-        height: usize,
-        stride_a: usize,
-        stride_b: usize,
-        depth: u32,
-        sq_err: *mut f64,
-        n: *mut u64,
-        sample_max: *mut u32,
-    ) -> u8;
-    fn fuavelino_squared_error16(
-        a: *const u16,
-        a_len: usize,
-        b: *const u16,
-        b_len: usize,
-        width: usize,
-        height: usize,
-        stride_a: usize,
-        stride_b: usize,
-        depth: u32,
-        sq_err: *mut f64,
-        n: *mut u64,
-        sample_max: *mut u32,
-    ) -> u8;
-}
 
 /// What is left at the three places: the error's bits, n, sample_max.
 type Left = (u64, u64, u32);
@@ -86,9 +40,9 @@ impl Family for Errors {
 
     fn judge(&mut self, p: &Pair) -> Result<u8, String> {
         let (answer, left) = if p.wide {
-            p.lend(|s| s, |a, b| asked(fuavelino_squared_error16, p, a, b))?
+            p.lend(|s| s, |a, b| asked(p, a, b))?
         } else {
-            p.lend(|s| s as u8, |a, b| asked(fuavelino_squared_error8, p, a, b))?
+            p.lend(|s| s as u8, |a, b| asked(p, a, b))?
         };
         let wanted = match p.refusal(0) {
             0 if p.wide => (0, record(&p.unpadded(|s| s), p.depth)),
@@ -128,12 +82,10 @@ impl Family for Errors {
     }
 }
 
-fn asked<T>(call: Call<T>, p: &Pair, a: &[T], b: &[T]) -> (u8, Left) {
-    let (mut error, mut n, mut max) = (f64::from_bits(BEFORE.0), BEFORE.1, BEFORE.2);
-    let (w, h, [s, t]) = (p.width, p.height, p.strides);
-    let (x, y) = (a.as_ptr(), b.as_ptr());
-    let answer = unsafe { call(x, a.len(), y, b.len(), w, h, s, t, p.depth, &mut error, &mut n, &mut max) };
-    (answer, (error.to_bits(), n, max))
+fn asked<T: Sample>(p: &Pair, a: &[T], b: &[T]) -> (u8, Left) {
+    let mut out = PsnrMetrics { sq_err: f64::from_bits(BEFORE.0), n_pixels: BEFORE.1, sample_max: BEFORE.2 };
+    let answer = number(lent::squared_error(p.plane(0, a), p.plane(1, b), p.shape(), &mut out));
+    (answer, (out.sq_err.to_bits(), out.n_pixels, out.sample_max))
 }
 
 fn record<T: Pixel>(planes: &[Plane<T>; 2], depth: u32) -> Left {
@@ -173,7 +125,7 @@ fn largest() -> bool {
     let (a, b) = (vec![4_095u16; SIDE * SIDE], vec![0u16; SIDE * SIDE]);
     let shape =
         Pair { wide: true, depth: 12, width: SIDE, height: SIDE, strides: [SIDE; 2], samples: [vec![], vec![]] };
-    let (answer, left) = asked(fuavelino_squared_error16, &shape, &a, &b);
+    let (answer, left) = asked(&shape, &a, &b);
     let exact = 4_095 * 4_095 * (SIDE * SIDE) as u64;
     let published = record(&[Plane::new(a, SIDE, SIDE), Plane::new(b, SIDE, SIDE)], 12);
     let held = answer == 0 && left == published && f64::from_bits(left.0) as u64 == exact;

@@ -1,67 +1,12 @@
 //! SSIM of both widths: the published pair of the unpadded copies, the rules' refusals, and what is left in the scratch.
 
-use crate::family::{run, Family, Run};
+use crate::family::{number, run, Family, Run};
 use crate::plane::{self, less};
 use crate::random::Random;
 use crate::samples::{sound, Pair};
 use crate::ssim_ways;
+use fuavelino::{lent, Sample};
 use published::video::ssim;
-
-/// The call of one width.
-type Call<T> = unsafe extern "C" fn(
-    a: *const T,
-    a_len: usize,
-    b: *const T,
-    b_len: usize,
-    width: usize,
-    height: usize,
-    stride_a: usize,
-    stride_b: usize,
-    depth: u32,
-    kernel: *const u16,
-    kernel_len: usize,
-    scratch: *mut i64,
-    scratch_len: usize,
-    ssim: *mut f64,
-    cs: *mut f64,
-) -> u8;
-
-extern "C" {
-    fn fuavelino_ssim8(
-        a: *const u8,
-        a_len: usize,
-        b: *const u8,
-        b_len: usize,
-        width: usize,
-        height: usize,
-        stride_a: usize,
-        stride_b: usize,
-        depth: u32,
-        kernel: *const u16,
-        kernel_len: usize,
-        scratch: *mut i64,
-        scratch_len: usize,
-        ssim: *mut f64,
-        cs: *mut f64,
-    ) -> u8;
-    fn fuavelino_ssim16(
-        a: *const u16,
-        a_len: usize,
-        b: *const u16,
-        b_len: usize,
-        width: usize,
-        height: usize,
-        stride_a: usize,
-        stride_b: usize,
-        depth: u32,
-        kernel: *const u16,
-        kernel_len: usize,
-        scratch: *mut i64,
-        scratch_len: usize,
-        ssim: *mut f64,
-        cs: *mut f64,
-    ) -> u8;
-}
 
 /// What the two places hold before a call, and must hold after a refusal.
 const BEFORE: [u64; 2] = [0x7FF4_DEAD_BEEF_0001, 0xFFF4_DEAD_BEEF_0002];
@@ -108,9 +53,9 @@ impl Family for Pairs {
     fn judge(&mut self, c: &Case) -> Result<u8, String> {
         let mut scratch: Vec<i64> = (0..c.places).map(|i| noise(c.seed, i)).collect();
         let (answer, left) = if c.pair.wide {
-            c.pair.lend(|s| s, |a, b| asked(fuavelino_ssim16, c, &mut scratch, a, b))?
+            c.pair.lend(|s| s, |a, b| asked(c, &mut scratch, a, b))?
         } else {
-            c.pair.lend(|s| s as u8, |a, b| asked(fuavelino_ssim8, c, &mut scratch, a, b))?
+            c.pair.lend(|s| s as u8, |a, b| asked(c, &mut scratch, a, b))?
         };
         let (wanted, then) = model(c);
         if (answer, left) != (wanted, then) {
@@ -162,15 +107,12 @@ fn noise(seed: u64, at: usize) -> i64 {
     ((seed ^ at as u64).wrapping_mul(0x9E37_79B9_7F4A_7C15) | 1) as i64
 }
 
-fn asked<T>(call: Call<T>, c: &Case, scratch: &mut [i64], a: &[T], b: &[T]) -> (u8, [u64; 2]) {
-    let [mut ssim, mut cs] = BEFORE.map(f64::from_bits);
-    let (w, h, [s, t]) = (c.pair.width, c.pair.height, c.pair.strides);
-    let (x, y, k) = (a.as_ptr(), b.as_ptr(), &c.kernel);
-    let (room, places) = (scratch.as_mut_ptr(), scratch.len());
-    let answer = unsafe {
-        call(x, a.len(), y, b.len(), w, h, s, t, c.pair.depth, k.as_ptr(), k.len(), room, places, &mut ssim, &mut cs)
-    };
-    (answer, [ssim.to_bits(), cs.to_bits()])
+fn asked<T: Sample>(c: &Case, scratch: &mut [i64], a: &[T], b: &[T]) -> (u8, [u64; 2]) {
+    let [ssim, cs] = BEFORE.map(f64::from_bits);
+    let mut out = fuavelino::Pair { ssim, cs };
+    let (a, b, shape) = (c.pair.plane(0, a), c.pair.plane(1, b), c.pair.shape());
+    let answer = number(lent::ssim(a, b, shape, &c.kernel, scratch, &mut out));
+    (answer, [out.ssim.to_bits(), out.cs.to_bits()])
 }
 
 /// The answer, and what the two places hold after it.

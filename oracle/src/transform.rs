@@ -1,15 +1,11 @@
 //! The transform against the published one, and its inverse against the steps undone; both ways there and back.
 
-use crate::family::{run, Family, Run};
+use crate::family::{number, run, Family, Run};
 use crate::lifting;
 use crate::model::VALUE;
 use crate::random::Random;
+use fuavelino::lent;
 use published::video::psnr_hvs;
-
-extern "C" {
-    fn fuavelino_forward(block: *const i32, block_len: usize, out: *mut i32, out_len: usize) -> u8;
-    fn fuavelino_inverse(coefs: *const i32, coefs_len: usize, out: *mut i32, out_len: usize) -> u8;
-}
 
 const FORWARD_LIMIT: i32 = 4_095;
 const INVERSE_LIMIT: i32 = 1_048_575;
@@ -96,9 +92,8 @@ fn limit(back: bool) -> i32 {
 
 fn asked(back: bool, values: &[i32], places: usize) -> (u8, Vec<i32>) {
     let mut out = vec![BEFORE; places];
-    let call = if back { fuavelino_inverse } else { fuavelino_forward };
-    let answer = unsafe { call(values.as_ptr(), values.len(), out.as_mut_ptr(), out.len()) };
-    (answer, out)
+    let call = if back { lent::inverse } else { lent::forward };
+    (number(call(values, &mut out)), out)
 }
 
 fn published_forward(values: &[i32]) -> Vec<i32> {

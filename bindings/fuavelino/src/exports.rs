@@ -22,27 +22,33 @@ extern "C" {
     fn fuavelino_inverse(coefs: *const i32, coefs_len: usize, out: *mut i32, out_len: usize) -> u8;
 }
 
+#[inline]
 pub fn root(x: f64, out: &mut f64) -> u8 {
     unsafe { fuavelino_root(x, out) }
 }
 
+#[inline]
 pub fn series(records: &[PsnrMetrics], out: &mut PsnrMetrics) -> u8 {
     let PsnrMetrics { sq_err, n_pixels, sample_max } = out;
     unsafe { fuavelino_series(records.as_ptr(), records.len(), sq_err, n_pixels, sample_max) }
 }
 
+#[inline]
 pub fn combine_ssim(c: f64, y: f64, u: f64, v: f64, sum: &mut f64, weight: &mut f64) -> u8 {
     unsafe { fuavelino_combine_ssim(c, y, u, v, sum, weight) }
 }
 
+#[inline]
 pub fn combine_hvs(c: f64, y: f64, u: f64, v: f64, score: &mut f64) -> u8 {
     unsafe { fuavelino_combine_hvs(c, y, u, v, score) }
 }
 
+#[inline]
 pub fn forward(block: &[i32], out: &mut [i32]) -> u8 {
     unsafe { fuavelino_forward(block.as_ptr(), block.len(), out.as_mut_ptr(), out.len()) }
 }
 
+#[inline]
 pub fn inverse(coefs: &[i32], out: &mut [i32]) -> u8 {
     unsafe { fuavelino_inverse(coefs.as_ptr(), coefs.len(), out.as_mut_ptr(), out.len()) }
 }
@@ -92,15 +98,18 @@ macro_rules! width {
         declare!($sample, $hvs_v: score: &mut f64);
 
         impl Width for $sample {
+            #[inline]
             fn check(a: Plane<'_, Self>, b: Plane<'_, Self>, shape: Shape, least: usize) -> u8 {
                 lend!($check, a, b, shape, least)
             }
 
+            #[inline]
             fn squared_error(a: Plane<'_, Self>, b: Plane<'_, Self>, shape: Shape, out: &mut PsnrMetrics) -> u8 {
                 let PsnrMetrics { sq_err, n_pixels, sample_max } = out;
                 lend!($squared_error, a, b, shape, sq_err, n_pixels, sample_max)
             }
 
+            #[inline]
             fn ssim(
                 a: Plane<'_, Self>,
                 b: Plane<'_, Self>,
@@ -114,6 +123,7 @@ macro_rules! width {
                 lend!($ssim, a, b, shape, kernel.as_ptr(), taps, scratch.as_mut_ptr(), places, ssim, cs)
             }
 
+            #[inline]
             fn msssim(
                 a: Plane<'_, Self>,
                 b: Plane<'_, Self>,
@@ -129,6 +139,7 @@ macro_rules! width {
                 lend!($msssim, a, b, shape, s, i, x, j, y, k, out.as_mut_ptr())
             }
 
+            #[inline]
             fn psnr_hvs(a: Plane<'_, Self>, b: Plane<'_, Self>, shape: Shape, kind: PlaneKind, out: &mut f64) -> u8 {
                 match kind {
                     PlaneKind::Y => lend!($hvs_y, a, b, shape, out),

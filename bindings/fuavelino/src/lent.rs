@@ -8,6 +8,7 @@ use crate::plane::{Pair, Plane, PlaneKind, PsnrMetrics, Sample, Shape};
 use crate::refusal::{told, Refusal};
 
 /// The square root of `x`, the double nearest the exact one. Refuses 12.
+#[inline]
 pub fn root(x: f64, out: &mut f64) -> Result<(), Refusal> {
     told(exports::root(x, out))
 }
@@ -28,6 +29,7 @@ pub fn squared_error<T: Sample>(
 }
 
 /// The total of a run of records. Refuses 10 11.
+#[inline]
 pub fn series(records: &[PsnrMetrics], out: &mut PsnrMetrics) -> Result<(), Refusal> {
     told(exports::series(records, out))
 }
@@ -71,21 +73,25 @@ pub fn psnr_hvs<T: Sample>(
 }
 
 /// SSIM of three planes with chroma weight `c`: y + c × (u + v), and 1 + 2c. Refuses 13, then 9.
+#[inline]
 pub fn combine_ssim(c: f64, y: f64, u: f64, v: f64, sum: &mut f64, weight: &mut f64) -> Result<(), Refusal> {
     told(exports::combine_ssim(c, y, u, v, sum, weight))
 }
 
 /// PSNR-HVS of three planes with chroma weight `c`: (1 + 2c) × (y + c × (u + v)). Refuses 13, then 9.
+#[inline]
 pub fn combine_hvs(c: f64, y: f64, u: f64, v: f64, score: &mut f64) -> Result<(), Refusal> {
     told(exports::combine_hvs(c, y, u, v, score))
 }
 
 /// The transform of a block of 64 numbers from −4,095 to 4,095 into 64 places. Refuses 12.
+#[inline]
 pub fn forward(block: &[i32], out: &mut [i32]) -> Result<(), Refusal> {
     told(exports::forward(block, out))
 }
 
 /// The one block whose transform is these 64 coefficients, each from −1,048,575 to 1,048,575. Refuses 12.
+#[inline]
 pub fn inverse(coefs: &[i32], out: &mut [i32]) -> Result<(), Refusal> {
     told(exports::inverse(coefs, out))
 }

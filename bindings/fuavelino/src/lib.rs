@@ -37,6 +37,7 @@ mod plane;
 mod refusal;
 mod scores;
 mod scratch;
+pub mod video;
 
 pub use kernel::{build_gaussian_kernel, Kernel};
 pub use plane::{Pair, Plane, PlaneKind, PsnrMetrics, Sample, Shape};

@@ -81,12 +81,15 @@ impl Error for Refusal {}
 ///
 /// The library is proved to answer 0 to 13 only. Another number means that this crate is linked with a library that it was not
 /// written for; then nothing that it says can be taken for good, so this panics.
+#[inline]
 pub(crate) fn told(number: u8) -> Result<(), Refusal> {
-    match (number, Refusal::from_number(number)) {
-        (0, _) => Ok(()),
-        (_, Some(refusal)) => Err(refusal),
-        (_, None) => {
-            panic!("libfuavelino.a answered {}: it is not the library that this crate was written for", number)
-        }
+    if number == 0 {
+        return Ok(());
     }
+    Err(Refusal::from_number(number).unwrap_or_else(|| unknown(number)))
+}
+
+#[cold]
+fn unknown(number: u8) -> ! {
+    panic!("libfuavelino.a answered {}: it is not the library that this crate was written for", number)
 }

@@ -56,3 +56,47 @@ impl fmt::Debug for Scratch {
         write!(f, "Scratch of {} sums and {} places of room", self.sums.len(), self.room_a.len())
     }
 }
+
+#[cfg(test)]
+mod tests {
+    use super::Scratch;
+    use crate::{msssim, ssim, Kernel, Pair, Plane, Refusal, Shape};
+
+    fn all_zero(scratch: &Scratch) -> bool {
+        let rooms = [&scratch.room_a, &scratch.room_b];
+        scratch.sums.iter().all(|s| *s == 0) && rooms.iter().all(|room| room.iter().all(|s| *s == 0))
+    }
+
+    fn scores(samples: &[u16], width: usize, height: usize, scratch: &mut Scratch) -> (Pair, [Pair; 5]) {
+        let a = Plane { data: samples, stride: width };
+        let b = Plane { data: &samples[1..], stride: width };
+        let shape = Shape { width, height, bit_depth: 10 };
+        let pair = ssim(a, b, shape, &Kernel::for_plane(width, height), scratch).unwrap();
+        (pair, msssim(a, b, shape, scratch).unwrap())
+    }
+
+    /// Large and small in turn: the room is zero after each, and the answers are those of new room.
+    #[test]
+    fn reused_over_sizes() {
+        let samples: Vec<u16> = (0..90 * 90).map(|i| (i * i % 1_021) as u16).collect();
+        let mut kept = Scratch::new();
+        for (width, height) in [(16, 16), (64, 40), (17, 80), (80, 17), (33, 19), (16, 80), (64, 64)] {
+            let again = scores(&samples, width, height, &mut kept);
+            assert!(all_zero(&kept));
+            assert_eq!(again, scores(&samples, width, height, &mut Scratch::new()));
+        }
+    }
+
+    #[test]
+    fn refused_leaves_it_zero() {
+        let samples = vec![1_023u16; 64 * 64];
+        let mut kept = Scratch::new();
+        scores(&samples[..], 40, 40, &mut kept);
+        let plane = Plane { data: &samples[..], stride: 64 };
+        let shape = Shape { width: 64, height: 64, bit_depth: 9 };
+        let kernel = Kernel::for_plane(64, 64);
+        assert_eq!(ssim(plane, plane, shape, &kernel, &mut kept), Err(Refusal::Sample));
+        assert_eq!(msssim(plane, plane, shape, &mut kept), Err(Refusal::Sample));
+        assert!(all_zero(&kept) && kept.room_a.len() == 40 * 40);
+    }
+}

@@ -44,9 +44,9 @@ scoreOf c s = weightOf c ⊗ sumOf c s
 unfoldable pub combinable : Float → Planar → Bool
 combinable c s = le none c && le c one && (finite (s .y) && finite (s .u) && finite (s .v))
 
--- 13, then 9, which is given only where no other refusal applies
-abbrev pub refusalOf : Float → Planar → Bool → ℕ
-refusalOf c s isFinite = firstBroken ((weightNo, combinable c s) ∷ (notFiniteNo, isFinite) ∷ [])
+-- 13, then 9, which is given only where no other refusal applies; and 0 where neither is
+abbrev pub refusalOf : Bool → Bool → ℕ
+refusalOf lawful isFinite = firstBroken ((weightNo, lawful) ∷ (notFiniteNo, isFinite) ∷ [])
 
 -- ---- the answers
 
@@ -54,12 +54,20 @@ abbrev pub sumFor : ℕ → Float → Float → CombinedSsim
 sumFor zero sum weight = similarity.Sum sum weight
 sumFor (suc n) sum weight = similarity.Refused (suc n)
 
+-- the sum and its weight, both finite, or the refusal
+abbrev pub sumOr : Bool → Float → Float → CombinedSsim
+sumOr lawful sum weight = sumFor (refusalOf lawful (finite sum && finite weight)) sum weight
+
 abbrev pub ssimOf : Float → Planar → CombinedSsim
-ssimOf c s = sumFor (refusalOf c s (finite (sumOf c s) && finite (weightOf c))) (sumOf c s) (weightOf c)
+ssimOf c s = sumOr (combinable c s) (sumOf c s) (weightOf c)
 
 abbrev pub scoreFor : ℕ → Float → CombinedHvs
 scoreFor zero score = visual.Score score
 scoreFor (suc n) score = visual.Refused (suc n)
 
+-- the score, finite, or the refusal
+abbrev pub scoreOr : Bool → Float → CombinedHvs
+scoreOr lawful score = scoreFor (refusalOf lawful (finite score)) score
+
 abbrev pub hvsOf : Float → Planar → CombinedHvs
-hvsOf c s = scoreFor (refusalOf c s (finite (scoreOf c s))) (scoreOf c s)
+hvsOf c s = scoreOr (combinable c s) (scoreOf c s)

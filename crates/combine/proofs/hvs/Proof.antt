@@ -1,6 +1,7 @@
 -- `combine::hvs` meets its contract: test by test. Assumes nothing.
 use borrow.Author.Needs.{needs}
 use Rattle.refusal.proofs.Chain.{fails, holds}
+use Rattle.combine.proofs.Answers.{hvs-score, hvs-infinite}
 use Rattle.combine.proofs.hvs.Statement.{statement}
 use Rattle.combine.proofs.hvs.Tie as tie
 
@@ -18,21 +19,13 @@ finite-requires c κs = search needs
 
 returns-2 : tie.Need-returns-2
 returns-2 c =
-    rw (
-      holds (c .before .before .before .before .lawful .ensures) (c .before .before .before .if1 .left),
-      ← (c .before .before .visual-score .ensures),
-      ← (c .before .finite .ensures),
-      c .if2 .taken,
-    )
+    hvs-score (holds (c .before .before .before .before .lawful .ensures) (c .before .before .before .if1 .left))
+    (c .before .before .visual-score .ensures) (c .before .finite .ensures) (c .if2 .taken)
 
 returns-3 : tie.Need-returns-3
 returns-3 c =
-    rw (
-      holds (c .before .before .before .before .lawful .ensures) (c .before .before .before .if1 .left),
-      ← (c .before .before .visual-score .ensures),
-      ← (c .before .finite .ensures),
-      c .if2 .left,
-    )
+    hvs-infinite (holds (c .before .before .before .before .lawful .ensures) (c .before .before .before .if1 .left))
+    (c .before .before .visual-score .ensures) (c .before .finite .ensures) (c .if2 .left)
 
 pub hvs-spec : {M : Type 1} → statement M
 hvs-spec =

@@ -1,6 +1,7 @@
 -- `combine::ssim` meets its contract: test by test. Assumes nothing.
 use borrow.Author.Needs.{needs}
 use Rattle.refusal.proofs.Chain.{fails, holds}
+use Rattle.combine.proofs.Answers.{ssim-sum, ssim-infinite}
 use Rattle.combine.proofs.ssim.Statement.{statement}
 use Rattle.combine.proofs.ssim.Tie as tie
 
@@ -24,25 +25,17 @@ finite-requires-2 c κs = search needs
 
 returns-2 : tie.Need-returns-2
 returns-2 c =
-    rw (
-      holds (c .before .before .before .before .before .before .lawful .ensures) (c .before .before .before .before .before .if1 .left),
-      ← (c .before .before .before .before .weighted-sum .ensures),
-      ← (c .before .before .before .whole-weight .ensures),
-      ← (c .before .finite2 .ensures),
-      ← (c .before .before .finite .ensures),
-      c .if2 .taken,
-    )
+    ssim-sum
+    (holds (c .before .before .before .before .before .before .lawful .ensures) (c .before .before .before .before .before .if1 .left))
+    (c .before .before .before .before .weighted-sum .ensures) (c .before .before .before .whole-weight .ensures)
+    (c .before .before .finite .ensures) (c .before .finite2 .ensures) (c .if2 .taken)
 
 returns-3 : tie.Need-returns-3
 returns-3 c =
-    rw (
-      holds (c .before .before .before .before .before .before .lawful .ensures) (c .before .before .before .before .before .if1 .left),
-      ← (c .before .before .before .before .weighted-sum .ensures),
-      ← (c .before .before .before .whole-weight .ensures),
-      ← (c .before .finite2 .ensures),
-      ← (c .before .before .finite .ensures),
-      c .if2 .left,
-    )
+    ssim-infinite
+    (holds (c .before .before .before .before .before .before .lawful .ensures) (c .before .before .before .before .before .if1 .left))
+    (c .before .before .before .before .weighted-sum .ensures) (c .before .before .before .whole-weight .ensures)
+    (c .before .before .finite .ensures) (c .before .finite2 .ensures) (c .if2 .left)
 
 pub ssim-spec : {M : Type 1} → statement M
 ssim-spec =

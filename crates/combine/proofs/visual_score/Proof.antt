@@ -12,7 +12,7 @@ weighted-sum-requires c κs = search needs
 
 returns : tie.Need-returns
 unfolding scoreOf
-returns c = cc
+returns c = rw (← (c .before .whole-weight .ensures), ← (c .weighted-sum .ensures))
 
 pub visual-score-spec : {M : Type 1} → statement M
 visual-score-spec = tie.close (tie.spec whole-weight-requires weighted-sum-requires returns)

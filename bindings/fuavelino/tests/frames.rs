@@ -1,0 +1,147 @@
+//! The frame functions of those who come from av-metrics: what they say where it gave infinity or not a number.
+
+use fuavelino::video::psnr::calculate_frame_psnr;
+use fuavelino::video::psnr_hvs::calculate_frame_psnr_hvs;
+use fuavelino::video::ssim::{calculate_frame_msssim, calculate_frame_ssim, calculate_frame_ssim_with};
+use fuavelino::video::{
+    psnr, psnr_hvs, ssim, ChromaSampling, Field, Frame, MetricsError, PlanarMetrics, Plane, PlaneConfig,
+};
+use fuavelino::{PsnrMetrics, Refusal, Sample, Scratch};
+
+const SIDE: usize = 32;
+const EVERY: [ChromaSampling; 4] =
+    [ChromaSampling::Cs420, ChromaSampling::Cs422, ChromaSampling::Cs444, ChromaSampling::Cs400];
+
+fn plane<T>(data: &[T]) -> Plane<'_, T> {
+    Plane { data, cfg: PlaneConfig { width: SIDE, height: SIDE, stride: SIDE } }
+}
+
+fn frame<T: Copy>(data: &[T]) -> Frame<'_, T> {
+    Frame { planes: [plane(data); 3] }
+}
+
+fn each<T: Sample>(
+    a: &Frame<'_, T>,
+    b: &Frame<'_, T>,
+    depth: usize,
+    sampling: ChromaSampling,
+) -> [Result<PlanarMetrics, MetricsError>; 4] {
+    [
+        calculate_frame_psnr(a, b, depth, sampling),
+        calculate_frame_ssim(a, b, depth, sampling),
+        calculate_frame_msssim(a, b, depth, sampling),
+        calculate_frame_psnr_hvs(a, b, depth, sampling),
+    ]
+}
+
+/// A picture with some life in it.
+fn lively(seed: usize) -> Vec<u8> {
+    (0..SIDE * SIDE).map(|i| (i * (7 + seed) % 251) as u8 ^ (i / 29) as u8).collect()
+}
+
+#[test]
+fn identical_frames_are_100() {
+    for value in [0u8, 90, 255] {
+        let same = vec![value; SIDE * SIDE];
+        for said in EVERY.iter().flat_map(|sampling| each(&frame(&same), &frame(&same), 8, *sampling)) {
+            let figures = said.unwrap();
+            // rounding may leave SSIM a little below 1, which is above 100 decibels
+            assert!([figures.y, figures.u, figures.v, figures.avg].iter().all(|f| *f >= 100.0 && f.is_finite()));
+        }
+    }
+}
+
+/// Contrast turned over: av-metrics raises a negative number to a power, and its not-a-number is below no threshold.
+#[test]
+fn turned_over_is_no_number() {
+    let a = lively(0);
+    let b: Vec<u8> = a.iter().map(|s| 255 - s).collect();
+    let [psnr, ssim, msssim, hvs] = each(&frame(&a), &frame(&b), 8, ChromaSampling::Cs444);
+    assert_eq!(msssim, Err(MetricsError::NotANumber { field: Field::Y }));
+    let good = |f: f64| f >= 20.0;
+    for figures in [psnr, ssim, hvs].map(Result::unwrap) {
+        assert!(![figures.y, figures.u, figures.v, figures.avg].iter().any(|f| good(*f)));
+    }
+}
+
+#[test]
+fn past_the_weight() {
+    assert_eq!(ssim::decibels(1.0, 1.0), Some(100.0));
+    assert_eq!(ssim::decibels(1.000_000_000_000_000_2, 1.0), Some(100.0));
+    assert_eq!([1.1, f64::NAN, f64::INFINITY].map(|score| ssim::decibels(score, 1.0)), [None; 3]);
+    assert_eq!(psnr_hvs::decibels(0.0), Some(100.0));
+    assert_eq!(psnr_hvs::decibels(0.01), Some(20.0));
+    assert_eq!([-1.0, f64::NAN, f64::INFINITY].map(psnr_hvs::decibels), [None; 3]);
+    let bad = PsnrMetrics { sq_err: f64::NAN, n_pixels: 3, sample_max: 255 };
+    assert_eq!(psnr::decibels(bad), Err(Refusal::Record));
+    assert_eq!(psnr::decibels(PsnrMetrics { sq_err: 0.0, ..bad }), Ok(100.0));
+}
+
+#[test]
+fn without_chroma() {
+    let a = lively(0);
+    let b: Vec<u8> = a.iter().map(|s| s / 2 + 9).collect();
+    let empty = Plane { data: &[][..], cfg: PlaneConfig { width: 0, height: 0, stride: 0 } };
+    let other = Plane { data: &b[..3], cfg: PlaneConfig { width: 3, height: 1, stride: 3 } };
+    let (x, y) = (Frame { planes: [plane(&a), empty, empty] }, Frame { planes: [plane(&b), other, empty] });
+    let (gray, whole) =
+        (each(&x, &y, 8, ChromaSampling::Cs400), each(&frame(&a), &frame(&b), 8, ChromaSampling::Cs444));
+    for (gray, whole) in gray.iter().zip(whole) {
+        let (gray, whole) = (gray.unwrap(), whole.unwrap());
+        assert_eq!(gray.y.to_bits(), whole.y.to_bits());
+        assert_eq!([gray.u, gray.v, gray.avg].map(f64::to_bits), [gray.y.to_bits(); 3]);
+    }
+    assert_eq!(
+        calculate_frame_psnr(&x, &y, 8, ChromaSampling::Cs420),
+        Err(MetricsError::InputMismatch { field: Field::U })
+    );
+}
+
+#[test]
+fn errors_name_their_plane() {
+    let (a, words) = (lively(0), [4_096u16; SIDE * SIDE]);
+    let (good, wide) = (frame(&a), frame(&words));
+    let mut low = good;
+    low.planes[2].cfg.height = SIDE - 1;
+    for said in each(&good, &low, 8, ChromaSampling::Cs420) {
+        assert_eq!(said, Err(MetricsError::InputMismatch { field: Field::V }));
+    }
+    let mut short = good;
+    short.planes[1].data = &a[1..];
+    for said in each(&good, &short, 8, ChromaSampling::Cs420) {
+        assert_eq!(said, Err(MetricsError::Refused { field: Field::U, refusal: Refusal::Short }));
+    }
+    // 2^32 + 8 must not be taken for 8
+    for depth in [0, 9, 16, usize::MAX, (u32::MAX as usize).wrapping_add(9)] {
+        for said in each(&good, &good, depth, ChromaSampling::Cs420) {
+            assert_eq!(said, Err(MetricsError::Refused { field: Field::Y, refusal: Refusal::Depth }));
+        }
+    }
+    for said in each(&wide, &wide, 12, ChromaSampling::Cs420) {
+        assert_eq!(said, Err(MetricsError::Refused { field: Field::Y, refusal: Refusal::Sample }));
+    }
+    let text = MetricsError::Refused { field: Field::U, refusal: Refusal::Short }.to_string();
+    assert_eq!(text, "u: refusal 5: a plane has too few samples");
+}
+
+#[test]
+fn lent_room_changes_nothing() {
+    let mut scratch = Scratch::new();
+    let (a, b) = (lively(0), lively(3));
+    for sampling in EVERY {
+        let kept = calculate_frame_ssim_with(&frame(&a), &frame(&b), 8, sampling, &mut scratch);
+        assert_eq!(kept, calculate_frame_ssim(&frame(&a), &frame(&b), 8, sampling));
+        assert!(kept.is_ok());
+    }
+}
+
+#[test]
+fn each_plane_has_its_own_stride() {
+    let (a, b) = (lively(0), lively(2));
+    let mut padded = Vec::new();
+    b.chunks(SIDE).for_each(|row| padded.extend(row.iter().copied().chain([255; 5])));
+    let wide = Plane { data: &padded[..], cfg: PlaneConfig { width: SIDE, height: SIDE, stride: SIDE + 5 } };
+    let with = each(&frame(&a), &Frame { planes: [wide; 3] }, 8, ChromaSampling::Cs422);
+    assert_eq!(with, each(&frame(&a), &frame(&b), 8, ChromaSampling::Cs422));
+    assert!(with[0].is_ok() && with[1].is_ok() && with[3].is_ok());
+}

@@ -1,0 +1,92 @@
+//! What is asked of the heap: nothing for wild shapes, nothing for a second plane of the same size.
+
+use fuavelino::*;
+use std::alloc::{GlobalAlloc, Layout, System};
+use std::cell::Cell;
+
+/// Counts the bytes that the test's own thread asks for.
+struct Counting;
+
+thread_local! {
+    static ASKED: Cell<usize> = const { Cell::new(0) };
+}
+
+unsafe impl GlobalAlloc for Counting {
+    unsafe fn alloc(&self, layout: Layout) -> *mut u8 {
+        let _ = ASKED.try_with(|asked| asked.set(asked.get() + layout.size()));
+        System.alloc(layout)
+    }
+
+    unsafe fn dealloc(&self, place: *mut u8, layout: Layout) {
+        System.dealloc(place, layout)
+    }
+}
+
+#[global_allocator]
+static HEAP: Counting = Counting;
+
+/// The bytes that `work` asks for.
+fn asked(work: impl FnOnce()) -> usize {
+    let before = ASKED.with(Cell::get);
+    work();
+    ASKED.with(Cell::get) - before
+}
+
+const WILD: [usize; 9] = [0, 1, 8_192, 8_193, 16_385, 1 << 32, 1 << 62, usize::MAX - 1, usize::MAX];
+
+#[test]
+fn wild_shapes_ask_for_nothing() {
+    let samples = [7u8; 64];
+    let kernel = Kernel::from_taps(vec![64, 128, 64]);
+    let mut scratch = Scratch::new();
+    let mut refused = 0;
+    let bytes = asked(|| {
+        for (width, height, stride) in
+            WILD.iter().flat_map(|w| WILD.iter().flat_map(move |h| WILD.iter().map(move |s| (*w, *h, *s))))
+        {
+            for data in [&samples[..], &[]] {
+                let (plane, shape) = (Plane { data, stride }, Shape { width, height, bit_depth: 8 });
+                // one sample can be lawful: it is left to the other tests
+                if data.is_empty() || (width, height) != (1, 1) {
+                    refused += usize::from(ssim(plane, plane, shape, &kernel, &mut scratch).is_err());
+                    refused += usize::from(msssim(plane, plane, shape, &mut scratch).is_err());
+                    refused += usize::from(squared_error(plane, plane, shape).is_err());
+                    refused += usize::from(psnr_hvs(plane, plane, shape, PlaneKind::U).is_err());
+                }
+            }
+        }
+    });
+    assert_eq!(bytes, 0);
+    assert_eq!(refused, 4 * (2 * 9 * 9 * 9 - 9));
+}
+
+#[test]
+fn many_taps_ask_for_no_more_than_255() {
+    let samples = [7u8; 64];
+    let plane = Plane { data: &samples[..], stride: 8 };
+    let shape = Shape { width: 8, height: 8, bit_depth: 8 };
+    let kernel = Kernel::from_taps(vec![0; 1 << 20]);
+    let bytes = asked(|| {
+        let said = ssim(plane, plane, shape, &kernel, &mut Scratch::new());
+        assert_eq!(said, Err(Refusal::Kernel));
+    });
+    assert!(bytes <= 6 * 8 * 256 * 8, "{} bytes", bytes);
+}
+
+#[test]
+fn room_is_kept() {
+    let samples: Vec<u8> = (0..64 * 64).map(|i| (i * 7) as u8).collect();
+    let plane = Plane { data: &samples, stride: 64 };
+    let shapes = [(64, 64), (16, 64), (64, 16), (17, 33)];
+    let kernels: Vec<Kernel> = shapes.iter().map(|(w, h)| Kernel::for_plane(*w, *h)).collect();
+    let mut scratch = Scratch::new();
+    let mut round = || {
+        for ((width, height), kernel) in shapes.iter().zip(&kernels) {
+            let shape = Shape { width: *width, height: *height, bit_depth: 8 };
+            ssim(plane, plane, shape, kernel, &mut scratch).unwrap();
+            msssim(plane, plane, shape, &mut scratch).unwrap();
+        }
+    };
+    assert!(asked(&mut round) > 0);
+    assert_eq!(asked(&mut round), 0);
+}

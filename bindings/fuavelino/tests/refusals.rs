@@ -1,0 +1,200 @@
+//! Every refusal, reached through the safe functions, with what a refused call leaves; and the published numbers of the rules.
+
+use fuavelino::*;
+
+const SHAPE: Shape = Shape { width: 16, height: 16, bit_depth: 8 };
+const BEFORE: Pair = Pair { ssim: 0.125, cs: -7.5 };
+const RECORD: PsnrMetrics = PsnrMetrics { sq_err: 25.0, n_pixels: 3, sample_max: 255 };
+
+fn plane<T>(data: &[T], stride: usize) -> Plane<'_, T> {
+    Plane { data, stride }
+}
+
+/// What each score that takes two planes says: squared error, SSIM, MS-SSIM, PSNR-HVS of each kind, and the check itself.
+fn all<T: Sample>(a: Plane<'_, T>, b: Plane<'_, T>, shape: Shape) -> Vec<Result<(), Refusal>> {
+    let mut scratch = Scratch::new();
+    let kernel = Kernel::for_plane(shape.width, shape.height);
+    let hvs = |kind| psnr_hvs(a, b, shape, kind).map(|_| ());
+    vec![
+        squared_error(a, b, shape).map(|_| ()),
+        ssim(a, b, shape, &kernel, &mut scratch).map(|_| ()),
+        msssim(a, b, shape, &mut scratch).map(|_| ()),
+        hvs(PlaneKind::Y),
+        hvs(PlaneKind::U),
+        hvs(PlaneKind::V),
+        check(a, b, shape, 0),
+    ]
+}
+
+#[test]
+fn planes_are_taken() {
+    let (bytes, words) = ([200u8; 256], [4_095u16; 256]);
+    assert_eq!(all(plane(&bytes, 16), plane(&bytes, 16), SHAPE), [Ok(()); 7]);
+    assert_eq!(all(plane(&words, 16), plane(&words, 16), Shape { bit_depth: 12, ..SHAPE }), [Ok(()); 7]);
+}
+
+#[test]
+fn planes_are_refused_alike() {
+    let (bytes, words) = ([200u8; 256], [4_095u16; 256]);
+    let (a, w) = (plane(&bytes, 16), plane(&words, 16));
+    let each = |refusal| [Err(refusal); 7];
+    for bit_depth in [0, 9, 16, u32::MAX] {
+        assert_eq!(all(a, a, Shape { bit_depth, ..SHAPE }), each(Refusal::Depth));
+    }
+    for bit_depth in [0, 8, 13, u32::MAX] {
+        assert_eq!(all(w, w, Shape { bit_depth, ..SHAPE }), each(Refusal::Depth));
+    }
+    for side in [0, 8_193, usize::MAX] {
+        assert_eq!(all(a, a, Shape { width: side, ..SHAPE }), each(Refusal::Size));
+        assert_eq!(all(a, a, Shape { height: side, ..SHAPE }), each(Refusal::Size));
+    }
+    for stride in [0, 15, 16_385, usize::MAX] {
+        assert_eq!(all(a, plane(&bytes, stride), SHAPE), each(Refusal::Stride));
+        assert_eq!(all(plane(&bytes, stride), a, SHAPE), each(Refusal::Stride));
+    }
+    for count in [0, 1, 255] {
+        assert_eq!(all(plane(&bytes[..count], 16), a, SHAPE), each(Refusal::Short));
+        assert_eq!(all(a, plane(&bytes[..count], 16), SHAPE), each(Refusal::Short));
+    }
+    assert_eq!(all(a, a, Shape { bit_depth: 7, ..SHAPE }), each(Refusal::Sample));
+    assert_eq!(all(w, w, Shape { bit_depth: 11, ..SHAPE }), each(Refusal::Sample));
+}
+
+#[test]
+fn padding_is_not_read() {
+    // 17 by 16 with one place of padding, which holds what no sample of the depth may be
+    let mut padded = vec![99u16; 17 * 16 - 1];
+    let seen = vec![99u16; 256];
+    padded.iter_mut().skip(16).step_by(17).for_each(|s| *s = u16::MAX);
+    let shape = Shape { bit_depth: 10, ..SHAPE };
+    assert_eq!(all(plane(&padded, 17), plane(&seen, 16), shape), [Ok(()); 7]);
+    assert!(squared_error(plane(&padded, 17), plane(&seen, 16), shape).unwrap().is_identical());
+}
+
+#[test]
+fn least_sides() {
+    let bytes = [7u8; 256];
+    let a = plane(&bytes, 16);
+    for (width, height) in [(16, 15), (15, 16)] {
+        let shape = Shape { width, height, bit_depth: 8 };
+        assert_eq!(msssim(a, a, shape, &mut Scratch::new()), Err(Refusal::Side));
+    }
+    for (width, height) in [(7, 8), (8, 7)] {
+        let shape = Shape { width, height, bit_depth: 8 };
+        assert_eq!(psnr_hvs(a, a, shape, PlaneKind::V), Err(Refusal::Side));
+        assert_eq!(check(a, a, shape, 8), Err(Refusal::Side));
+        assert_eq!(check(a, a, shape, 7), Ok(()));
+    }
+}
+
+#[test]
+fn kernels() {
+    let bytes = [7u8; 256];
+    let a = plane(&bytes, 16);
+    let asked = |taps: &[u16]| ssim(a, a, SHAPE, &Kernel::from_taps(taps.to_vec()), &mut Scratch::new()).map(|_| ());
+    assert_eq!(asked(&[64, 128, 64]), Ok(()));
+    assert_eq!(asked(&[256]), Ok(()));
+    for taps in [&[][..], &[128, 0, 128], &[128, 128], &[257], &[63, 128, 65], &[0; 300], &[u16::MAX; 255]] {
+        assert_eq!(asked(taps), Err(Refusal::Kernel));
+    }
+}
+
+#[test]
+fn scratch_too_short_changes_nothing() {
+    let bytes = [7u8; 256];
+    let a = plane(&bytes, 16);
+    let taps = [64, 128, 64];
+    let (mut sums, mut out) = (vec![5i64; 6 * 16 * 4 - 1], BEFORE);
+    assert_eq!(lent::ssim(a, a, SHAPE, &taps, &mut sums, &mut out), Err(Refusal::Scratch));
+    assert_eq!((sums, out), (vec![5; 6 * 16 * 4 - 1], BEFORE));
+    let needed = [96 * 16, 256, 256];
+    for short in 0..3 {
+        let mut lens = needed;
+        lens[short] -= 1;
+        let (mut sums, mut x, mut y) = (vec![5i64; lens[0]], vec![6u32; lens[1]], vec![7u32; lens[2]]);
+        let mut out = [BEFORE; 5];
+        let said = lent::msssim(a, a, SHAPE, &mut sums, &mut x, &mut y, &mut out);
+        assert_eq!(said, Err(Refusal::Scratch));
+        assert_eq!((sums, x, y), (vec![5; lens[0]], vec![6; lens[1]], vec![7; lens[2]]));
+        assert_eq!(out, [BEFORE; 5]);
+    }
+}
+
+#[test]
+fn scratch_past_the_need_is_kept() {
+    let bytes = [7u8; 256];
+    let a = plane(&bytes, 16);
+    let (mut sums, mut out) = (vec![5i64; 6 * 16 * 4 + 9], BEFORE);
+    lent::ssim(a, a, SHAPE, &[64, 128, 64], &mut sums, &mut out).unwrap();
+    assert!(sums[..6 * 16 * 4].iter().all(|s| *s == 0) && sums[6 * 16 * 4..] == [5; 9]);
+    assert_ne!(out, BEFORE);
+}
+
+#[test]
+fn series_of_records() {
+    let most = 67_108_864 * 4_095 * 4_095;
+    let full = PsnrMetrics { sq_err: most as f64, n_pixels: 67_108_864, sample_max: 4_095 };
+    let rest = PsnrMetrics { sq_err: ((1u64 << 53) - 8 * most) as f64, ..full };
+    let mut run = vec![full; 8];
+    run.push(rest);
+    assert_eq!(series(&run).map(|total| total.sq_err), Ok(9_007_199_254_740_992.0));
+    run.push(PsnrMetrics { sq_err: 1.0, ..full });
+    assert_eq!(series(&run), Err(Refusal::Total));
+    assert_eq!(series(&vec![RECORD; 65_537]), Err(Refusal::Record));
+    let bad = [f64::NAN, -0.0, 0.5, -1.0, f64::INFINITY, 195_076.0].map(|sq_err| PsnrMetrics { sq_err, ..RECORD });
+    for record in bad.into_iter().chain([
+        PsnrMetrics { n_pixels: 0, ..RECORD },
+        PsnrMetrics { n_pixels: 67_108_865, ..RECORD },
+        PsnrMetrics { sample_max: 254, ..RECORD },
+        PsnrMetrics { sample_max: 1_023, ..RECORD },
+    ]) {
+        let mut total = RECORD;
+        assert_eq!(lent::series(&[RECORD, record], &mut total), Err(Refusal::Record));
+        assert_eq!(total, RECORD);
+    }
+}
+
+#[test]
+fn values() {
+    for x in [-0.0, -1.0, f64::NAN, f64::INFINITY] {
+        let mut out = 3.0;
+        assert_eq!(lent::root(x, &mut out), Err(Refusal::Value));
+        assert_eq!(out, 3.0);
+        assert_eq!(root(x), Err(Refusal::Value));
+    }
+    let (mut out, mut back) = ([0; 64], [0; 64]);
+    assert_eq!(forward(&[8; 64], &mut out), Ok(()));
+    assert_eq!((out[0], &out[1..]), (65, &[0; 63][..]));
+    assert_eq!(inverse(&out, &mut back), Ok(()));
+    assert_eq!(back, [8; 64]);
+    for call in [forward, inverse] {
+        assert_eq!(call(&[0; 63], &mut out), Err(Refusal::Value));
+        assert_eq!(call(&[0; 64], &mut [0; 65]), Err(Refusal::Value));
+        assert_eq!(call(&[i32::MIN; 64], &mut out), Err(Refusal::Value));
+        assert_eq!(call(&[], &mut []), Err(Refusal::Value));
+    }
+    assert_eq!(out[0], 65);
+}
+
+#[test]
+fn combining() {
+    for c in [-0.25, 1.000_000_1, f64::NAN, f64::INFINITY] {
+        assert_eq!(combine_ssim(c, 1.0, 1.0, 1.0), Err(Refusal::Weight));
+        assert_eq!(combine_hvs(c, 1.0, 1.0, 1.0), Err(Refusal::Weight));
+    }
+    let (mut sum, mut weight, mut score) = (3.0, 4.0, 5.0);
+    let high = f64::MAX;
+    assert_eq!(lent::combine_ssim(1.0, high, high, 0.0, &mut sum, &mut weight), Err(Refusal::NotFinite));
+    assert_eq!(lent::combine_hvs(1.0, high, 0.0, 0.0, &mut score), Err(Refusal::NotFinite));
+    assert_eq!((sum, weight, score), (3.0, 4.0, 5.0));
+    assert_eq!(combine_ssim(-0.0, 1.0, 9.0, 9.0), Ok((1.0, 1.0)));
+}
+
+#[test]
+fn numbers_and_rules() {
+    let every: Vec<Refusal> = (1..=13).filter_map(Refusal::from_number).collect();
+    assert_eq!(every.iter().map(|r| r.number()).collect::<Vec<u8>>(), (1..=13).collect::<Vec<u8>>());
+    assert_eq!([0, 14, 255].map(Refusal::from_number), [None; 3]);
+    let said = Refusal::Sample.to_string();
+    assert_eq!(said, "refusal 6: a visible sample is above the depth's largest");
+}

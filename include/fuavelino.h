@@ -1,0 +1,114 @@
+/* Plane-level video quality scores whose every promise is proved: the calls of libfuavelino.a.
+ *
+ * Each call answers 0 and writes its result, or answers the lowest refusal number that applies of its own and writes nothing at all. Any
+ * numbers may be passed; no caller checks first. What is asked of the caller:
+ *   - a pointer is not null and is aligned, also where its count is 0;
+ *   - the places that a count promises are there;
+ *   - what a call writes overlaps nothing else that it is lent. Planes may overlap each other.
+ *
+ * A plane is lent as a pointer, its count of samples, and a stride: sample (x, y) stands at y * stride + x. Bytes (8) carry depths
+ * 1 to 8, words (16) carry 9 to 12. Both planes of a call share width, height and depth; each has its own stride. Padding is never read.
+ * No call allocates, keeps anything between calls, or fails but by a refusal. Calls on different threads may run at once. */
+#ifndef FUAVELINO_H
+#define FUAVELINO_H
+
+#include <stddef.h>
+#include <stdint.h>
+
+#ifdef __cplusplus
+extern "C" {
+#endif
+
+/* What the calls answer. */
+enum fuavelino_refusal {
+    FUAVELINO_ACCEPTED = 0,
+    FUAVELINO_DEPTH = 1,       /* the depth does not suit the sample width */
+    FUAVELINO_SIZE = 2,        /* width or height is 0 or above 8192 */
+    FUAVELINO_SIDE = 3,        /* a side is below the call's least */
+    FUAVELINO_STRIDE = 4,      /* a stride is below the width or above 16384 */
+    FUAVELINO_SHORT = 5,       /* a plane has fewer than stride * (height - 1) + width samples */
+    FUAVELINO_SAMPLE = 6,      /* a visible sample is above 2^depth - 1 */
+    FUAVELINO_KERNEL = 7,      /* the kernel is unlawful */
+    FUAVELINO_SCRATCH = 8,     /* lent scratch is too short */
+    FUAVELINO_NOT_FINITE = 9,  /* nothing else applies, and the defined score is infinite or not a number */
+    FUAVELINO_RECORD = 10,     /* a series of none or over 65536 records, or with a bad one */
+    FUAVELINO_TOTAL = 11,      /* a series whose exact total is above 2^53 */
+    FUAVELINO_VALUE = 12,      /* a root or a transform of what it does not take */
+    FUAVELINO_WEIGHT = 13      /* a weight outside 0 to 1, or a number that is not finite */
+};
+
+/* The squared error of a plane, or the total of a series of planes. An error of 0 says that they are identical: PSNR is called 100. */
+typedef struct fuavelino_record {
+    double sq_err;       /* a whole number from 0 to n * sample_max^2 */
+    uint64_t n;          /* samples compared */
+    uint32_t sample_max; /* 2^depth - 1 */
+} fuavelino_record;
+
+/* The square root of x, the double nearest the exact one. 12: x is not +0 or positive and finite. */
+uint8_t fuavelino_root(double x, double *out);
+
+/* Judges two planes: 0, or the lowest of 1 2 3 4 5 6. `least` is the least side that is taken, 0 where any is. */
+uint8_t fuavelino_check8(const uint8_t *a, size_t a_len, const uint8_t *b, size_t b_len, size_t width, size_t height,
+                         size_t stride_a, size_t stride_b, uint32_t depth, size_t least);
+uint8_t fuavelino_check16(const uint16_t *a, size_t a_len, const uint16_t *b, size_t b_len, size_t width, size_t height,
+                          size_t stride_a, size_t stride_b, uint32_t depth, size_t least);
+
+/* The squared error of two planes, with the count of samples and sample_max. Refuses 1 2 4 5 6. */
+uint8_t fuavelino_squared_error8(const uint8_t *a, size_t a_len, const uint8_t *b, size_t b_len, size_t width, size_t height,
+                                 size_t stride_a, size_t stride_b, uint32_t depth, double *sq_err, uint64_t *n,
+                                 uint32_t *sample_max);
+uint8_t fuavelino_squared_error16(const uint16_t *a, size_t a_len, const uint16_t *b, size_t b_len, size_t width, size_t height,
+                                  size_t stride_a, size_t stride_b, uint32_t depth, double *sq_err, uint64_t *n,
+                                  uint32_t *sample_max);
+
+/* Adds up the errors and counts of a run of records, under their one sample_max. Refuses 10 11. */
+uint8_t fuavelino_series(const fuavelino_record *records, size_t count, double *sq_err, uint64_t *n, uint32_t *sample_max);
+
+/* SSIM under a kernel: an odd count of taps from 1 to 255, each from 0 to 256, summing to 256, the same from both ends, the middle at least 1.
+ * `scratch` has at least 6 * width * L places, L the least power of two not below the count of taps; accepted, and at 9, those are 0 after
+ * the call. Refuses 1 2 4 5 6 7 8 9. */
+uint8_t fuavelino_ssim8(const uint8_t *a, size_t a_len, const uint8_t *b, size_t b_len, size_t width, size_t height,
+                        size_t stride_a, size_t stride_b, uint32_t depth, const uint16_t *kernel, size_t taps, int64_t *scratch,
+                        size_t places, double *ssim, double *cs);
+uint8_t fuavelino_ssim16(const uint16_t *a, size_t a_len, const uint16_t *b, size_t b_len, size_t width, size_t height,
+                         size_t stride_a, size_t stride_b, uint32_t depth, const uint16_t *kernel, size_t taps, int64_t *scratch,
+                         size_t places, double *ssim, double *cs);
+
+/* MS-SSIM's five scales, the planes themselves first: `pairs` gets ssim and cs of each in turn. Sides are at least 16. `scratch` has at
+ * least 96 * width places, each room width * height; accepted, and at 9, those are 0 after the call. Refuses 1 2 3 4 5 6 8 9. */
+uint8_t fuavelino_msssim8(const uint8_t *a, size_t a_len, const uint8_t *b, size_t b_len, size_t width, size_t height,
+                          size_t stride_a, size_t stride_b, uint32_t depth, int64_t *scratch, size_t places, uint32_t *room_a,
+                          size_t places_a, uint32_t *room_b, size_t places_b, double pairs[10]);
+uint8_t fuavelino_msssim16(const uint16_t *a, size_t a_len, const uint16_t *b, size_t b_len, size_t width, size_t height,
+                           size_t stride_a, size_t stride_b, uint32_t depth, int64_t *scratch, size_t places, uint32_t *room_a,
+                           size_t places_a, uint32_t *room_b, size_t places_b, double pairs[10]);
+
+/* PSNR-HVS of two y, u or v planes: 0 where no error is seen. Sides are at least 8. Refuses 1 2 3 4 5 6 9. */
+uint8_t fuavelino_psnr_hvs_y_8(const uint8_t *a, size_t a_len, const uint8_t *b, size_t b_len, size_t width, size_t height,
+                               size_t stride_a, size_t stride_b, uint32_t depth, double *score);
+uint8_t fuavelino_psnr_hvs_u_8(const uint8_t *a, size_t a_len, const uint8_t *b, size_t b_len, size_t width, size_t height,
+                               size_t stride_a, size_t stride_b, uint32_t depth, double *score);
+uint8_t fuavelino_psnr_hvs_v_8(const uint8_t *a, size_t a_len, const uint8_t *b, size_t b_len, size_t width, size_t height,
+                               size_t stride_a, size_t stride_b, uint32_t depth, double *score);
+uint8_t fuavelino_psnr_hvs_y_16(const uint16_t *a, size_t a_len, const uint16_t *b, size_t b_len, size_t width, size_t height,
+                                size_t stride_a, size_t stride_b, uint32_t depth, double *score);
+uint8_t fuavelino_psnr_hvs_u_16(const uint16_t *a, size_t a_len, const uint16_t *b, size_t b_len, size_t width, size_t height,
+                                size_t stride_a, size_t stride_b, uint32_t depth, double *score);
+uint8_t fuavelino_psnr_hvs_v_16(const uint16_t *a, size_t a_len, const uint16_t *b, size_t b_len, size_t width, size_t height,
+                                size_t stride_a, size_t stride_b, uint32_t depth, double *score);
+
+/* Scores of three planes with chroma weight c, 0 to 1. SSIM: y + c * (u + v), and 1 + 2c. HVS: (1 + 2c) * (y + c * (u + v)).
+ * Refuse 13, then 9. */
+uint8_t fuavelino_combine_ssim(double c, double y, double u, double v, double *sum, double *weight);
+uint8_t fuavelino_combine_hvs(double c, double y, double u, double v, double *score);
+
+/* The transform of a block of 8 by 8 numbers from -4095 to 4095; and the one block whose transform is these coefficients, each from
+ * -1048575 to 1048575. 12: not 64 places in and out, or a value out of range. */
+uint8_t fuavelino_forward(const int32_t *block, size_t block_len, int32_t *out, size_t out_len);
+uint8_t fuavelino_inverse(const int32_t *coefs, size_t coefs_len, int32_t *out, size_t out_len);
+
+#ifdef __cplusplus
+}
+#endif
+
+#endif

@@ -1,0 +1,294 @@
+/* Calls every export of libfuavelino.a through its header: accepted, with answers known from the rules or from av-metrics 0.9.1 (the bits
+ * below), and refused, after which every lent place is as it was. It prints each export's name with how often it accepted and refused. */
+#include "fuavelino.h"
+
+#include <math.h>
+#include <stdio.h>
+#include <string.h>
+
+#define COUNT(list) (sizeof(list) / sizeof((list)[0]))
+#define EXPECT(truth) expect((truth), #truth, __LINE__)
+#define CALL(name, args) told(#name, name args)
+
+static int failures;
+
+static void expect(int truth, const char *text, int line) {
+    if (!truth) {
+        printf("calls.c:%d: does not hold: %s\n", line, text);
+        failures++;
+    }
+}
+
+struct tally {
+    const char *name;
+    unsigned accepted, refused;
+};
+
+static struct tally tallies[64];
+static size_t tallied;
+
+/* Counts an answer under its call's name, and hands it on. */
+static uint8_t told(const char *name, uint8_t answer) {
+    size_t i = 0;
+    while (i < tallied && strcmp(tallies[i].name, name) != 0) i++;
+    if (i == tallied) {
+        if (tallied == COUNT(tallies)) {
+            expect(0, "there is room for every name", __LINE__);
+            return answer;
+        }
+        tallies[tallied++].name = name;
+    }
+    if (answer == FUAVELINO_ACCEPTED) tallies[i].accepted++;
+    else tallies[i].refused++;
+    return answer;
+}
+
+static int has_bits(double x, uint64_t bits) {
+    uint64_t own;
+    memcpy(&own, &x, sizeof own);
+    return own == bits;
+}
+
+/* Two pictures of 24 by 20, padded to a stride of 27 with what no picture may hold. */
+enum { WIDTH = 24, HEIGHT = 20, STRIDE = 27, LEN = STRIDE * (HEIGHT - 1) + WIDTH };
+
+static uint8_t a8[LEN], b8[LEN];
+static uint16_t a16[LEN], b16[LEN];
+
+static void draw(void) {
+    size_t x, y;
+    memset(a8, 0xFF, sizeof a8), memset(b8, 0xFF, sizeof b8);
+    memset(a16, 0xFF, sizeof a16), memset(b16, 0xFF, sizeof b16);
+    for (y = 0; y < HEIGHT; y++) {
+        for (x = 0; x < WIDTH; x++) {
+            size_t i = y * WIDTH + x, at = y * STRIDE + x, value = i * i + 3 * i;
+            a8[at] = (uint8_t)(value % 256), b8[at] = (uint8_t)(a8[at] ^ i % 7);
+            a16[at] = (uint16_t)(value % 1024), b16[at] = (uint16_t)(a16[at] ^ i % 7);
+        }
+    }
+}
+
+/* The planes with these numbers beside them, as a call takes them. */
+#define BYTES(width, height, depth) a8, LEN, b8, LEN, width, height, STRIDE, STRIDE, depth
+#define WORDS(width, height, depth) a16, LEN, b16, LEN, width, height, STRIDE, STRIDE, depth
+
+static void root(void) {
+    const double before = -7.25;
+    double out = before;
+    EXPECT(CALL(fuavelino_root, (-0.0, &out)) == FUAVELINO_VALUE && out == before);
+    EXPECT(CALL(fuavelino_root, (HUGE_VAL, &out)) == FUAVELINO_VALUE && out == before);
+    EXPECT(CALL(fuavelino_root, (2.0, &out)) == 0 && has_bits(out, UINT64_C(0x3FF6A09E667F3BCD)));
+    EXPECT(CALL(fuavelino_root, (0.0, &out)) == 0 && has_bits(out, 0));
+}
+
+static void check(void) {
+    EXPECT(CALL(fuavelino_check8, (BYTES(WIDTH, HEIGHT, 8), 0)) == 0);
+    EXPECT(CALL(fuavelino_check16, (WORDS(WIDTH, HEIGHT, 10), 0)) == 0);
+    EXPECT(CALL(fuavelino_check8, (BYTES(WIDTH, HEIGHT, 9), 0)) == FUAVELINO_DEPTH);
+    EXPECT(CALL(fuavelino_check16, (WORDS(WIDTH, HEIGHT, 13), 0)) == FUAVELINO_DEPTH);
+    EXPECT(CALL(fuavelino_check8, (BYTES(8193, HEIGHT, 8), 0)) == FUAVELINO_SIZE);
+    EXPECT(CALL(fuavelino_check8, (BYTES(SIZE_MAX, SIZE_MAX, 8), 0)) == FUAVELINO_SIZE);
+    EXPECT(CALL(fuavelino_check8, (BYTES(WIDTH, HEIGHT, 8), HEIGHT + 1)) == FUAVELINO_SIDE);
+    EXPECT(CALL(fuavelino_check16, (WORDS(STRIDE + 1, HEIGHT, 10), 0)) == FUAVELINO_STRIDE);
+    EXPECT(CALL(fuavelino_check16, (WORDS(WIDTH, HEIGHT + 1, 10), 0)) == FUAVELINO_SHORT);
+    EXPECT(CALL(fuavelino_check8, (a8, 0, b8, 0, 1, 1, 1, 1, 8, 0)) == FUAVELINO_SHORT);
+    EXPECT(CALL(fuavelino_check16, (WORDS(WIDTH, HEIGHT, 9), 0)) == FUAVELINO_SAMPLE);
+    /* one column of padding, seen */
+    EXPECT(CALL(fuavelino_check16, (WORDS(WIDTH + 1, HEIGHT - 1, 10), 0)) == FUAVELINO_SAMPLE);
+}
+
+static void squared_error(void) {
+    static const uint8_t x[] = {10, 20, 30}, y[] = {13, 20, 26};
+    double error = -7.25;
+    uint64_t n = 77;
+    uint32_t max = 88;
+    EXPECT(CALL(fuavelino_squared_error8, (BYTES(WIDTH, 0, 8), &error, &n, &max)) == FUAVELINO_SIZE);
+    EXPECT(CALL(fuavelino_squared_error16, (WORDS(WIDTH, HEIGHT, 8), &error, &n, &max)) == FUAVELINO_DEPTH);
+    EXPECT(error == -7.25 && n == 77 && max == 88);
+    EXPECT(CALL(fuavelino_squared_error8, (x, 3, y, 3, 3, 1, 3, 3, 8, &error, &n, &max)) == 0);
+    EXPECT(error == 25 && n == 3 && max == 255);
+    EXPECT(CALL(fuavelino_squared_error8, (BYTES(WIDTH, HEIGHT, 8), &error, &n, &max)) == 0);
+    EXPECT(error == 4306 && n == WIDTH * HEIGHT && max == 255);
+    EXPECT(CALL(fuavelino_squared_error16, (WORDS(WIDTH, HEIGHT, 10), &error, &n, &max)) == 0);
+    EXPECT(error == 4306 && n == WIDTH * HEIGHT && max == 1023);
+    EXPECT(CALL(fuavelino_squared_error16, (a16, LEN, a16, LEN, WIDTH, 1, STRIDE, STRIDE, 12, &error, &n, &max)) == 0);
+    EXPECT(error == 0 && n == WIDTH && max == 4095);
+}
+
+static void series(void) {
+    const double most = 67108864.0 * 4095 * 4095, two_to_53 = 9007199254740992.0;
+    fuavelino_record run[10];
+    double error = -7.25;
+    uint64_t n = 77;
+    uint32_t max = 88;
+    size_t i;
+    for (i = 0; i < COUNT(run); i++) {
+        run[i].sq_err = i < 8 ? most : i == 8 ? two_to_53 - 8 * most : 1;
+        run[i].n = 67108864;
+        run[i].sample_max = 4095;
+    }
+    EXPECT(CALL(fuavelino_series, (run, 0, &error, &n, &max)) == FUAVELINO_RECORD);
+    EXPECT(CALL(fuavelino_series, (run, 10, &error, &n, &max)) == FUAVELINO_TOTAL);
+    EXPECT(error == -7.25 && n == 77 && max == 88);
+    EXPECT(CALL(fuavelino_series, (run, 9, &error, &n, &max)) == 0);
+    EXPECT(error == two_to_53 && n == 9 * UINT64_C(67108864) && max == 4095);
+    run[9].sq_err = -0.0;
+    EXPECT(CALL(fuavelino_series, (run, 10, &error, &n, &max)) == FUAVELINO_RECORD);
+    EXPECT(error == two_to_53);
+}
+
+/* Whether the first `clear` of the places are 0 and the others still 5. */
+static int cleared(const int64_t *places, size_t count, size_t clear) {
+    size_t i;
+    for (i = 0; i < count; i++) {
+        if (places[i] != (i < clear ? 0 : 5)) return 0;
+    }
+    return 1;
+}
+
+static int roomed(const uint32_t *places, size_t count, size_t clear) {
+    size_t i;
+    for (i = 0; i < count; i++) {
+        if (places[i] != (i < clear ? 0 : 5)) return 0;
+    }
+    return 1;
+}
+
+/* What SSIM with three taps and MS-SSIM need, and some more. */
+enum { SSIM_NEED = 6 * WIDTH * 4, SCALES_NEED = 96 * WIDTH, ROOM_NEED = WIDTH * HEIGHT, MORE = 11 };
+
+static int64_t scratch[SCALES_NEED + MORE];
+static uint32_t room_a[ROOM_NEED + MORE], room_b[ROOM_NEED + MORE];
+
+static void soil(void) {
+    size_t i;
+    for (i = 0; i < COUNT(scratch); i++) scratch[i] = 5;
+    for (i = 0; i < COUNT(room_a); i++) room_a[i] = room_b[i] = 5;
+}
+
+static void ssim(void) {
+    static const uint16_t kernel[] = {64, 128, 64}, unlawful[] = {128, 0, 128};
+    double s = -7.25, c = -8.5;
+    soil();
+    EXPECT(CALL(fuavelino_ssim8, (BYTES(WIDTH, HEIGHT, 8), unlawful, 3, scratch, SSIM_NEED, &s, &c)) == FUAVELINO_KERNEL);
+    EXPECT(CALL(fuavelino_ssim8, (BYTES(WIDTH, HEIGHT, 8), kernel, 3, scratch, SSIM_NEED - 1, &s, &c)) == FUAVELINO_SCRATCH);
+    EXPECT(CALL(fuavelino_ssim16, (WORDS(WIDTH, HEIGHT, 10), kernel, 2, scratch, SSIM_NEED, &s, &c)) == FUAVELINO_KERNEL);
+    EXPECT(CALL(fuavelino_ssim16, (WORDS(WIDTH, HEIGHT, 9), kernel, 3, scratch, SSIM_NEED, &s, &c)) == FUAVELINO_SAMPLE);
+    EXPECT(s == -7.25 && c == -8.5 && cleared(scratch, COUNT(scratch), 0));
+    EXPECT(CALL(fuavelino_ssim8, (BYTES(WIDTH, HEIGHT, 8), kernel, 3, scratch, SSIM_NEED, &s, &c)) == 0);
+    EXPECT(has_bits(s, UINT64_C(0x3FEFF78A02083DE3)) && has_bits(c, UINT64_C(0x3FEFF7ED88E78F48)));
+    EXPECT(cleared(scratch, COUNT(scratch), SSIM_NEED));
+    soil();
+    EXPECT(CALL(fuavelino_ssim16, (WORDS(WIDTH, HEIGHT, 10), kernel, 3, scratch, COUNT(scratch), &s, &c)) == 0);
+    EXPECT(has_bits(s, UINT64_C(0x3FEFFF6129B42DC1)) && has_bits(c, UINT64_C(0x3FEFFF67A51F64F9)));
+    EXPECT(cleared(scratch, COUNT(scratch), SSIM_NEED));
+}
+
+#define LENT(places, places_a, places_b) scratch, places, room_a, places_a, room_b, places_b
+
+static int all_soiled(void) {
+    return cleared(scratch, COUNT(scratch), 0) && roomed(room_a, COUNT(room_a), 0) && roomed(room_b, COUNT(room_b), 0);
+}
+
+static int all_cleared(void) {
+    int rooms = roomed(room_a, COUNT(room_a), ROOM_NEED) && roomed(room_b, COUNT(room_b), ROOM_NEED);
+    return rooms && cleared(scratch, COUNT(scratch), SCALES_NEED);
+}
+
+static int all_bits(const double *list, const uint64_t *bits) {
+    size_t i;
+    for (i = 0; i < 10; i++) {
+        if (!has_bits(list[i], bits[i])) return 0;
+    }
+    return 1;
+}
+
+static void msssim(void) {
+    static const uint64_t bytes[] = {
+        UINT64_C(0x3FEFF8E9A9C513D0), UINT64_C(0x3FEFF90BC11092C9), UINT64_C(0x3FEFF57A14CB38E0), UINT64_C(0x3FEFF58BC5363D2A),
+        UINT64_C(0x3FEFF6961D5FD685), UINT64_C(0x3FEFF6A2EE87CA21), UINT64_C(0x3FEFFF9EB6A657AF), UINT64_C(0x3FEFFFAAD143E516),
+        UINT64_C(0x3FEFFFF5A2A5C5FE), UINT64_C(0x3FF0000000000000)};
+    static const uint64_t words[] = {
+        UINT64_C(0x3FEFFF938B499AC4), UINT64_C(0x3FEFFF95AC176EC4), UINT64_C(0x3FEFFF67E603CC5E), UINT64_C(0x3FEFFF690973FEA7),
+        UINT64_C(0x3FEFFF1D4CAFCA3E), UINT64_C(0x3FEFFF1E1EB78AE9), UINT64_C(0x3FEFFFFA81DC7477), UINT64_C(0x3FEFFFFB4C8928AF),
+        UINT64_C(0x3FEFFFFF4C1B48E0), UINT64_C(0x3FF0000000000000)};
+    double pairs[10], before[10];
+    size_t i;
+    for (i = 0; i < 10; i++) pairs[i] = before[i] = -7.25;
+    soil();
+    EXPECT(CALL(fuavelino_msssim8, (BYTES(WIDTH, 15, 8), LENT(SCALES_NEED, ROOM_NEED, ROOM_NEED), pairs)) == FUAVELINO_SIDE);
+    EXPECT(CALL(fuavelino_msssim8, (BYTES(WIDTH, HEIGHT, 8), LENT(SCALES_NEED, ROOM_NEED - 1, ROOM_NEED), pairs)) == FUAVELINO_SCRATCH);
+    EXPECT(CALL(fuavelino_msssim16, (WORDS(15, HEIGHT, 10), LENT(SCALES_NEED, ROOM_NEED, ROOM_NEED), pairs)) == FUAVELINO_SIDE);
+    EXPECT(CALL(fuavelino_msssim16, (WORDS(WIDTH, HEIGHT, 10), LENT(SCALES_NEED - 1, ROOM_NEED, ROOM_NEED), pairs)) == FUAVELINO_SCRATCH);
+    EXPECT(memcmp(pairs, before, sizeof pairs) == 0 && all_soiled());
+    EXPECT(CALL(fuavelino_msssim8, (BYTES(WIDTH, HEIGHT, 8), LENT(SCALES_NEED, ROOM_NEED, ROOM_NEED), pairs)) == 0);
+    EXPECT(all_bits(pairs, bytes) && all_cleared());
+    soil();
+    EXPECT(CALL(fuavelino_msssim16, (WORDS(WIDTH, HEIGHT, 10), LENT(SCALES_NEED, ROOM_NEED, ROOM_NEED + 1), pairs)) == 0);
+    EXPECT(all_bits(pairs, words) && all_cleared());
+}
+
+static void psnr_hvs(void) {
+    double score = -7.25;
+    EXPECT(CALL(fuavelino_psnr_hvs_y_8, (BYTES(7, HEIGHT, 8), &score)) == FUAVELINO_SIDE);
+    EXPECT(CALL(fuavelino_psnr_hvs_u_8, (BYTES(WIDTH, 7, 8), &score)) == FUAVELINO_SIDE);
+    EXPECT(CALL(fuavelino_psnr_hvs_v_8, (BYTES(WIDTH, HEIGHT, 0), &score)) == FUAVELINO_DEPTH);
+    EXPECT(CALL(fuavelino_psnr_hvs_y_16, (WORDS(7, HEIGHT, 10), &score)) == FUAVELINO_SIDE);
+    EXPECT(CALL(fuavelino_psnr_hvs_u_16, (WORDS(WIDTH, HEIGHT + 1, 10), &score)) == FUAVELINO_SHORT);
+    EXPECT(CALL(fuavelino_psnr_hvs_v_16, (WORDS(WIDTH, HEIGHT, 9), &score)) == FUAVELINO_SAMPLE);
+    EXPECT(score == -7.25);
+    EXPECT(CALL(fuavelino_psnr_hvs_y_8, (BYTES(WIDTH, HEIGHT, 8), &score)) == 0 && has_bits(score, UINT64_C(0x3EE5CE10D028344C)));
+    EXPECT(CALL(fuavelino_psnr_hvs_u_8, (BYTES(WIDTH, HEIGHT, 8), &score)) == 0 && has_bits(score, UINT64_C(0x3EEEA1644FA79C45)));
+    EXPECT(CALL(fuavelino_psnr_hvs_v_8, (BYTES(WIDTH, HEIGHT, 8), &score)) == 0 && has_bits(score, UINT64_C(0x3EF2218DF34729B5)));
+    EXPECT(CALL(fuavelino_psnr_hvs_y_16, (WORDS(WIDTH, HEIGHT, 10), &score)) == 0 && has_bits(score, UINT64_C(0x3EB1BC65AB8C5BDC)));
+    EXPECT(CALL(fuavelino_psnr_hvs_u_16, (WORDS(WIDTH, HEIGHT, 10), &score)) == 0 && has_bits(score, UINT64_C(0x3EB8B3BAC049A595)));
+    EXPECT(CALL(fuavelino_psnr_hvs_v_16, (WORDS(WIDTH, HEIGHT, 10), &score)) == 0 && has_bits(score, UINT64_C(0x3EBC1C45294DF492)));
+}
+
+static void combining(void) {
+    const double high = 1.7e308;
+    double sum = -7.25, weight = -8.5, score = -9.75;
+    EXPECT(CALL(fuavelino_combine_ssim, (1.5, 1, 1, 1, &sum, &weight)) == FUAVELINO_WEIGHT);
+    EXPECT(CALL(fuavelino_combine_ssim, (1, high, high, 0, &sum, &weight)) == FUAVELINO_NOT_FINITE);
+    EXPECT(CALL(fuavelino_combine_hvs, (0.5, HUGE_VAL, 1, 1, &score)) == FUAVELINO_WEIGHT);
+    EXPECT(CALL(fuavelino_combine_hvs, (1, high, 0, 0, &score)) == FUAVELINO_NOT_FINITE);
+    EXPECT(sum == -7.25 && weight == -8.5 && score == -9.75);
+    EXPECT(CALL(fuavelino_combine_ssim, (0.25, 1, 0.5, 0.5, &sum, &weight)) == 0 && sum == 1.25 && weight == 1.5);
+    EXPECT(CALL(fuavelino_combine_hvs, (0.5, 1, 2, 2, &score)) == 0 && score == 6);
+}
+
+static void transform(void) {
+    int32_t block[64], coefs[64], back[65];
+    size_t i;
+    int zeros = 1;
+    for (i = 0; i < 64; i++) block[i] = 8, coefs[i] = back[i] = 5;
+    EXPECT(CALL(fuavelino_forward, (block, 63, coefs, 64)) == FUAVELINO_VALUE && coefs[0] == 5);
+    EXPECT(CALL(fuavelino_inverse, (block, 64, back, 65)) == FUAVELINO_VALUE && back[0] == 5);
+    EXPECT(CALL(fuavelino_forward, (block, 64, coefs, 64)) == 0);
+    for (i = 1; i < 64; i++) zeros = zeros && coefs[i] == 0;
+    EXPECT(coefs[0] == 65 && zeros);
+    EXPECT(CALL(fuavelino_inverse, (coefs, 64, back, 64)) == 0 && memcmp(block, back, sizeof block) == 0);
+    block[63] = 4096;
+    EXPECT(CALL(fuavelino_forward, (block, 64, coefs, 64)) == FUAVELINO_VALUE && coefs[0] == 65);
+    coefs[63] = -1048576;
+    EXPECT(CALL(fuavelino_inverse, (coefs, 64, back, 64)) == FUAVELINO_VALUE && back[63] == 8);
+}
+
+int main(void) {
+    size_t i;
+    draw();
+    root();
+    check();
+    squared_error();
+    series();
+    ssim();
+    msssim();
+    psnr_hvs();
+    combining();
+    transform();
+    for (i = 0; i < tallied; i++) {
+        printf("%s accepted %u refused %u\n", tallies[i].name, tallies[i].accepted, tallies[i].refused);
+        EXPECT(tallies[i].accepted > 0 && tallies[i].refused > 0);
+    }
+    return failures != 0;
+}
