@@ -1,7 +1,7 @@
 //! The command's words, and what they ask.
 
 use crate::clip::{Clip, Picture};
-use crate::format::{decimal, Chroma, Format};
+use crate::format::{decimal, Chroma, Format, CHROMAS};
 use crate::score::Metrics;
 use crate::stop::Stop;
 use crate::thresholds::{Threshold, KINDS};
@@ -181,7 +181,7 @@ impl Words {
 
     fn chroma(&self) -> Result<Option<Chroma>, Stop> {
         self.value("--chroma", "420, 422, 444 or 400", |text| {
-            Chroma::ALL.iter().copied().find(|chroma| chroma.name() == text)
+            CHROMAS.iter().find(|known| known.1 == text).map(|known| known.0)
         })
     }
 }

@@ -130,7 +130,7 @@ impl Walk<'_> {
         let format = sources[0].format;
         let [a, b] = sources;
         let mut scorer = Scorer::new(&format, self.asked.metrics);
-        let mut run = Run::new(format.shapes().len(), format.chroma.weight());
+        let mut run = Run::new(format.shapes().len(), format.chroma.get_chroma_weight());
         let mut frames = [Frame::<T>::new(&format), Frame::<T>::new(&format)];
         while another(a, b, &mut frames)? {
             let place = format!("frame {}", self.frames);

@@ -1,5 +1,6 @@
 //! What the frames of a video are: sides, depth and chroma, and the planes that follow from them.
 
+pub use fuavelino::video::ChromaSampling as Chroma;
 use fuavelino::{Plane, Refusal, Sample, Shape};
 
 /// The planes' names, in the order in which a file holds them.
@@ -7,36 +8,9 @@ pub const PLANES: [&str; 3] = ["y", "u", "v"];
 /// The name under which the planes' joint figures stand.
 pub const COMBINED: &str = "combined";
 
-#[derive(Clone, Copy, Debug, PartialEq, Eq)]
-pub enum Chroma {
-    Cs420,
-    Cs422,
-    Cs444,
-    Cs400,
-}
-
-impl Chroma {
-    pub const ALL: [Chroma; 4] = [Chroma::Cs420, Chroma::Cs422, Chroma::Cs444, Chroma::Cs400];
-
-    pub fn name(self) -> &'static str {
-        match self {
-            Chroma::Cs420 => "420",
-            Chroma::Cs422 => "422",
-            Chroma::Cs444 => "444",
-            Chroma::Cs400 => "400",
-        }
-    }
-
-    /// What a chroma plane counts for beside luma, as in av-metrics.
-    pub fn weight(self) -> f64 {
-        match self {
-            Chroma::Cs420 => 0.25,
-            Chroma::Cs422 => 0.5,
-            Chroma::Cs444 => 1.0,
-            Chroma::Cs400 => 0.0,
-        }
-    }
-}
+/// How chroma is sampled, and the name that options and reports give it.
+pub const CHROMAS: [(Chroma, &str); 4] =
+    [(Chroma::Cs420, "420"), (Chroma::Cs422, "422"), (Chroma::Cs444, "444"), (Chroma::Cs400, "400")];
 
 #[derive(Clone, Copy, Debug, PartialEq, Eq)]
 pub struct Format {
@@ -61,6 +35,10 @@ impl Format {
         }
     }
 
+    pub fn chroma_name(&self) -> &'static str {
+        CHROMAS.iter().find(|known| known.0 == self.chroma).map_or("", |known| known.1)
+    }
+
     /// Whether samples take two bytes.
     pub fn wide(&self) -> bool {
         self.depth > 8
@@ -80,7 +58,7 @@ impl Format {
     }
 
     pub fn show(&self) -> String {
-        format!("{}x{}, depth {}, chroma {}", self.width, self.height, self.depth, self.chroma.name())
+        format!("{}x{}, depth {}, chroma {}", self.width, self.height, self.depth, self.chroma_name())
     }
 }
 

@@ -31,6 +31,9 @@ impl Source {
     pub fn open(path: &Path, told: Option<Format>) -> Result<Source, Fault> {
         let mut input = Input::open(path)?;
         let format = match told {
+            Some(_) if input.ahead()?.starts_with(y4m::MAGIC) => {
+                return Err(input.fault("this is a Y4M file: it takes no --size, --depth and --chroma"));
+            }
             Some(format) => format,
             None => y4m::header(&mut input)?,
         };
@@ -62,7 +65,7 @@ impl Source {
 
     fn another(&mut self) -> Result<bool, Fault> {
         if self.raw {
-            Ok(!self.input.ended()?)
+            Ok(!self.input.ahead()?.is_empty())
         } else {
             y4m::frame(&mut self.input, self.read)
         }

@@ -99,15 +99,14 @@ impl Input {
         }
     }
 
-    /// Whether nothing is left to read.
-    pub fn ended(&mut self) -> Result<bool, Fault> {
-        loop {
-            match self.from.fill_buf() {
-                Ok(ahead) => return Ok(ahead.is_empty()),
-                Err(error) if error.kind() == ErrorKind::Interrupted => {}
-                Err(error) => return Err(self.unread(&error)),
+    /// What comes next, without taking it: at least a byte, unless nothing is left to read.
+    pub fn ahead(&mut self) -> Result<&[u8], Fault> {
+        while let Err(error) = self.from.fill_buf() {
+            if error.kind() != ErrorKind::Interrupted {
+                return Err(self.unread(&error));
             }
         }
+        Ok(self.from.buffer())
     }
 
     /// Fills `out` with so many samples, or with as many as there are.

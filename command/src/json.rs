@@ -22,7 +22,7 @@ impl Report for Json {
         writeln!(out, "{{\"fuavelino\":{},", text(env!("CARGO_PKG_VERSION")))?;
         writeln!(out, "\"original\":{},\n\"decoded\":{},", text(job.original), text(job.decoded))?;
         write!(out, "\"format\":{{\"width\":{},\"height\":{},", f.width, f.height)?;
-        writeln!(out, "\"bit_depth\":{},\"chroma\":{}}},", f.depth, text(f.chroma.name()))?;
+        writeln!(out, "\"bit_depth\":{},\"chroma\":{}}},", f.depth, text(f.chroma_name()))?;
         writeln!(out, "\"metrics\":{},\n\"thresholds\":{},", list(names), list(limits))?;
         write!(out, "\"frames\":[")
     }

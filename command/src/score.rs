@@ -79,7 +79,7 @@ impl Scorer {
     pub fn new(format: &Format, metrics: Metrics) -> Scorer {
         let shapes = format.shapes();
         let kernels = shapes.iter().map(|shape| Kernel::for_plane(shape.width, shape.height)).collect();
-        Scorer { metrics, weight: format.chroma.weight(), shapes, kernels, scratch: Scratch::new() }
+        Scorer { metrics, weight: format.chroma.get_chroma_weight(), shapes, kernels, scratch: Scratch::new() }
     }
 
     pub fn frame<T: Sample>(&mut self, original: &Frame<T>, decoded: &Frame<T>) -> Result<FrameScores, Refused> {

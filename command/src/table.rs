@@ -86,7 +86,10 @@ impl Table {
             line += &format!(" {:>9.6}", pair.ssim);
         }
         if let Some(score) = scores.hvs {
-            let told = decibels::hvs(score).map_or("no error".to_string(), |told| format!("{:.3}", told));
+            let told = match decibels::hvs(score) {
+                Some(told) if score > 0.0 => format!("{:.3}", told),
+                _ => "no error".to_string(),
+            };
             line += &format!(" {:>10.3e} {:>8}", score, told);
         }
         line

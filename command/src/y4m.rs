@@ -4,7 +4,8 @@ use crate::format::{decimal, Chroma, Format};
 use crate::input::{Input, Line, LINE};
 use crate::stop::Fault;
 
-const MAGIC: &[u8] = b"YUV4MPEG2";
+/// What every file begins with.
+pub const MAGIC: &[u8] = b"YUV4MPEG2";
 const FRAME: &[u8] = b"FRAME";
 
 /// The colour spaces that are read; without a C it is the first.

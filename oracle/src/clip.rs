@@ -159,6 +159,14 @@ fn told(scope: &str, plane: usize, figures: &[f64]) {
     for (field, value) in FIELDS.iter().zip(figures) {
         line(scope, ["y", "u", "v"][plane], field, *value);
     }
+    decibels(scope, ["y", "u", "v"][plane], figures[FIELDS.len() - 1]);
+}
+
+/// Of PSNR-HVS. No error is infinite decibels in the Rust, which the command does not report.
+fn decibels(scope: &str, plane: &str, score: f64) {
+    if score > 0.0 {
+        line(scope, plane, "hvs_db", psnr_hvs::probe_decibels(score));
+    }
 }
 
 /// The Rust's weighted sums: over the weight for SSIM, times the weight for PSNR-HVS.
@@ -169,6 +177,9 @@ fn combined(scope: &str, planes: &[Vec<f64>], weight: f64, count: f64) {
         let whole = 1.0 + 2.0 * weight;
         let value = if *field == "hvs" { whole * sum / count } else { sum / (whole * count) };
         line(scope, "combined", field, value);
+        if *field == "hvs" {
+            decibels(scope, "combined", value);
+        }
     }
 }
 

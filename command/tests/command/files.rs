@@ -70,6 +70,15 @@ fn bytes_after_the_last_frame_are_an_error() {
 }
 
 #[test]
+fn a_y4m_file_is_not_read_as_raw() {
+    let room = Room::new("mixed");
+    let (a, b) = (room.file("a.yuv", &video().raw()), room.file("b.y4m", &video().y4m()));
+    let told = words!["--size=32x32", "--depth=8", "--chroma=420"];
+    run(&[&words!["compare", &a, &b][..], &told].concat()).says(3, &["b.y4m: byte 0: this is a Y4M file"]);
+    run(&words!["compare", &a, &b]).says(3, &["a.yuv: byte 0: not a Y4M file"]);
+}
+
+#[test]
 fn frames_may_have_parameters() {
     let room = Room::new("parameters");
     let video = video();

@@ -1,7 +1,7 @@
 //! Good runs: each figure is the library's own, to the bit, for every format.
 
 use crate::json::Json;
-use crate::run::{run, run_fed, Room};
+use crate::run::{run, run_fed, run_in, Room};
 use crate::video::{Plane, Video};
 use crate::words;
 use fuavelino::{Kernel, Pair, PlaneKind, PsnrMetrics, Sample, Scratch, Shape};
@@ -188,9 +188,26 @@ fn identical_files_say_identical_and_100() {
         let combined = report.at("run").at("combined");
         assert_eq!(combined.at("identical"), &Json::Truth(true));
         assert_eq!(combined.at("psnr_db").number(), 100.0);
-        assert_eq!(combined.at("hvs_db"), &Json::Null);
+        assert_eq!(combined.at("hvs_db").number(), 100.0);
         assert!(run(&words!["compare", &a, &a]).passes().contains("every frame is identical (PSNR 100)"));
     }
+}
+
+/// More frames than one series has places for, in memory that does not grow with them.
+#[test]
+fn a_run_may_be_longer_than_a_series() {
+    let room = Room::new("series");
+    let (count, frame) = (70_000, 64);
+    let a = room.file("a.yuv", &vec![7; count * frame]);
+    let b = room.file("b.yuv", &vec![9; count * frame]);
+    let script =
+        "ulimit -v 200000; exec \"$0\" \"$@\" --size=8x8 --depth=8 --chroma=400 --metrics=error --csv | tail -n 2";
+    let ended = run_in(script, &words!["compare", a, b]);
+    let n = count * frame;
+    let figures = format!("{:?},{},255,false,4.0,", (4 * n) as f64, n);
+    let rows: Vec<&str> = ended.passes().lines().collect();
+    assert!(rows[0].starts_with(&format!("run,,y,{}", figures)), "{}", rows[0]);
+    assert!(rows[1].starts_with(&format!("run,,combined,{}", figures)), "{}", rows[1]);
 }
 
 #[test]
