@@ -36,7 +36,7 @@ pub fn compare(asked: &Compare) -> Result<u8, Stop> {
         Form::Csv => Box::new(Csv),
     };
     out.write(|to| report.begin(to, &job))?;
-    let rows_are_seen = asked.form == Form::Table && asked.output.is_none() && is_terminal(STANDARD_OUTPUT);
+    let rows_are_seen = asked.output.is_none() && is_terminal(STANDARD_OUTPUT);
     let mut walk = Walk {
         asked,
         report: &mut *report,
@@ -148,10 +148,10 @@ impl Walk<'_> {
     fn tell(&mut self, scores: &FrameScores) -> Result<(), Stop> {
         let broken = thresholds::broken(&self.asked.thresholds, self.frames, scores);
         self.worst.add(self.frames, scores);
-        self.progress.clear();
         let (report, frame) = (&mut self.report, self.frames);
         self.out.write(|to| report.frame(to, frame, scores, &broken))?;
         for one in &broken {
+            self.progress.clear();
             say(&one.show());
         }
         self.broken += broken.len() as u64;
