@@ -4,13 +4,9 @@ use crate::run::{run, Room};
 use crate::video::Video;
 use crate::words;
 
-#[test]
-fn wrong_words_are_told() {
-    let room = Room::new("words");
-    let a = room.file("a.y4m", &Video::new(32, 32, 8, "420", 1, 31).y4m());
-    let a = a.to_str().unwrap();
-    let raw = ["--size", "8x8", "--depth", "8", "--chroma", "420"];
-    let cases: Vec<(Vec<&str>, &str)> = vec![
+/// Words about a file, and what is said of them.
+fn wrong(a: &str) -> Vec<(Vec<&str>, &'static str)> {
+    vec![
         (vec![], "--help"),
         (vec!["judge"], "no command"),
         (vec!["compare"], "two files"),
@@ -44,16 +40,24 @@ fn wrong_words_are_told() {
         (vec!["clip", "pattern", "x", "--depth", "11"], "no name for depth 11"),
         (vec!["clip", "pattern", "x", "--frames", "0"], "--frames takes"),
         (vec!["clip", "pattern", "x", "--size", "0x5"], "refusal 2"),
-    ];
-    for (words, message) in cases {
+    ]
+}
+
+#[test]
+fn wrong_words_are_told() {
+    let room = Room::new("words");
+    let bytes = Video::new(32, 32, 8, "420", 1, 31).y4m();
+    let a = room.file("a.y4m", &bytes);
+    let a = a.to_str().unwrap();
+    for (words, message) in wrong(a) {
         let ended = run(&words);
         ended.says(2, &[message]);
         assert_eq!(ended.out, "");
     }
+    assert_eq!(std::fs::read(a).unwrap(), bytes);
     // raw files of a size that no score takes: the library's refusal
-    let wide = [&["compare", a, a][..], &["--size", "8193x8"], &raw[2..]].concat();
+    let wide = ["compare", a, a, "--size", "8193x8", "--depth", "8", "--chroma", "420"];
     run(&wide).says(3, &["8193x8", "refusal 2"]);
-    assert_eq!(std::fs::read(a).unwrap().len(), Video::new(32, 32, 8, "420", 1, 31).y4m().len());
 }
 
 #[test]
