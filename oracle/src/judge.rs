@@ -19,6 +19,7 @@ mod squared;
 mod ssim;
 mod ssim_ways;
 mod start;
+mod together;
 mod transform;
 
 use family::Run;
@@ -27,7 +28,7 @@ use std::process::exit;
 /// A family's name, and what runs it.
 type Named = (&'static str, fn(Run) -> bool);
 
-const FAMILIES: [Named; 10] = [
+const FAMILIES: [Named; 11] = [
     ("published", published_numbers::compare),
     ("root", root::compare),
     ("plane", plane::compare),
@@ -38,6 +39,7 @@ const FAMILIES: [Named; 10] = [
     ("hvs", hvs::compare),
     ("scales", scales::compare),
     ("combine", combine::compare),
+    ("together", together::compare),
 ];
 
 fn main() {

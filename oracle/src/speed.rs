@@ -3,76 +3,11 @@
 #[allow(dead_code)]
 mod random;
 
+use fuavelino::{lent, Pair, PlaneKind, PsnrMetrics, Shape};
 use published::plane::Plane;
 use published::video::{psnr, psnr_hvs, ssim};
 use random::Random;
 use std::time::Instant;
-
-extern "C" {
-    fn fuavelino_root(x: f64, out: *mut f64) -> u8;
-    fn fuavelino_forward(block: *const i32, block_len: usize, out: *mut i32, out_len: usize) -> u8;
-    fn fuavelino_squared_error8(
-        a: *const u8,
-        a_len: usize,
-        b: *const u8,
-        b_len: usize,
-        width: usize,
-        height: usize,
-        stride_a: usize,
-        stride_b: usize,
-        depth: u32,
-        sq_err: *mut f64,
-        n: *mut u64,
-        sample_max: *mut u32,
-    ) -> u8;
-    fn fuavelino_ssim8(
-        a: *const u8,
-        a_len: usize,
-        b: *const u8,
-        b_len: usize,
-        width: usize,
-        height: usize,
-        stride_a: usize,
-        stride_b: usize,
-        depth: u32,
-        kernel: *const u16,
-        kernel_len: usize,
-        scratch: *mut i64,
-        scratch_len: usize,
-        ssim: *mut f64,
-        cs: *mut f64,
-    ) -> u8;
-    fn fuavelino_psnr_hvs_y_8(
-        a: *const u8,
-        a_len: usize,
-        b: *const u8,
-        b_len: usize,
-        width: usize,
-        height: usize,
-        stride_a: usize,
-        stride_b: usize,
-        depth: u32,
-        score: *mut f64,
-    ) -> u8;
-    fn fuavelino_msssim8(
-        a: *const u8,
-        a_len: usize,
-        b: *const u8,
-        b_len: usize,
-        width: usize,
-        height: usize,
-        stride_a: usize,
-        stride_b: usize,
-        depth: u32,
-        scratch: *mut i64,
-        scratch_len: usize,
-        room_a: *mut u32,
-        room_a_len: usize,
-        room_b: *mut u32,
-        room_b_len: usize,
-        pairs: *mut f64,
-    ) -> u8;
-}
 
 /// Hides a value from the optimiser: `std::hint` has this only since Rust 1.66.
 fn black_box<T: Copy>(x: T) -> T {
@@ -127,7 +62,7 @@ fn root() {
     let product = || {
         let mut out = 0.0;
         for x in &list {
-            black_box(unsafe { fuavelino_root(*x, &mut out) });
+            let _ = black_box(lent::root(*x, &mut out));
         }
     };
     let other = || {
@@ -155,7 +90,7 @@ fn forward() {
     let product = || {
         let mut out = [0; 64];
         for b in &blocks {
-            black_box(unsafe { fuavelino_forward(b.as_ptr(), 64, out.as_mut_ptr(), 64) });
+            let _ = black_box(lent::forward(b, &mut out));
             black_box(&out);
         }
     };
@@ -178,16 +113,23 @@ fn planes() -> [Plane<u8>; 2] {
     })
 }
 
+/// One of them as the product takes it.
+fn lend(plane: &Plane<u8>) -> fuavelino::Plane<'_, u8> {
+    fuavelino::Plane { data: &plane.data, stride: plane.cfg.stride }
+}
+
+fn shape() -> Shape {
+    Shape { width: black_box(WIDTH), height: black_box(HEIGHT), bit_depth: 8 }
+}
+
 /// Time for each sample.
 fn squared() {
     let [a, b] = planes();
-    let (x, y) = (a.data.as_ptr(), b.data.as_ptr());
+    let (x, y) = (lend(&a), lend(&b));
     let product = || {
-        let (mut error, mut n, mut max) = (0.0, 0, 0);
-        let (w, h) = (black_box(WIDTH), black_box(HEIGHT));
-        let answer = unsafe { fuavelino_squared_error8(x, COUNT, y, COUNT, w, h, w, w, 8, &mut error, &mut n, &mut max) };
-        assert_eq!(answer, 0);
-        black_box(error);
+        let mut record = PsnrMetrics::default();
+        assert_eq!(lent::squared_error(x, y, shape(), &mut record), Ok(()));
+        black_box(record);
     };
     let other = || {
         black_box(psnr::probe_squared_error(black_box(&a), black_box(&b)));
@@ -202,15 +144,12 @@ fn similarity() {
     assert_eq!(kernel.len(), 15);
     let taps: Vec<u16> = kernel.iter().map(|t| *t as u16).collect();
     let [u, v] = [&a, &b].map(|p| p.data.iter().map(|s| u32::from(*s)).collect::<Vec<u32>>());
-    let (x, y) = (a.data.as_ptr(), b.data.as_ptr());
+    let (x, y) = (lend(&a), lend(&b));
     let mut scratch = vec![0i64; 6 * WIDTH * 16];
     let product = || {
-        let (mut s, mut c) = (0.0, 0.0);
-        let (k, places, room) = (taps.as_ptr(), scratch.len(), scratch.as_mut_ptr());
-        let (w, h) = (black_box(WIDTH), black_box(HEIGHT));
-        let answer = unsafe { fuavelino_ssim8(x, COUNT, y, COUNT, w, h, w, w, 8, k, 15, room, places, &mut s, &mut c) };
-        assert_eq!(answer, 0);
-        black_box((s, c));
+        let mut pair = Pair::default();
+        assert_eq!(lent::ssim(x, y, shape(), &taps, &mut scratch, &mut pair), Ok(()));
+        black_box(pair);
     };
     let other = || {
         black_box(ssim::probe_pair(black_box(&u), black_box(&v), WIDTH, HEIGHT, 255, black_box(&kernel)));
@@ -221,12 +160,10 @@ fn similarity() {
 /// Time for each sample, of luma.
 fn visual() {
     let [a, b] = planes();
-    let (x, y) = (a.data.as_ptr(), b.data.as_ptr());
+    let (x, y) = (lend(&a), lend(&b));
     let product = || {
         let mut score = 0.0;
-        let (w, h) = (black_box(WIDTH), black_box(HEIGHT));
-        let answer = unsafe { fuavelino_psnr_hvs_y_8(x, COUNT, y, COUNT, w, h, w, w, 8, &mut score) };
-        assert_eq!(answer, 0);
+        assert_eq!(lent::psnr_hvs(x, y, shape(), PlaneKind::Y, &mut score), Ok(()));
         black_box(score);
     };
     let other = || {
@@ -238,18 +175,12 @@ fn visual() {
 /// Time for each sample of the first scale; the published side is its own five pairs, without the power product.
 fn scales() {
     let [a, b] = planes();
-    let (x, y) = (a.data.as_ptr(), b.data.as_ptr());
+    let (x, y) = (lend(&a), lend(&b));
     let mut scratch = vec![0i64; 96 * WIDTH];
     let [mut p, mut q] = [vec![0u32; COUNT], vec![0u32; COUNT]];
     let product = || {
-        let mut pairs = [0.0; 10];
-        let (w, h) = (black_box(WIDTH), black_box(HEIGHT));
-        let (s, n) = (scratch.as_mut_ptr(), scratch.len());
-        let out = pairs.as_mut_ptr();
-        let answer = unsafe {
-            fuavelino_msssim8(x, COUNT, y, COUNT, w, h, w, w, 8, s, n, p.as_mut_ptr(), COUNT, q.as_mut_ptr(), COUNT, out)
-        };
-        assert_eq!(answer, 0);
+        let mut pairs = [Pair::default(); 5];
+        assert_eq!(lent::msssim(x, y, shape(), &mut scratch, &mut p, &mut q, &mut pairs), Ok(()));
         black_box(pairs);
     };
     let kernel = ssim::probe_kernel(1.5, 5, 1_024);
