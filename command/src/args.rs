@@ -17,7 +17,7 @@ fuavelino: compares a decoded video with its original, and passes only what is s
                          both files are raw, of this format; words (depths 9 to 12) have their low byte first
       --metrics LIST     of error,ssim,scales,hvs (default: all)
       --json, --csv      all digits, for programs; without them a table for people
-      --output FILE      where the report goes, instead of standard output
+      --output FILE      where the report goes; without it, or with -, to standard output
     Thresholds, each held for every plane of every frame and for every frame's combination:
       --max-error X      squared error per sample, at most X
       --min-psnr X       PSNR in decibels, at least X (identical planes meet any)
@@ -205,7 +205,7 @@ fn compare(words: Words) -> Result<Asked, Stop> {
     };
     let metrics = words.value("--metrics", "a list of error,ssim,scales,hvs", metrics)?.unwrap_or(Metrics::ALL);
     let thresholds = thresholds(&words, &metrics)?;
-    let output = words.get("--output").map(PathBuf::from);
+    let output = words.get("--output").filter(|path| *path != "-").map(PathBuf::from);
     Ok(Asked::Compare(Box::new(Compare { original, decoded, raw: raw(&words)?, metrics, thresholds, form, output })))
 }
 

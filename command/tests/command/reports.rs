@@ -85,6 +85,7 @@ fn a_report_goes_to_a_file() {
     assert_eq!(ended.passes(), "");
     let direct = run(&[&compare[..], &words!["--csv"]].concat());
     assert_eq!(fs::read_to_string(&to).unwrap(), direct.out);
+    assert_eq!(run(&[&compare[..], &words!["--csv", "--output", "-"]].concat()).passes(), direct.out);
     let lost = room.path("no/such/folder");
     run(&[&compare[..], &words!["--output", &lost]].concat()).says(3, &["no/such/folder: cannot write"]);
 }
