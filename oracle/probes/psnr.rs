@@ -10,3 +10,9 @@ pub fn probe_record<T: Pixel>(a: &Plane<T>, b: &Plane<T>, depth: usize) -> (f64,
     let m = calculate_plane_psnr_metrics(a, b, depth);
     (m.sq_err, m.n_pixels, m.sample_max)
 }
+
+/// PSNR in decibels of records taken together.
+pub fn probe_summed(records: &[(f64, usize, usize)]) -> f64 {
+    let of = |r: &(f64, usize, usize)| PsnrMetrics { sq_err: r.0, n_pixels: r.1, sample_max: r.2 };
+    calculate_summed_psnr(&records.iter().map(of).collect::<Vec<_>>())
+}

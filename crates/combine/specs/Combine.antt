@@ -2,11 +2,11 @@
 -- each operation rounded once; and the two refusals of "When the desk says no" that belong to it. Definitions only.
 use mathlib.Core.Bool.{Bool, _&&_}
 use mathlib.Core.List.{[], _∷_}
-use Prim.Native.Nat.{ℕ, zero, suc}
+use Prim.Native.Nat.{ℕ}
 use lib.Ieee.{Float, binary64, ofBits, le}
 use lib.Ieee.Scale.{finite}
 use Rattle.refusal.specs.Numbers.{notFiniteNo, weightNo}
-use Rattle.refusal.specs.First.{firstBroken}
+use Rattle.refusal.specs.First.{firstBroken, byRefusal}
 use Rattle.number.specs.Steps.{_⊕_, _⊗_}
 use Rattle.combine.specs.declared.Planar.{Planar}
 use Rattle.combine.specs.declared.CombinedSsim.{CombinedSsim}
@@ -51,8 +51,7 @@ refusalOf lawful isFinite = firstBroken ((weightNo, lawful) ∷ (notFiniteNo, is
 -- ---- the answers
 
 abbrev pub sumFor : ℕ → Float → Float → CombinedSsim
-sumFor zero sum weight = similarity.Sum sum weight
-sumFor (suc n) sum weight = similarity.Refused (suc n)
+sumFor n sum weight = byRefusal n (similarity.Sum sum weight) (similarity.Refused n)
 
 -- the sum and its weight, both finite, or the refusal
 abbrev pub sumOr : Bool → Float → Float → CombinedSsim
@@ -62,8 +61,7 @@ abbrev pub ssimOf : Float → Planar → CombinedSsim
 ssimOf c s = sumOr (combinable c s) (sumOf c s) (weightOf c)
 
 abbrev pub scoreFor : ℕ → Float → CombinedHvs
-scoreFor zero score = visual.Score score
-scoreFor (suc n) score = visual.Refused (suc n)
+scoreFor n score = byRefusal n (visual.Score score) (visual.Refused n)
 
 -- the score, finite, or the refusal
 abbrev pub scoreOr : Bool → Float → CombinedHvs

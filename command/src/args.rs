@@ -1,0 +1,270 @@
+//! The command's words, and what they ask.
+
+use crate::clip::{Clip, Picture};
+use crate::format::{decimal, Chroma, Format, CHROMAS};
+use crate::score::Metrics;
+use crate::stop::Stop;
+use crate::thresholds::{Threshold, KINDS};
+use std::ffi::OsString;
+use std::path::PathBuf;
+
+pub const HELP: &str = "\
+fuavelino: compares a decoded video with its original, and passes only what is shown to be good
+
+  fuavelino compare ORIGINAL DECODED [options]
+      Two Y4M files, or two raw planar files of one format; - is standard input, for one of them.
+      --size WxH --depth D --chroma 420|422|444|400
+                         both files are raw, of this format; words (depths 9 to 12) have their low byte first
+      --metrics LIST     of error,ssim,scales,hvs (default: all)
+      --json, --csv      all digits, for programs; without them a table for people
+      --output FILE      where the report goes; without it, or with -, to standard output
+    Thresholds, each held for every plane of every frame and for every frame's combination:
+      --max-error X      squared error per sample, at most X
+      --min-psnr X       PSNR in decibels, at least X (identical planes meet any)
+      --min-ssim X       SSIM, at least X
+      --min-cs X         SSIM without luminance, at least X
+      --min-scale X      SSIM of each of the five scales, at least X
+      --max-hvs X        PSNR-HVS score, at most X
+
+  fuavelino clip pattern|damaged FILE [--size WxH] [--depth D] [--chroma C] [--frames N]
+      Writes a small Y4M clip: a moving pattern, or the same with a damaged patch in one plane of one frame.
+
+  fuavelino --help, fuavelino --version
+
+Status: 0 every asked score was given and every threshold met; 1 a threshold is broken; 2 wrong use; 3 a refusal, an unreadable,
+short or unlike file, no frames, or a report that could not be written.
+";
+
+#[derive(Clone, Copy, PartialEq, Eq)]
+pub enum Form {
+    Table,
+    Json,
+    Csv,
+}
+
+pub struct Compare {
+    pub original: PathBuf,
+    pub decoded: PathBuf,
+    /// The told format of raw files.
+    pub raw: Option<Format>,
+    pub metrics: Metrics,
+    pub thresholds: Vec<Threshold>,
+    pub form: Form,
+    pub output: Option<PathBuf>,
+}
+
+pub enum Asked {
+    Help,
+    Version,
+    Compare(Box<Compare>),
+    Clip(Clip),
+}
+
+pub fn parse(words: impl Iterator<Item = OsString>) -> Result<Asked, Stop> {
+    let mut words: Vec<OsString> = words.collect();
+    if words.is_empty() {
+        return Err(usage("what is to be done? fuavelino --help tells"));
+    }
+    let first = words.remove(0);
+    match first.to_str() {
+        Some("--help" | "-h" | "help") => Ok(Asked::Help),
+        Some("--version" | "-V") => Ok(Asked::Version),
+        Some("compare") => compare(Words::of(words, &COMPARE)?),
+        Some("clip") => clip(Words::of(words, &CLIP)?),
+        _ => Err(usage(&format!("no command {:?}; there are compare and clip", first))),
+    }
+}
+
+fn usage(message: &str) -> Stop {
+    Stop::Usage(message.to_string())
+}
+
+/// An option's name, and whether a value follows it.
+type Known = (&'static str, bool);
+
+const COMPARE: [Known; 15] = [
+    ("--help", false),
+    ("--json", false),
+    ("--csv", false),
+    ("--size", true),
+    ("--depth", true),
+    ("--chroma", true),
+    ("--metrics", true),
+    ("--output", true),
+    ("--max-error", true),
+    ("--min-psnr", true),
+    ("--min-ssim", true),
+    ("--min-cs", true),
+    ("--min-scale", true),
+    ("--max-hvs", true),
+    ("-h", false),
+];
+
+const CLIP: [Known; 6] =
+    [("--help", false), ("--size", true), ("--depth", true), ("--chroma", true), ("--frames", true), ("-h", false)];
+
+/// Options with their values, each at most once, and the other words in order.
+struct Words {
+    options: Vec<(&'static str, OsString)>,
+    others: Vec<OsString>,
+}
+
+impl Words {
+    fn of(words: Vec<OsString>, known: &[Known]) -> Result<Words, Stop> {
+        let mut sorted = Words { options: Vec::new(), others: Vec::new() };
+        let mut words = words.into_iter();
+        while let Some(word) = words.next() {
+            let text = word.to_str().unwrap_or_default();
+            if text == "--" {
+                sorted.others.extend(words);
+                break;
+            }
+            if !text.starts_with('-') || text == "-" {
+                sorted.others.push(word);
+                continue;
+            }
+            let (name, joined) = match text.split_once('=') {
+                Some((name, value)) => (name, Some(OsString::from(value))),
+                None => (text, None),
+            };
+            let found = known.iter().find(|known| known.0 == name);
+            let (name, valued) = *found.ok_or_else(|| usage(&format!("no option {:?}", name)))?;
+            let value = match (valued, joined) {
+                (true, Some(value)) => value,
+                (true, None) => words.next().ok_or_else(|| usage(&format!("{} takes a value", name)))?,
+                (false, None) => OsString::new(),
+                (false, Some(_)) => return Err(usage(&format!("{} takes no value", name))),
+            };
+            if sorted.get(name).is_some() {
+                return Err(usage(&format!("{} is given twice", name)));
+            }
+            sorted.options.push((name, value));
+        }
+        Ok(sorted)
+    }
+
+    fn get(&self, name: &str) -> Option<&OsString> {
+        self.options.iter().find(|option| option.0 == name).map(|option| &option.1)
+    }
+
+    fn has(&self, name: &str) -> bool {
+        self.get(name).is_some()
+    }
+
+    /// An option's value as `read` takes it.
+    fn value<V>(&self, name: &str, what: &str, read: impl Fn(&str) -> Option<V>) -> Result<Option<V>, Stop> {
+        match self.get(name) {
+            Some(given) => match given.to_str().and_then(read) {
+                Some(value) => Ok(Some(value)),
+                None => Err(usage(&format!("{} takes {}, not {:?}", name, what, given))),
+            },
+            None => Ok(None),
+        }
+    }
+
+    fn wants_help(&self) -> bool {
+        self.has("--help") || self.has("-h")
+    }
+
+    fn size(&self) -> Result<Option<(usize, usize)>, Stop> {
+        self.value("--size", "WIDTHxHEIGHT", |text| {
+            let (width, height) = text.split_once('x')?;
+            Some((decimal(width.as_bytes())?, decimal(height.as_bytes())?))
+        })
+    }
+
+    fn depth(&self) -> Result<Option<u32>, Stop> {
+        self.value("--depth", "a number from 1 to 12", |text| {
+            decimal(text.as_bytes()).filter(|depth| (1..=12).contains(depth)).map(|depth| depth as u32)
+        })
+    }
+
+    fn chroma(&self) -> Result<Option<Chroma>, Stop> {
+        self.value("--chroma", "420, 422, 444 or 400", |text| {
+            CHROMAS.iter().find(|known| known.1 == text).map(|known| known.0)
+        })
+    }
+}
+
+fn compare(words: Words) -> Result<Asked, Stop> {
+    if words.wants_help() {
+        return Ok(Asked::Help);
+    }
+    let [original, decoded] = match &words.others[..] {
+        [original, decoded] => [PathBuf::from(original), PathBuf::from(decoded)],
+        _ => return Err(usage("compare takes two files: ORIGINAL DECODED")),
+    };
+    if original.as_os_str() == "-" && decoded.as_os_str() == "-" {
+        return Err(usage("only one of the two can be standard input"));
+    }
+    let form = match (words.has("--json"), words.has("--csv")) {
+        (false, false) => Form::Table,
+        (true, false) => Form::Json,
+        (false, true) => Form::Csv,
+        (true, true) => return Err(usage("--json or --csv, not both")),
+    };
+    let metrics = words.value("--metrics", "a list of error,ssim,scales,hvs", metrics)?.unwrap_or(Metrics::ALL);
+    let thresholds = thresholds(&words, &metrics)?;
+    let output = words.get("--output").filter(|path| *path != "-").map(PathBuf::from);
+    Ok(Asked::Compare(Box::new(Compare { original, decoded, raw: raw(&words)?, metrics, thresholds, form, output })))
+}
+
+/// All three make both files raw; one without the others is no format.
+fn raw(words: &Words) -> Result<Option<Format>, Stop> {
+    match (words.size()?, words.depth()?, words.chroma()?) {
+        (Some((width, height)), Some(depth), Some(chroma)) => Ok(Some(Format { width, height, depth, chroma })),
+        (None, None, None) => Ok(None),
+        _ => Err(usage("raw files need all of --size, --depth and --chroma; Y4M files take none of them")),
+    }
+}
+
+fn metrics(list: &str) -> Option<Metrics> {
+    let mut asked = [false; 4];
+    for name in list.split(',') {
+        let number = Metrics::NAMES.iter().position(|known| *known == name)?;
+        if asked[number] {
+            return None;
+        }
+        asked[number] = true;
+    }
+    let [error, ssim, scales, hvs] = asked;
+    Some(Metrics { error, ssim, scales, hvs })
+}
+
+/// A limit must be a finite number, and the scores that it is held against must be asked for: one that is never judged
+/// would pass everything.
+fn thresholds(words: &Words, metrics: &Metrics) -> Result<Vec<Threshold>, Stop> {
+    let mut list = Vec::new();
+    for kind in &KINDS {
+        let number = |text: &str| text.parse::<f64>().ok().filter(|limit| limit.is_finite());
+        if let Some(limit) = words.value(kind.option, "a finite number", number)? {
+            let (asked, name) = kind.needs(metrics);
+            if !asked {
+                return Err(usage(&format!("{} needs {} among --metrics", kind.option, name)));
+            }
+            list.push(Threshold { kind, limit });
+        }
+    }
+    Ok(list)
+}
+
+fn clip(words: Words) -> Result<Asked, Stop> {
+    if words.wants_help() {
+        return Ok(Asked::Help);
+    }
+    let (picture, path) = match &words.others[..] {
+        [picture, path] => (picture.to_str().unwrap_or_default(), PathBuf::from(path)),
+        _ => return Err(usage("clip takes pattern or damaged, and a FILE")),
+    };
+    let picture = match picture {
+        "pattern" => Picture::Pattern,
+        "damaged" => Picture::Damaged,
+        _ => return Err(usage("a clip is a pattern, or damaged")),
+    };
+    let (width, height) = words.size()?.unwrap_or((192, 144));
+    let depth = words.depth()?.unwrap_or(8);
+    let chroma = words.chroma()?.unwrap_or(Chroma::Cs420);
+    let count = |text: &str| decimal(text.as_bytes()).filter(|count| (1..=1_000_000).contains(count));
+    let frames = words.value("--frames", "a number from 1 to 1000000", count)?.unwrap_or(6);
+    Ok(Asked::Clip(Clip { picture, path, format: Format { width, height, depth, chroma }, frames }))
+}

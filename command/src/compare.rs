@@ -1,0 +1,177 @@
+//! `fuavelino compare`: reads both files frame by frame, scores, reports, and judges.
+
+use crate::args::{Compare, Form};
+use crate::csv::Csv;
+use crate::format::Format;
+use crate::frames::{Frame, Source};
+use crate::input::Stored;
+use crate::json::Json;
+use crate::output::Output;
+use crate::progress::{is_terminal, say, Progress, STANDARD_OUTPUT};
+use crate::report::{End, Job, Report, Worst};
+use crate::score::{FrameScores, Scorer};
+use crate::stop::{Fault, Stop, BROKEN, FAULT, PASSED};
+use crate::table::Table;
+use crate::thresholds;
+use crate::totals::Run;
+use std::fs;
+use std::os::unix::fs::MetadataExt;
+use std::path::PathBuf;
+
+/// Compares, and gives the status that the command ends with.
+pub fn compare(asked: &Compare) -> Result<u8, Stop> {
+    if let Some(format) = asked.raw {
+        format.judge().map_err(|refusal| Fault::refused(&format.show(), refusal))?;
+    }
+    let mut sources = [Source::open(&asked.original, asked.raw)?, Source::open(&asked.decoded, asked.raw)?];
+    alike(&sources[0], &sources[1])?;
+    let mut out = output(asked)?;
+    let names = [sources[0].name().to_string(), sources[1].name().to_string()];
+    let format = sources[0].format;
+    let [original, decoded] = [&names[0], &names[1]];
+    let job = Job { original, decoded, format, metrics: asked.metrics, thresholds: &asked.thresholds };
+    let mut report: Box<dyn Report> = match asked.form {
+        Form::Table => Box::new(Table::default()),
+        Form::Json => Box::new(Json::default()),
+        Form::Csv => Box::new(Csv),
+    };
+    out.write(|to| report.begin(to, &job))?;
+    let rows_are_seen = asked.output.is_none() && is_terminal(STANDARD_OUTPUT);
+    let mut walk = Walk {
+        asked,
+        report: &mut *report,
+        out: &mut out,
+        progress: Progress::new(!rows_are_seen),
+        worst: Worst::default(),
+        frames: 0,
+        broken: 0,
+    };
+    let status = walk.whole(&mut sources, &format)?;
+    out.close()?;
+    Ok(status)
+}
+
+/// Rate, aspect and the rest of a header are not compared: they do not bear on the scores.
+fn alike(a: &Source, b: &Source) -> Result<(), Fault> {
+    if a.format == b.format {
+        return Ok(());
+    }
+    let (this, other) = (a.format, b.format);
+    let mut unlike = Vec::new();
+    if (this.width, this.height) != (other.width, other.height) {
+        unlike.push("size");
+    }
+    if this.depth != other.depth {
+        unlike.push("depth");
+    }
+    if this.chroma != other.chroma {
+        unlike.push("chroma");
+    }
+    let (first, second) = (this.show(), other.show());
+    let what = format!("{} is {}, {} is {}", a.name(), first, b.name(), second);
+    Err(Fault::new(format!("the files differ in {}: {}", unlike.join(" and "), what)))
+}
+
+/// Makes the report's file, but never over a file that is to be read.
+fn output(asked: &Compare) -> Result<Output, Stop> {
+    let path = match &asked.output {
+        Some(path) => path,
+        None => return Ok(Output::standard()),
+    };
+    if let Ok(target) = fs::metadata(path) {
+        let same = |other: fs::Metadata| (other.dev(), other.ino()) == (target.dev(), target.ino());
+        let real = |input: &PathBuf| if input.as_os_str() == "-" { PathBuf::from("/dev/stdin") } else { input.clone() };
+        let inputs = [real(&asked.original), real(&asked.decoded)];
+        if target.is_file() && inputs.iter().any(|input| fs::metadata(input).map_or(false, same)) {
+            return Err(Stop::Usage("--output names a file that is to be compared".to_string()));
+        }
+    }
+    Output::create(path)
+}
+
+/// The walk over all frames.
+struct Walk<'a> {
+    asked: &'a Compare,
+    report: &'a mut dyn Report,
+    out: &'a mut Output,
+    progress: Progress,
+    worst: Worst,
+    frames: u64,
+    broken: u64,
+}
+
+impl Walk<'_> {
+    /// Walks and closes the report, whatever ended the walk, unless it could not be written.
+    fn whole(&mut self, sources: &mut [Source; 2], format: &Format) -> Result<u8, Stop> {
+        let walked = if format.wide() { self.walk::<u16>(sources) } else { self.walk::<u8>(sources) };
+        self.progress.clear();
+        let (run, fault) = match walked {
+            Ok(run) => (Some(run), None),
+            Err(Stop::Fault(fault)) => (None, Some(fault)),
+            Err(stop) => return Err(stop),
+        };
+        // passed is what is left when nothing else can be said: a run with its figures, and nothing broken
+        let status = match (&run, self.broken) {
+            (Some(_), 0) => PASSED,
+            (Some(_), _) => BROKEN,
+            (None, _) => FAULT,
+        };
+        if let Some(fault) = &fault {
+            say(&fault.message);
+        }
+        let (frames, worst, broken) = (self.frames, &self.worst, self.broken);
+        let end = End { frames, run: run.as_ref(), worst, broken, fault: fault.as_ref(), status };
+        let report = &mut self.report;
+        self.out.write(|to| report.end(to, &end))?;
+        Ok(status)
+    }
+
+    fn walk<T: Stored>(&mut self, sources: &mut [Source; 2]) -> Result<FrameScores, Stop> {
+        let format = sources[0].format;
+        let [a, b] = sources;
+        let mut scorer = Scorer::new(&format, self.asked.metrics);
+        let mut run = Run::new(format.shapes().len(), format.chroma.get_chroma_weight());
+        let mut frames = [Frame::<T>::new(&format), Frame::<T>::new(&format)];
+        while another(a, b, &mut frames)? {
+            let place = format!("frame {}", self.frames);
+            let scores = scorer.frame(&frames[0], &frames[1]).map_err(|refused| refused.at(&place))?;
+            run.add(&scores).map_err(|refused| refused.at("the run"))?;
+            self.tell(&scores)?;
+        }
+        if self.frames == 0 {
+            return Err(Fault::new(format!("{} and {} have no frames", a.name(), b.name())).into());
+        }
+        Ok(run.end().map_err(|refused| refused.at("the run"))?)
+    }
+
+    /// Reports a frame, and says which thresholds it breaks.
+    fn tell(&mut self, scores: &FrameScores) -> Result<(), Stop> {
+        let broken = thresholds::broken(&self.asked.thresholds, self.frames, scores);
+        self.worst.add(self.frames, scores);
+        let (report, frame) = (&mut self.report, self.frames);
+        self.out.write(|to| report.frame(to, frame, scores, &broken))?;
+        for one in &broken {
+            self.progress.clear();
+            say(&one.show());
+        }
+        self.broken += broken.len() as u64;
+        self.frames += 1;
+        self.progress.at(self.frames);
+        Ok(())
+    }
+}
+
+/// Reads the next frame of both. Both must end together.
+fn another<T: Stored>(a: &mut Source, b: &mut Source, frames: &mut [Frame<T>; 2]) -> Result<bool, Fault> {
+    let number = a.read;
+    let (first, second) = (a.next(&mut frames[0])?, b.next(&mut frames[1])?);
+    let unlike = |short: &Source, long: &Source| {
+        Fault::new(format!("{} ends after {} frames, {} has more", short.name(), number, long.name()))
+    };
+    match (first, second) {
+        (true, true) => Ok(true),
+        (false, false) => Ok(false),
+        (false, true) => Err(unlike(a, b)),
+        (true, false) => Err(unlike(b, a)),
+    }
+}

@@ -1,0 +1,44 @@
+//! The report as CSV: a row for each plane of each frame and for their combination, then the run's rows. Every column is
+//! always there; what was not asked for is empty.
+
+use crate::report::{values, End, Job, Report, Value, FIELDS};
+use crate::score::FrameScores;
+use crate::thresholds::Broken;
+use std::io::{self, Write};
+
+pub struct Csv;
+
+impl Report for Csv {
+    fn begin(&mut self, out: &mut dyn Write, _: &Job<'_>) -> io::Result<()> {
+        writeln!(out, "scope,frame,plane,{}", FIELDS.join(","))
+    }
+
+    fn frame(&mut self, out: &mut dyn Write, number: u64, scores: &FrameScores, _: &[Broken]) -> io::Result<()> {
+        rows(out, &format!("frame,{}", number), scores)
+    }
+
+    fn end(&mut self, out: &mut dyn Write, end: &End<'_>) -> io::Result<()> {
+        match end.run {
+            Some(run) => rows(out, "run,", run),
+            None => Ok(()),
+        }
+    }
+}
+
+fn rows(out: &mut dyn Write, start: &str, scores: &FrameScores) -> io::Result<()> {
+    for (plane, scores) in scores.named() {
+        let cells: Vec<String> = values(scores).iter().map(shown).collect();
+        writeln!(out, "{},{},{}", start, plane, cells.join(","))?;
+    }
+    Ok(())
+}
+
+fn shown(value: &Value) -> String {
+    match value {
+        // the shortest decimal that reads back to the same bits
+        Value::Double(value) => format!("{:?}", value),
+        Value::Whole(value) => value.to_string(),
+        Value::Truth(value) => value.to_string(),
+        Value::None => String::new(),
+    }
+}

@@ -1,0 +1,73 @@
+//! A source of frames: a Y4M file, or a raw one whose format the caller tells.
+
+use crate::format::{Format, PLANES};
+use crate::input::{Input, Stored};
+use crate::stop::Fault;
+use crate::y4m;
+use std::path::Path;
+
+/// The samples of each plane, row by row with no padding.
+pub struct Frame<T> {
+    pub planes: Vec<Vec<T>>,
+}
+
+impl<T> Frame<T> {
+    pub fn new(format: &Format) -> Frame<T> {
+        Frame { planes: format.shapes().iter().map(|_| Vec::new()).collect() }
+    }
+}
+
+pub struct Source {
+    pub format: Format,
+    /// How many whole frames were read.
+    pub read: u64,
+    input: Input,
+    /// Raw frames follow each other with no line before them.
+    raw: bool,
+}
+
+impl Source {
+    /// Without a told format, the file's header gives it.
+    pub fn open(path: &Path, told: Option<Format>) -> Result<Source, Fault> {
+        let mut input = Input::open(path)?;
+        let format = match told {
+            Some(_) if input.ahead()?.starts_with(y4m::MAGIC) => {
+                return Err(input.fault("this is a Y4M file: it takes no --size, --depth and --chroma"));
+            }
+            Some(format) => format,
+            None => y4m::header(&mut input)?,
+        };
+        Ok(Source { format, read: 0, input, raw: told.is_some() })
+    }
+
+    pub fn name(&self) -> &str {
+        &self.input.name
+    }
+
+    /// Reads the next frame over the last one. There is none only where the file ends after a whole frame.
+    pub fn next<T: Stored>(&mut self, frame: &mut Frame<T>) -> Result<bool, Fault> {
+        if !self.another()? {
+            return Ok(false);
+        }
+        for (number, (shape, plane)) in self.format.shapes().iter().zip(&mut frame.planes).enumerate() {
+            let count = shape.width * shape.height;
+            self.input.samples(count, plane)?;
+            if plane.len() < count {
+                let (name, have) = (PLANES[number], plane.len());
+                let what =
+                    format!("frame {} is cut short: plane {} has {} of {} samples", self.read, name, have, count);
+                return Err(self.input.fault(&what));
+            }
+        }
+        self.read += 1;
+        Ok(true)
+    }
+
+    fn another(&mut self) -> Result<bool, Fault> {
+        if self.raw {
+            Ok(!self.input.ahead()?.is_empty())
+        } else {
+            y4m::frame(&mut self.input, self.read)
+        }
+    }
+}

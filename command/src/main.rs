@@ -1,0 +1,43 @@
+//! Compares a decoded video with its original by proved scores, and passes only what is shown to be good.
+
+mod args;
+mod clip;
+mod compare;
+mod csv;
+mod decibels;
+mod format;
+mod frames;
+mod input;
+mod json;
+mod output;
+mod progress;
+mod report;
+mod score;
+mod stop;
+mod table;
+mod thresholds;
+mod totals;
+mod y4m;
+
+use args::Asked;
+use output::Output;
+use std::process::ExitCode;
+use stop::{Stop, PASSED};
+
+fn main() -> ExitCode {
+    let ended = done();
+    if let Err(stop) = &ended {
+        progress::say(stop.message());
+    }
+    ExitCode::from(ended.unwrap_or_else(|stop| stop.status()))
+}
+
+fn done() -> Result<u8, Stop> {
+    match args::parse(std::env::args_os().skip(1))? {
+        Asked::Help => Output::standard().write(|to| to.write_all(args::HELP.as_bytes()))?,
+        Asked::Version => Output::standard().write(|to| writeln!(to, "fuavelino {}", env!("CARGO_PKG_VERSION")))?,
+        Asked::Compare(asked) => return compare::compare(&asked),
+        Asked::Clip(clip) => clip::write(&clip)?,
+    }
+    Ok(PASSED)
+}

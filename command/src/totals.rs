@@ -1,0 +1,174 @@
+//! The figures of a whole run, gathered frame by frame in memory that does not grow with their number.
+
+use crate::format::{COMBINED, PLANES};
+use crate::score::{combine, finite, FrameScores, Refused, Scores};
+use fuavelino::{Pair, PsnrMetrics, Refusal};
+
+/// The most records that the library takes in one series.
+const SERIES: usize = 65_536;
+/// The largest total that it gives.
+const MOST: u64 = 1 << 53;
+
+/// The total of any number of records. The library totals them by series of at most 65,536. Where there are more, the
+/// series' totals are added here, as the whole numbers that they are, and above 2^53 they are refused as there.
+#[derive(Default)]
+struct Total {
+    records: Vec<PsnrMetrics>,
+    earlier: Option<PsnrMetrics>,
+}
+
+impl Total {
+    fn add(&mut self, record: PsnrMetrics) -> Result<(), Refusal> {
+        if self.records.len() == SERIES {
+            self.earlier = Some(self.so_far()?);
+            self.records.clear();
+        }
+        self.records.push(record);
+        Ok(())
+    }
+
+    fn so_far(&self) -> Result<PsnrMetrics, Refusal> {
+        let last = fuavelino::series(&self.records)?;
+        match self.earlier {
+            Some(earlier) => joined(earlier, last),
+            None => Ok(last),
+        }
+    }
+}
+
+/// Both totals are whole numbers up to 2^53, so that nothing is lost in between.
+fn joined(a: PsnrMetrics, b: PsnrMetrics) -> Result<PsnrMetrics, Refusal> {
+    let sum = a.sq_err as u64 + b.sq_err as u64;
+    match a.n_pixels.checked_add(b.n_pixels) {
+        _ if a.sample_max != b.sample_max => Err(Refusal::Record),
+        Some(n_pixels) if sum <= MOST => Ok(PsnrMetrics { sq_err: sum as f64, n_pixels, sample_max: a.sample_max }),
+        _ => Err(Refusal::Total),
+    }
+}
+
+/// What a run comes to so far.
+pub struct Run {
+    weight: f64,
+    count: u64,
+    /// Of SSIM, scales and PSNR-HVS: each plane's sums, added in the frames' order.
+    sums: Vec<Scores>,
+    /// Of the squared error: each plane's total, and that of all planes.
+    totals: Vec<Total>,
+    total: Total,
+}
+
+impl Run {
+    pub fn new(planes: usize, weight: f64) -> Run {
+        let totals = (0..planes).map(|_| Total::default()).collect();
+        Run { weight, count: 0, sums: vec![Scores::default(); planes], totals, total: Total::default() }
+    }
+
+    pub fn add(&mut self, frame: &FrameScores) -> Result<(), Refused> {
+        self.count += 1;
+        for (number, plane) in frame.planes.iter().enumerate() {
+            self.sums[number] = sum(&self.sums[number], plane);
+            if let Some(record) = plane.error {
+                self.totals[number].add(record).map_err(Refused::of(PLANES[number], "squared error"))?;
+                self.total.add(record).map_err(Refused::of(COMBINED, "squared error"))?;
+            }
+        }
+        Ok(())
+    }
+
+    /// The run's figures: totals of squared errors, means of the others.
+    pub fn end(&self) -> Result<FrameScores, Refused> {
+        let count = self.count as f64;
+        let mut combined = combine(&self.sums, self.weight, count)?;
+        let mut planes = Vec::with_capacity(self.sums.len());
+        for (number, sums) in self.sums.iter().enumerate() {
+            planes.push(mean(sums, count).map_err(Refused::of(PLANES[number], "mean"))?);
+        }
+        if !self.total.records.is_empty() {
+            combined.error = Some(self.total.so_far().map_err(Refused::of(COMBINED, "squared error"))?);
+            for (number, total) in self.totals.iter().enumerate() {
+                let total = total.so_far().map_err(Refused::of(PLANES[number], "squared error"))?;
+                planes[number].error = Some(total);
+            }
+        }
+        Ok(FrameScores { planes, combined })
+    }
+}
+
+/// The sums with one frame more; what is not yet there begins with it.
+fn sum(so_far: &Scores, next: &Scores) -> Scores {
+    let pair = |a: Pair, b: Pair| Pair { ssim: a.ssim + b.ssim, cs: a.cs + b.cs };
+    let scales = next.scales.map(|five| {
+        let mut sums = so_far.scales.unwrap_or_default();
+        sums.iter_mut().zip(five).for_each(|(a, b)| *a = pair(*a, b));
+        sums
+    });
+    Scores {
+        error: None,
+        ssim: next.ssim.map(|b| pair(so_far.ssim.unwrap_or_default(), b)),
+        scales,
+        hvs: next.hvs.map(|b| so_far.hvs.unwrap_or_default() + b),
+    }
+}
+
+fn mean(sums: &Scores, count: f64) -> Result<Scores, Refusal> {
+    let pair = |sum: Pair| Ok(Pair { ssim: finite(sum.ssim / count)?, cs: finite(sum.cs / count)? });
+    let mut mean = Scores::default();
+    if let Some(sum) = sums.ssim {
+        mean.ssim = Some(pair(sum)?);
+    }
+    if let Some(mut five) = sums.scales {
+        for sum in five.iter_mut() {
+            *sum = pair(*sum)?;
+        }
+        mean.scales = Some(five);
+    }
+    if let Some(sum) = sums.hvs {
+        mean.hvs = Some(finite(sum / count)?);
+    }
+    Ok(mean)
+}
+
+#[cfg(test)]
+mod tests {
+    use super::*;
+
+    const RECORD: PsnrMetrics = PsnrMetrics { sq_err: 25.0, n_pixels: 3, sample_max: 255 };
+
+    fn total(count: usize, record: PsnrMetrics) -> Result<PsnrMetrics, Refusal> {
+        let mut total = Total::default();
+        for _ in 0..count {
+            total.add(record)?;
+        }
+        total.so_far()
+    }
+
+    #[test]
+    fn a_series_is_the_librarys() {
+        let sum = total(SERIES, RECORD).unwrap();
+        assert_eq!((sum.sq_err, sum.n_pixels), (25.0 * 65_536.0, 3 * 65_536));
+    }
+
+    #[test]
+    fn more_records_than_one_series_takes_are_totalled_by_parts() {
+        for count in [65_537, 131_072, 131_073, 200_000] {
+            let sum = total(count, RECORD).unwrap();
+            assert_eq!((sum.sq_err, sum.n_pixels), (25.0 * count as f64, 3 * count as u64));
+            assert_eq!(sum.sample_max, 255);
+        }
+    }
+
+    #[test]
+    fn parts_above_two_to_the_53_are_refused() {
+        // 65,536 of these come to 2^52, so that two series reach 2^53 exactly, and any more is above
+        let large = PsnrMetrics { sq_err: (1u64 << 36) as f64, n_pixels: 67_108_864, sample_max: 4_095 };
+        assert_eq!(total(131_072, large).map(|sum| sum.sq_err), Ok((1u64 << 53) as f64));
+        assert_eq!(total(131_073, large), Err(Refusal::Total));
+        assert_eq!(total(200_000, large), Err(Refusal::Total));
+    }
+
+    #[test]
+    fn a_bad_record_and_no_record_are_refused() {
+        assert_eq!(total(0, RECORD), Err(Refusal::Record));
+        assert_eq!(total(70_000, PsnrMetrics { sq_err: f64::NAN, ..RECORD }), Err(Refusal::Record));
+    }
+}

@@ -1,0 +1,128 @@
+//! Hostile files: every one ends soon, with a message, a status of 1 to 3 and no panic, in little memory.
+
+use crate::json::Json;
+use crate::run::{run, run_in, Room};
+use crate::video::{Random, Video};
+use crate::words;
+
+/// What a run may take, in KiB of address space: enough for the command and small frames.
+const MEMORY: &str = "200000";
+
+#[test]
+fn great_claims_are_refused_at_once() {
+    let room = Room::new("great");
+    for sides in ["W2147483648 H2147483648", "W8193 H16", "W16 H8193", "W0 H16", "W16 H0", "W18446744073709551616 H1"] {
+        let a = room.file("a.y4m", format!("YUV4MPEG2 {} C444p12\nFRAME\nxx", sides).as_bytes());
+        let script = format!("ulimit -v {}; exec \"$0\" compare \"$1\" \"$1\"", MEMORY);
+        run_in(&script, &[&a]).says(3, &["a.y4m: header", "refusal 2"]);
+    }
+    // the largest that is taken: memory grows with what the file holds, not with what it claims
+    let a = room.file("a.y4m", b"YUV4MPEG2 W8192 H8192 C444p12\nFRAME\nxxxx");
+    let script = format!("ulimit -v {}; exec \"$0\" compare \"$1\" \"$1\"", MEMORY);
+    run_in(&script, &[&a]).says(3, &["byte 40: frame 0 is cut short: plane y has 2 of 67108864 samples"]);
+}
+
+#[test]
+fn numbers_must_be_decimal() {
+    let room = Room::new("decimal");
+    for wrong in ["W-16", "W+16", "W", "W16.0", "W1e3", "W0x10", "W16\0", "W 16", "W16,", "W١٦", "w16", "W16\tH16"] {
+        let a = room.file("a.y4m", format!("YUV4MPEG2 {} H16\nFRAME\n", wrong).as_bytes());
+        run(&words!["compare", &a, &a]).says(3, &["a.y4m: byte 1"]);
+    }
+}
+
+#[test]
+fn long_lines_are_refused() {
+    let room = Room::new("long");
+    let video = Video::new(16, 16, 8, "420", 1, 51);
+    let line = |count: usize| format!("YUV4MPEG2 W16 H16 X{}\n", "x".repeat(count));
+    let most = 4_096 - line(0).len() + 1;
+    let a = room.file("a.y4m", &video.y4m_under(&line(most)));
+    run(&words!["compare", &a, &a, "--metrics=error"]).passes();
+    for count in [most + 1, 10_000, 1_000_000] {
+        let a = room.file("a.y4m", &video.y4m_under(&line(count)));
+        run(&words!["compare", &a, &a, "--metrics=error"]).says(3, &["byte 0", "more than 4096 bytes"]);
+    }
+    let frame = [video.header().as_bytes(), b"FRAME ", &[b'x'; 9_000], b"\n"].concat();
+    let a = room.file("a.y4m", &frame);
+    run(&words!["compare", &a, &a]).says(3, &["more than 4096 bytes"]);
+    // an endless line
+    run_in("exec \"$0\" compare /dev/zero \"$1\"", &[&a]).says(3, &["/dev/zero: byte 0"]);
+}
+
+/// Mutations of a good file, and of its header in particular: each is turned away or found unlike, unless the good file's
+/// own frames are still in it.
+#[test]
+fn mutated_files_pass_only_with_the_same_frames() {
+    let room = Room::new("mutated");
+    let video = Video::new(16, 18, 8, "444", 2, 52);
+    let good = video.y4m();
+    let a = room.file("a.y4m", &good);
+    let mut r = Random(53);
+    let mut statuses = [0; 4];
+    for number in 0..300 {
+        let bytes = mutated(&mut r, &good, video.header().len());
+        let b = room.file("b.y4m", &bytes);
+        let order = if number % 2 == 0 { [&a, &b] } else { [&b, &a] };
+        let ended = run(&words!["compare", order[0], order[1], "--metrics=error", "--max-error=0", "--json"]);
+        // a report that was begun is a whole one, and says the same
+        if !ended.out.is_empty() {
+            let report = Json::read(&ended.out);
+            assert_eq!(report.at("status").number(), f64::from(ended.status));
+            assert_eq!(report.at("passed"), &Json::Truth(ended.status == 0));
+        }
+        match ended.status {
+            0 => assert!(frames(&bytes) == frames(&good), "mutation {} has other frames", number),
+            1 | 3 => ended.says(ended.status, &[]),
+            other => panic!("mutation {} has status {}: {}", number, other, ended.err),
+        }
+        statuses[ended.status as usize] += 1;
+    }
+    assert!(statuses[0] > 0 && statuses[1] > 0 && statuses[3] > 200, "{:?}", statuses);
+}
+
+/// The bytes of each frame of a file of 16 by 18 bytes in three planes, where it is one: read apart from the command.
+fn frames(file: &[u8]) -> Option<Vec<Vec<u8>>> {
+    let mut lines = file.splitn(2, |byte| *byte == b'\n');
+    let (header, mut rest) = (String::from_utf8_lossy(lines.next()?).into_owned(), lines.next()?);
+    let side = |tag: char| header.split(' ').skip(1).find_map(|word| word.strip_prefix(tag))?.parse::<usize>().ok();
+    if (side('W')?, side('H')?) != (16, 18) || !header.contains(" C444") {
+        return None;
+    }
+    let mut list = Vec::new();
+    while !rest.is_empty() {
+        let end = rest.iter().position(|byte| *byte == b'\n')?;
+        let frame = rest.get(end + 1..end + 1 + 3 * 16 * 18)?;
+        list.push(frame.to_vec());
+        rest = &rest[end + 1 + frame.len()..];
+    }
+    Some(list)
+}
+
+fn mutated(r: &mut Random, good: &[u8], header: usize) -> Vec<u8> {
+    let mut bytes = good.to_vec();
+    for _ in 0..1 + r.below(3) {
+        let end = if r.below(4) > 0 { header.min(bytes.len()) } else { bytes.len() };
+        if end == 0 {
+            break;
+        }
+        let at = r.below(end);
+        match r.below(8) {
+            0 => bytes[at] ^= 1 << r.below(8),
+            1 => bytes[at] = [0, b'\n', b' ', b'-', b'9', 255, b'W', b'C'][r.below(8)],
+            2 => drop(bytes.remove(at)),
+            3 => bytes.insert(at, r.next() as u8),
+            4 => bytes.truncate(at),
+            5 => {
+                let part = bytes[at..(at + 1 + r.below(20)).min(bytes.len())].to_vec();
+                bytes.splice(at..at, part);
+            }
+            6 => {
+                let number = [&b"99999999999999999999"[..], b"-1", b"4294967295", b"8192", b"0", b""][r.below(6)];
+                bytes.splice(at..(at + 2).min(bytes.len()), number.iter().copied());
+            }
+            _ => drop(bytes.drain(at..(at + 1 + r.below(40)).min(bytes.len()))),
+        }
+    }
+    bytes
+}

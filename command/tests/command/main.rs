@@ -1,0 +1,13 @@
+//! The command from end to end: files in, reports, messages and statuses out.
+
+mod documented;
+mod files;
+mod hostile;
+mod json;
+mod limits;
+mod published;
+mod reports;
+mod run;
+mod scores;
+mod usage;
+mod video;

@@ -1,0 +1,234 @@
+//! Good runs: each figure is the library's own, to the bit, for every format.
+
+use crate::json::Json;
+use crate::run::{run, run_fed, run_in, Room};
+use crate::video::{Plane, Video};
+use crate::words;
+use fuavelino::{Kernel, Pair, PlaneKind, PsnrMetrics, Sample, Scratch, Shape};
+
+/// Sides, depth, chroma: bytes and words, odd sides, and the least that each score takes.
+const FORMATS: [(usize, usize, u32, &str); 12] = [
+    (48, 40, 8, "420"),
+    (49, 41, 8, "420"),
+    (33, 35, 8, "422"),
+    (32, 17, 8, "444"),
+    (16, 16, 8, "444"),
+    (31, 31, 8, "420"),
+    (37, 19, 8, "400"),
+    (40, 48, 10, "420"),
+    (33, 33, 9, "422"),
+    (17, 21, 12, "444"),
+    (19, 16, 10, "400"),
+    (31, 32, 12, "420"),
+];
+
+/// The figures of two planes by direct calls, under the reports' names.
+fn figures<T: Sample>(a: &[T], b: &[T], shape: Shape, kind: PlaneKind) -> Vec<(String, f64)> {
+    let [a, b] = [a, b].map(|data| fuavelino::Plane { data, stride: shape.width });
+    let mut scratch = Scratch::new();
+    let record = fuavelino::squared_error(a, b, shape).unwrap();
+    let kernel = Kernel::for_plane(shape.width, shape.height);
+    let pair = fuavelino::ssim(a, b, shape, &kernel, &mut scratch).unwrap();
+    let five = fuavelino::msssim(a, b, shape, &mut scratch).unwrap();
+    let hvs = fuavelino::psnr_hvs(a, b, shape, kind).unwrap();
+    let mut list = error(&record);
+    list.extend(pairs(&pair, &five));
+    list.push(("hvs".to_string(), hvs));
+    list
+}
+
+fn error(record: &PsnrMetrics) -> Vec<(String, f64)> {
+    let (n, max) = (record.n_pixels as f64, f64::from(record.sample_max));
+    let names = ["sq_err", "n_pixels", "sample_max", "mse"].map(str::to_string);
+    names.into_iter().zip([record.sq_err, n, max, record.sq_err / n]).collect()
+}
+
+fn pairs(pair: &Pair, five: &[Pair; 5]) -> Vec<(String, f64)> {
+    let mut list = vec![("ssim".to_string(), pair.ssim), ("cs".to_string(), pair.cs)];
+    for (scale, pair) in five.iter().enumerate() {
+        list.push((format!("scale{}_ssim", scale + 1), pair.ssim));
+        list.push((format!("scale{}_cs", scale + 1), pair.cs));
+    }
+    list
+}
+
+fn plane_figures(a: &Plane, b: &Plane, depth: u32, number: usize) -> Vec<(String, f64)> {
+    let shape = Shape { width: a.width, height: a.height, bit_depth: depth };
+    let kind = [PlaneKind::Y, PlaneKind::U, PlaneKind::V][number];
+    if depth > 8 {
+        figures(&a.samples, &b.samples, shape, kind)
+    } else {
+        let bytes = |plane: &Plane| plane.samples.iter().map(|s| *s as u8).collect::<Vec<u8>>();
+        figures(&bytes(a), &bytes(b), shape, kind)
+    }
+}
+
+/// Each figure of the report has the same bits.
+fn same(report: &Json, wanted: &[(String, f64)]) {
+    for (name, value) in wanted {
+        let told = report.at(name).number();
+        assert_eq!(told.to_bits(), value.to_bits(), "{} is {:?}, not {:?}", name, told, value);
+    }
+}
+
+fn named(list: &[(String, f64)], name: &str) -> f64 {
+    list.iter().find(|pair| pair.0 == name).unwrap().1
+}
+
+/// A frame's combination, from its planes' figures by direct calls.
+fn combined(planes: &[Vec<(String, f64)>], chroma: &str) -> Vec<(String, f64)> {
+    let weight = match chroma {
+        "420" => 0.25,
+        "422" => 0.5,
+        "444" => 1.0,
+        _ => 0.0,
+    };
+    let of = |name: &str| {
+        let value = |number: usize| planes.get(number).map_or(0.0, |plane| named(plane, name));
+        [value(0), value(1), value(2)]
+    };
+    let mut list = Vec::new();
+    for (name, _) in &planes[0][4..] {
+        let [y, u, v] = of(name);
+        let value = if name == "hvs" {
+            fuavelino::combine_hvs(weight, y, u, v).unwrap()
+        } else {
+            let (sum, over) = fuavelino::combine_ssim(weight, y, u, v).unwrap();
+            sum / over
+        };
+        list.push((name.clone(), value));
+    }
+    let add = |name: &str| planes.iter().map(|plane| named(plane, name)).sum::<f64>();
+    list.extend([("sq_err".to_string(), add("sq_err")), ("n_pixels".to_string(), add("n_pixels"))]);
+    list
+}
+
+#[test]
+fn each_format_gives_the_librarys_figures() {
+    let room = Room::new("formats");
+    for (number, (width, height, depth, chroma)) in FORMATS.into_iter().enumerate() {
+        let original = Video::new(width, height, depth, chroma, 2, number as u64);
+        let decoded = original.noisy(100 + number as u64);
+        let (a, b) = (room.file("a.y4m", &original.y4m()), room.file("b.y4m", &decoded.y4m()));
+        let ended = run(&words!["compare", &a, &b, "--json"]);
+        let report = Json::read(ended.passes());
+        assert_eq!(report.at("passed"), &Json::Truth(true));
+        assert_eq!(report.at("format").at("chroma").text(), chroma);
+        assert_eq!(report.at("format").at("bit_depth").number(), f64::from(depth));
+        let frames = report.at("frames").list();
+        assert_eq!(frames.len(), 2);
+        for (frame, told) in frames.iter().enumerate() {
+            assert_eq!(told.at("frame").number(), frame as f64);
+            let (these, those) = (&original.frames[frame], &decoded.frames[frame]);
+            let each: Vec<_> = (0..these.len()).map(|p| plane_figures(&these[p], &those[p], depth, p)).collect();
+            let planes = told.at("planes").list();
+            assert_eq!(planes.len(), each.len());
+            for (plane, wanted) in planes.iter().zip(&each) {
+                same(plane, wanted);
+            }
+            same(told.at("combined"), &combined(&each, chroma));
+        }
+    }
+}
+
+#[test]
+fn the_squared_error_is_the_sum_over_the_samples() {
+    let room = Room::new("squared");
+    let original = Video::new(17, 16, 10, "422", 1, 5);
+    let decoded = original.noisy(6);
+    let (a, b) = (room.file("a.y4m", &original.y4m()), room.file("b.y4m", &decoded.y4m()));
+    let ended = run(&words!["compare", a, b, "--json", "--metrics=error"]);
+    let report = Json::read(ended.passes());
+    for (number, plane) in report.at("frames").list()[0].at("planes").list().iter().enumerate() {
+        let (these, those) = (&original.frames[0][number].samples, &decoded.frames[0][number].samples);
+        let square = |(a, b): (&u16, &u16)| (i64::from(*a) - i64::from(*b)).pow(2);
+        let sum: i64 = these.iter().zip(those).map(square).sum();
+        assert!(sum > 0);
+        assert_eq!(plane.at("sq_err").number(), sum as f64);
+        assert_eq!(plane.at("identical"), &Json::Truth(false));
+        assert!(!plane.names().contains(&"ssim"));
+    }
+}
+
+#[test]
+fn a_run_totals_errors_and_takes_means_of_the_rest() {
+    let room = Room::new("means");
+    let original = Video::new(33, 34, 8, "420", 5, 7);
+    let decoded = original.noisy(8);
+    let (a, b) = (room.file("a.y4m", &original.y4m()), room.file("b.y4m", &decoded.y4m()));
+    let ended = run(&words!["compare", a, b, "--json"]);
+    let report = Json::read(ended.passes());
+    let (frames, run) = (report.at("frames").list(), report.at("run"));
+    assert_eq!(run.at("frames").number(), 5.0);
+    for plane in 0..3 {
+        let told = &run.at("planes").list()[plane];
+        let add = |name: &str| frames.iter().map(|f| f.at("planes").list()[plane].at(name).number()).sum::<f64>();
+        for name in ["sq_err", "n_pixels"] {
+            assert_eq!(told.at(name).number(), add(name));
+        }
+        for name in ["ssim", "cs", "scale1_ssim", "scale5_cs", "hvs"] {
+            assert_eq!(told.at(name).number().to_bits(), (add(name) / 5.0).to_bits(), "{}", name);
+        }
+    }
+    let whole = |name: &str| frames.iter().map(|f| f.at("combined").at(name).number()).sum::<f64>();
+    assert_eq!(run.at("combined").at("sq_err").number(), whole("sq_err"));
+    let near = |name: &str| (run.at("combined").at(name).number() - whole(name) / 5.0).abs() < 1e-12;
+    assert!(near("ssim") && near("scale3_cs") && near("hvs"));
+}
+
+#[test]
+fn identical_files_say_identical_and_100() {
+    let room = Room::new("identical");
+    for chroma in ["420", "400"] {
+        let video = Video::new(32, 32, 8, chroma, 2, 9);
+        let a = room.file("a.y4m", &video.y4m());
+        let words = words!["compare", &a, &a, "--json", "--min-psnr", "1000", "--max-error", "0", "--max-hvs", "0"];
+        let ended = run(&words);
+        let report = Json::read(ended.passes());
+        let combined = report.at("run").at("combined");
+        assert_eq!(combined.at("identical"), &Json::Truth(true));
+        assert_eq!(combined.at("psnr_db").number(), 100.0);
+        assert_eq!(combined.at("hvs_db").number(), 100.0);
+        assert!(run(&words!["compare", &a, &a]).passes().contains("every frame is identical (PSNR 100)"));
+    }
+}
+
+/// More frames than one series has places for, in memory that does not grow with them.
+#[test]
+fn a_run_may_be_longer_than_a_series() {
+    let room = Room::new("series");
+    let (count, frame) = (70_000, 64);
+    let a = room.file("a.yuv", &vec![7; count * frame]);
+    let b = room.file("b.yuv", &vec![9; count * frame]);
+    let script =
+        "ulimit -v 200000; exec \"$0\" \"$@\" --size=8x8 --depth=8 --chroma=400 --metrics=error --csv | tail -n 2";
+    let ended = run_in(script, &words!["compare", a, b]);
+    let n = count * frame;
+    let figures = format!("{:?},{},255,false,4.0,", (4 * n) as f64, n);
+    let rows: Vec<&str> = ended.passes().lines().collect();
+    assert!(rows[0].starts_with(&format!("run,,y,{}", figures)), "{}", rows[0]);
+    assert!(rows[1].starts_with(&format!("run,,combined,{}", figures)), "{}", rows[1]);
+}
+
+#[test]
+fn raw_files_and_a_pipe_give_what_y4m_gives() {
+    let room = Room::new("raw");
+    for (width, height, depth, chroma) in
+        [(33, 33, 8, "420"), (31, 17, 10, "422"), (16, 16, 12, "400"), (18, 18, 5, "444")]
+    {
+        let original = Video::new(width, height, depth, chroma, 3, 10);
+        let decoded = original.noisy(11);
+        let (a, b) = (room.file("a.yuv", &original.raw()), room.file("b.yuv", &decoded.raw()));
+        let (size, depth_word) = (format!("{}x{}", width, height), depth.to_string());
+        let told = words!["--size", &size, "--depth", &depth_word, "--chroma", chroma, "--csv"];
+        let raw = run(&[&words!["compare", &a, &b][..], &told].concat());
+        let fed = run_fed(&[&words!["compare", "-", &b][..], &told].concat(), &original.raw());
+        assert_eq!(raw.passes(), fed.passes());
+        assert_eq!(raw.out.lines().count(), 1 + 4 * (original.frames[0].len() + 1));
+        if depth >= 8 {
+            let (c, d) = (room.file("a.y4m", &original.y4m()), room.file("b.y4m", &decoded.y4m()));
+            assert_eq!(run(&words!["compare", &c, &d, "--csv"]).passes(), raw.out);
+            assert_eq!(run_fed(&words!["compare", &c, "-", "--csv"], &decoded.y4m()).passes(), raw.out);
+        }
+    }
+}

@@ -1,0 +1,92 @@
+//! Wrong use: status 2, a message, and nothing compared.
+
+use crate::run::{run, Room};
+use crate::video::Video;
+use crate::words;
+
+/// Words about a file, and what is said of them.
+fn wrong(a: &str) -> Vec<(Vec<&str>, &'static str)> {
+    vec![
+        (vec![], "--help"),
+        (vec!["judge"], "no command"),
+        (vec!["compare"], "two files"),
+        (vec!["compare", a], "two files"),
+        (vec!["compare", a, a, a], "two files"),
+        (vec!["compare", "-", "-"], "standard input"),
+        (vec!["compare", a, a, "--speed"], "no option"),
+        (vec!["compare", a, a, "--json", "--csv"], "not both"),
+        (vec!["compare", a, a, "--json=1"], "takes no value"),
+        (vec!["compare", a, a, "--output"], "takes a value"),
+        (vec!["compare", a, a, "--metrics", ""], "--metrics"),
+        (vec!["compare", a, a, "--metrics", "error,"], "--metrics"),
+        (vec!["compare", a, a, "--metrics", "psnr"], "--metrics"),
+        (vec!["compare", a, a, "--metrics", "ssim,ssim"], "--metrics"),
+        (vec!["compare", a, a, "--min-ssim", "0.5", "--min-ssim", "0.6"], "given twice"),
+        (vec!["compare", a, a, "--metrics", "error", "--min-ssim", "0.5"], "needs ssim"),
+        (vec!["compare", a, a, "--metrics", "ssim", "--min-scale", "0.5"], "needs scales"),
+        (vec!["compare", a, a, "--metrics", "ssim", "--max-error", "0.5"], "needs error"),
+        (vec!["compare", a, a, "--metrics", "ssim", "--min-psnr", "0.5"], "needs error"),
+        (vec!["compare", a, a, "--metrics", "ssim", "--max-hvs", "0.5"], "needs hvs"),
+        (vec!["compare", a, a, "--size", "8x8"], "need all of"),
+        (vec!["compare", a, a, "--depth", "8"], "need all of"),
+        (vec!["compare", a, a, "--size", "8", "--depth", "8", "--chroma", "420"], "--size takes"),
+        (vec!["compare", a, a, "--size", "8x-8", "--depth", "8", "--chroma", "420"], "--size takes"),
+        (vec!["compare", a, a, "--size", "8x8", "--depth", "13", "--chroma", "420"], "--depth takes"),
+        (vec!["compare", a, a, "--size", "8x8", "--depth", "0", "--chroma", "420"], "--depth takes"),
+        (vec!["compare", a, a, "--size", "8x8", "--depth", "8", "--chroma", "411"], "--chroma takes"),
+        (vec!["compare", a, a, "--output", a], "--output names a file that is to be compared"),
+        (vec!["clip", "pattern"], "clip takes"),
+        (vec!["clip", "noise", "x"], "a clip is"),
+        (vec!["clip", "pattern", "x", "--depth", "11"], "no name for depth 11"),
+        (vec!["clip", "pattern", "x", "--frames", "0"], "--frames takes"),
+        (vec!["clip", "pattern", "x", "--size", "0x5"], "refusal 2"),
+    ]
+}
+
+#[test]
+fn wrong_words_are_told() {
+    let room = Room::new("words");
+    let bytes = Video::new(32, 32, 8, "420", 1, 31).y4m();
+    let a = room.file("a.y4m", &bytes);
+    let a = a.to_str().unwrap();
+    for (words, message) in wrong(a) {
+        let ended = run(&words);
+        ended.says(2, &[message]);
+        assert_eq!(ended.out, "");
+    }
+    assert_eq!(std::fs::read(a).unwrap(), bytes);
+    // raw files of a size that no score takes: the library's refusal
+    let wide = ["compare", a, a, "--size", "8193x8", "--depth", "8", "--chroma", "420"];
+    run(&wide).says(3, &["8193x8", "refusal 2"]);
+}
+
+#[test]
+fn a_threshold_must_be_a_finite_number() {
+    let room = Room::new("numbers");
+    let a = room.file("a.y4m", &Video::new(32, 32, 8, "420", 1, 32).y4m());
+    for option in ["--max-error", "--min-psnr", "--min-ssim", "--min-cs", "--min-scale", "--max-hvs"] {
+        for number in ["nan", "NaN", "-nan", "inf", "-inf", "infinity", "1e999", "-1e999", "", "x", "0,9", "1 "] {
+            let ended = run(&words!["compare", &a, &a, option, number]);
+            ended.says(2, &[option, "takes a finite number"]);
+            assert_eq!(ended.out, "");
+        }
+    }
+}
+
+#[test]
+fn help_and_version() {
+    for word in ["--help", "-h", "help"] {
+        assert!(run(&[word]).passes().contains("fuavelino compare ORIGINAL DECODED"));
+    }
+    assert!(run(&["compare", "--help"]).passes().contains("--min-ssim"));
+    assert!(run(&["clip", "--help"]).passes().contains("damaged"));
+    assert!(run(&["--version"]).passes().starts_with("fuavelino 0."));
+}
+
+#[test]
+fn words_after_two_dashes_are_files() {
+    let room = Room::new("dashes");
+    let a = room.file("a.y4m", &Video::new(32, 32, 8, "420", 1, 33).y4m());
+    run(&words!["compare", "--metrics=error", "--", &a, &a]).passes();
+    run(&words!["compare", "--", &a, "--json"]).says(3, &["--json: cannot open"]);
+}
