@@ -1,64 +1,79 @@
-//! The product beside the published Rust, in one run: each side's best time of many rounds, taken in turn, and the ratio.
+//! The product beside the published Rust, in one run: each side's best time of many rounds, taken in turn, and the ratio. And what the
+//! product's scores cost as planes and kernels grow.
+//!
+//! speed [NAME..]
 
 #[allow(dead_code)]
 mod random;
 
-use fuavelino::{lent, Pair, PlaneKind, PsnrMetrics, Shape};
+use fuavelino::{lent, Pair, PlaneKind, PsnrMetrics, Sample, Shape};
 use published::plane::Plane;
+use published::video::pixel::Pixel;
 use published::video::{psnr, psnr_hvs, ssim};
 use random::Random;
-use std::time::Instant;
+use std::time::{Duration, Instant};
 
 /// Hides a value from the optimiser: `std::hint` has this only since Rust 1.66.
 fn black_box<T: Copy>(x: T) -> T {
     unsafe { std::ptr::read_volatile(&x) }
 }
 
-const ROUNDS: usize = 60;
+/// A side is timed at least and at most so often, and no longer than this once it has been timed often enough.
+const FEWEST: usize = 7;
+const MOST: usize = 60;
+const PATIENCE: Duration = Duration::from_secs(6);
 
 type Named = (&'static str, fn());
 
-const ALL: [Named; 6] = [
+const ALL: [Named; 7] = [
     ("root", root),
     ("forward", forward),
-    ("squared", squared),
-    ("ssim", similarity),
-    ("hvs", visual),
-    ("scales", scales),
+    ("squared", || at_both_sizes(squared, squared)),
+    ("ssim", || at_both_sizes(similarity, similarity)),
+    ("hvs", || at_both_sizes(visual, visual)),
+    ("scales", || at_both_sizes(scales, scales)),
+    ("growth", growth),
 ];
-
-/// The sides of the planes.
-const WIDTH: usize = 640;
-const HEIGHT: usize = 360;
-const COUNT: usize = WIDTH * HEIGHT;
 
 fn main() {
     let names: Vec<String> = std::env::args().skip(1).collect();
+    if let Some(name) = names.iter().find(|name| ALL.iter().all(|known| known.0 != **name)) {
+        eprintln!("speed: no {}; there are {}", name, ALL.map(|known| known.0).join(", "));
+        std::process::exit(2);
+    }
     for (name, run) in ALL.iter().filter(|n| names.is_empty() || names.iter().any(|w| w == n.0)) {
-        print!("{}: ", name);
+        println!("{}", name);
         run();
     }
 }
 
 /// The best time of each side over so many operations, in nanoseconds an operation; the other is what the product is held to.
-fn beside(count: usize, other_name: &str, mut product: impl FnMut(), mut other: impl FnMut()) {
+fn beside(what: &str, count: usize, other_name: &str, mut product: impl FnMut(), mut other: impl FnMut()) {
     let mut best = [f64::MAX; 2];
-    for _ in 0..ROUNDS {
-        let began = Instant::now();
-        product();
-        best[0] = best[0].min(began.elapsed().as_secs_f64());
-        let began = Instant::now();
-        other();
-        best[1] = best[1].min(began.elapsed().as_secs_f64());
+    let start = Instant::now();
+    for round in 0..MOST {
+        if round >= FEWEST && start.elapsed() > PATIENCE {
+            break;
+        }
+        best[0] = best[0].min(once(&mut product));
+        best[1] = best[1].min(once(&mut other));
     }
     let each = |i: usize| best[i] * 1e9 / count as f64;
-    println!("product {:.2} ns, {} {:.2} ns, ratio {:.2}", each(0), other_name, each(1), best[0] / best[1]);
+    println!("  {}: product {:.2} ns, {} {:.2} ns, ratio {:.2}", what, each(0), other_name, each(1), best[0] / best[1]);
+}
+
+/// The seconds that one run takes.
+fn once(run: &mut impl FnMut()) -> f64 {
+    let began = Instant::now();
+    run();
+    began.elapsed().as_secs_f64()
 }
 
 /// Random normal numbers; beside the quick guess alone, as the product makes it.
 fn root() {
     let mut r = Random::of(1, "speed", 0);
-    let list: Vec<f64> = (0..100_000).map(|_| f64::from_bits((1 + r.below(2_046) as u64) << 52 | r.next() >> 12)).collect();
+    let list: Vec<f64> =
+        (0..100_000).map(|_| f64::from_bits((1 + r.below(2_046) as u64) << 52 | r.next() >> 12)).collect();
     let product = || {
         let mut out = 0.0;
         for x in &list {
@@ -70,7 +85,7 @@ fn root() {
             black_box(guess(black_box(*x)));
         }
     };
-    beside(list.len(), "guess alone", product, other);
+    beside("random numbers", list.len(), "guess alone", product, other);
 }
 
 #[inline(never)]
@@ -101,93 +116,126 @@ fn forward() {
             black_box(&block);
         }
     };
-    beside(blocks.len(), "published", product, other);
+    beside("one block", blocks.len(), "published", product, other);
 }
 
-/// Two planes of bytes: a sloping picture with some noise, and the same with other noise.
-fn planes() -> [Plane<u8>; 2] {
-    let mut r = Random::of(1, "speed", 2);
-    [0, 1].map(|_| {
-        let sample = |i: usize| ((i % WIDTH + i / WIDTH) / 5 + r.below(40)) as u8;
-        Plane::new((0..COUNT).map(sample).collect(), WIDTH, HEIGHT)
-    })
+/// Two planes: a sloping picture with some noise, and the same with other noise.
+struct Scene<T> {
+    planes: [Plane<T>; 2],
+    shape: Shape,
 }
 
-/// One of them as the product takes it.
-fn lend(plane: &Plane<u8>) -> fuavelino::Plane<'_, u8> {
-    fuavelino::Plane { data: &plane.data, stride: plane.cfg.stride }
+impl<T: Sample + Pixel> Scene<T> {
+    fn new(width: usize, height: usize, bit_depth: u32, of: fn(usize) -> T) -> Scene<T> {
+        let mut r = Random::of(1, "speed", 2);
+        let largest = (1 << bit_depth) - 1;
+        let noise = largest / 6;
+        let planes = [0, 1].map(|_| {
+            let sample = |i: usize| of((i % width + i / width) / 5 % (largest - noise) + r.below(noise));
+            Plane::new((0..width * height).map(sample).collect(), width, height)
+        });
+        Scene { planes, shape: Shape { width, height, bit_depth } }
+    }
+
+    fn count(&self) -> usize {
+        self.shape.width * self.shape.height
+    }
+
+    /// The planes and their shape as the product takes them.
+    fn lent(&self) -> [fuavelino::Plane<'_, T>; 2] {
+        [&self.planes[0], &self.planes[1]].map(|plane| fuavelino::Plane { data: &plane.data, stride: plane.cfg.stride })
+    }
+
+    /// The samples as the published code takes them for SSIM.
+    fn wider(&self) -> [Vec<u32>; 2] {
+        [&self.planes[0], &self.planes[1]].map(|plane| plane.data.iter().map(|s| u32::from(s.word())).collect())
+    }
+
+    fn largest(&self) -> u64 {
+        (1 << self.shape.bit_depth) - 1
+    }
+
+    fn show(&self) -> String {
+        format!("{} × {} of {} bits", self.shape.width, self.shape.height, self.shape.bit_depth)
+    }
 }
 
-fn shape() -> Shape {
-    Shape { width: black_box(WIDTH), height: black_box(HEIGHT), bit_depth: 8 }
+fn bytes(width: usize, height: usize) -> Scene<u8> {
+    Scene::new(width, height, 8, |s| s as u8)
 }
 
-/// Time for each sample.
-fn squared() {
-    let [a, b] = planes();
-    let (x, y) = (lend(&a), lend(&b));
-    let product = || {
-        let mut record = PsnrMetrics::default();
-        assert_eq!(lent::squared_error(x, y, shape(), &mut record), Ok(()));
-        black_box(record);
-    };
+/// The time for each sample, of bytes and of words.
+fn at_both_sizes(of_bytes: fn(&Scene<u8>), of_words: fn(&Scene<u16>)) {
+    of_bytes(&bytes(640, 360));
+    of_words(&Scene::new(1_920, 1_080, 10, |s| s as u16));
+}
+
+fn squared<T: Sample + Pixel>(scene: &Scene<T>) {
+    let [a, b] = &scene.planes;
     let other = || {
-        black_box(psnr::probe_squared_error(black_box(&a), black_box(&b)));
+        black_box(psnr::probe_squared_error(black_box(a), black_box(b)));
     };
-    beside(COUNT, "published", product, other);
+    beside(&scene.show(), scene.count(), "published", run_squared(scene), other);
 }
 
-/// Time for each sample, with the 15 taps that the published code builds for 405 rows. It is lent planes of wider samples, made beforehand.
-fn similarity() {
-    let [a, b] = planes();
+fn run_squared<T: Sample + Pixel>(scene: &Scene<T>) -> impl FnMut() + '_ {
+    let [x, y] = scene.lent();
+    move || {
+        let mut record = PsnrMetrics::default();
+        assert_eq!(lent::squared_error(x, y, black_box(scene.shape), &mut record), Ok(()));
+        black_box(record);
+    }
+}
+
+/// With the 15 taps that the published code builds for 405 rows. It is lent planes of wider samples, made beforehand.
+fn similarity<T: Sample + Pixel>(scene: &Scene<T>) {
     let kernel = ssim::probe_kernel(405.0 * 1.5 / 256.0, 405, 256);
     assert_eq!(kernel.len(), 15);
     let taps: Vec<u16> = kernel.iter().map(|t| *t as u16).collect();
-    let [u, v] = [&a, &b].map(|p| p.data.iter().map(|s| u32::from(*s)).collect::<Vec<u32>>());
-    let (x, y) = (lend(&a), lend(&b));
-    let mut scratch = vec![0i64; 6 * WIDTH * 16];
-    let product = || {
+    let [u, v] = scene.wider();
+    let Shape { width, height, .. } = scene.shape;
+    let other = || {
+        black_box(ssim::probe_pair(black_box(&u), black_box(&v), width, height, scene.largest(), black_box(&kernel)));
+    };
+    beside(&scene.show(), scene.count(), "published", run_ssim(scene, &taps), other);
+}
+
+fn run_ssim<'a, T: Sample + Pixel>(scene: &'a Scene<T>, taps: &'a [u16]) -> impl FnMut() + 'a {
+    let [x, y] = scene.lent();
+    let mut scratch = vec![0i64; 6 * scene.shape.width * taps.len().next_power_of_two()];
+    move || {
         let mut pair = Pair::default();
-        assert_eq!(lent::ssim(x, y, shape(), &taps, &mut scratch, &mut pair), Ok(()));
+        assert_eq!(lent::ssim(x, y, black_box(scene.shape), taps, &mut scratch, &mut pair), Ok(()));
         black_box(pair);
-    };
-    let other = || {
-        black_box(ssim::probe_pair(black_box(&u), black_box(&v), WIDTH, HEIGHT, 255, black_box(&kernel)));
-    };
-    beside(COUNT, "published", product, other);
+    }
 }
 
-/// Time for each sample, of luma.
-fn visual() {
-    let [a, b] = planes();
-    let (x, y) = (lend(&a), lend(&b));
-    let product = || {
+/// Of luma.
+fn visual<T: Sample + Pixel>(scene: &Scene<T>) {
+    let [a, b] = &scene.planes;
+    let depth = scene.shape.bit_depth as usize;
+    let other = || {
+        black_box(psnr_hvs::probe_plane(black_box(a), black_box(b), 0, depth));
+    };
+    beside(&scene.show(), scene.count(), "published", run_hvs(scene), other);
+}
+
+fn run_hvs<T: Sample + Pixel>(scene: &Scene<T>) -> impl FnMut() + '_ {
+    let [x, y] = scene.lent();
+    move || {
         let mut score = 0.0;
-        assert_eq!(lent::psnr_hvs(x, y, shape(), PlaneKind::Y, &mut score), Ok(()));
+        assert_eq!(lent::psnr_hvs(x, y, black_box(scene.shape), PlaneKind::Y, &mut score), Ok(()));
         black_box(score);
-    };
-    let other = || {
-        black_box(psnr_hvs::probe_plane(black_box(&a), black_box(&b), 0, 8));
-    };
-    beside(COUNT, "published", product, other);
+    }
 }
 
-/// Time for each sample of the first scale; the published side is its own five pairs, without the power product.
-fn scales() {
-    let [a, b] = planes();
-    let (x, y) = (lend(&a), lend(&b));
-    let mut scratch = vec![0i64; 96 * WIDTH];
-    let [mut p, mut q] = [vec![0u32; COUNT], vec![0u32; COUNT]];
-    let product = || {
-        let mut pairs = [Pair::default(); 5];
-        assert_eq!(lent::msssim(x, y, shape(), &mut scratch, &mut p, &mut q, &mut pairs), Ok(()));
-        black_box(pairs);
-    };
+/// For each sample of the first scale; the published side is its own five pairs, without the power product.
+fn scales<T: Sample + Pixel>(scene: &Scene<T>) {
     let kernel = ssim::probe_kernel(1.5, 5, 1_024);
-    let wide = |plane: &Plane<u8>| plane.data.iter().map(|s| u32::from(*s)).collect::<Vec<u32>>();
-    let (u, v) = (wide(&a), wide(&b));
+    let [u, v] = scene.wider();
     let other = || {
-        let (mut u, mut v, mut w, mut h, mut max) = (u.clone(), v.clone(), WIDTH, HEIGHT, 255);
+        let (mut u, mut v, mut w, mut h) = (u.clone(), v.clone(), scene.shape.width, scene.shape.height);
+        let mut max = scene.largest();
         for scale in 0..5 {
             if scale > 0 {
                 u = ssim::probe_downscale(&u, w, h);
@@ -199,5 +247,66 @@ fn scales() {
             black_box(ssim::probe_pair(black_box(&u), black_box(&v), w, h, max, black_box(&kernel)));
         }
     };
-    beside(COUNT, "published", product, other);
+    beside(&scene.show(), scene.count(), "published", run_scales(scene), other);
+}
+
+fn run_scales<T: Sample + Pixel>(scene: &Scene<T>) -> impl FnMut() + '_ {
+    let [x, y] = scene.lent();
+    let mut scratch = vec![0i64; 96 * scene.shape.width];
+    let mut rooms = [vec![0u32; scene.count()], vec![0u32; scene.count()]];
+    move || {
+        let mut pairs = [Pair::default(); 5];
+        let [p, q] = &mut rooms;
+        assert_eq!(lent::msssim(x, y, black_box(scene.shape), &mut scratch, p, q, &mut pairs), Ok(()));
+        black_box(pairs);
+    }
+}
+
+/// The product alone, as one side or the count of taps doubles: where the cost is linear, the time for each sample (and tap) stays.
+fn growth() {
+    for width in [160, 320, 640, 1_280, 2_560] {
+        grown(&bytes(width, 360));
+    }
+    for height in [90, 180, 360, 720, 1_440] {
+        grown(&bytes(640, height));
+    }
+    let scene = bytes(640, 360);
+    for count in [7, 15, 31, 63, 127, 255] {
+        let taps = level(count);
+        let each = alone(scene.count(), run_ssim(&scene, &taps));
+        println!("  SSIM of {} taps: {:.2} ns a sample, {:.2} ns a sample and tap", count, each, each / count as f64);
+    }
+}
+
+fn grown(scene: &Scene<u8>) {
+    let taps = level(15);
+    let n = scene.count();
+    let times = [
+        alone(n, run_squared(scene)),
+        alone(n, run_ssim(scene, &taps)),
+        alone(n, run_scales(scene)),
+        alone(n, run_hvs(scene)),
+    ];
+    let [error, ssim, scales, hvs] = times;
+    println!(
+        "  {}: squared error {:.2}, SSIM of 15 taps {:.2}, five scales {:.2}, HVS {:.2} ns a sample",
+        scene.show(),
+        error,
+        ssim,
+        scales,
+        hvs
+    );
+}
+
+/// A lawful kernel of so many taps, none of them 0: as level as whole numbers allow.
+fn level(count: usize) -> Vec<u16> {
+    let mut taps = vec![(256 / count) as u16; count];
+    taps[count / 2] += (256 % count) as u16;
+    taps
+}
+
+/// The best time of one side, in nanoseconds an operation.
+fn alone(count: usize, mut run: impl FnMut()) -> f64 {
+    let best = (0..15).map(|_| once(&mut run)).fold(f64::MAX, f64::min);
+    best * 1e9 / count as f64
 }
