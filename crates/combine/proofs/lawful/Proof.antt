@@ -15,7 +15,7 @@ finite-requires-3 c κs = search needs
 
 returns : tie.Need-returns
 unfolding combinable
-returns c = rw (← (c .before .before .finite .ensures), ← (c .before .finite2 .ensures), ← (c .finite3 .ensures))
+returns c = rw (c .before .before .finite .ensures, c .before .finite2 .ensures, c .finite3 .ensures)
 
 pub lawful-spec : {M : Type 1} → statement M
 lawful-spec = tie.close (tie.spec finite-requires finite-requires-2 finite-requires-3 returns)
