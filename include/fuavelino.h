@@ -1,7 +1,7 @@
 /* Plane-level video quality scores whose every promise is proved: the calls of libfuavelino.a.
  *
- * Each call answers 0 and writes its result, or answers the lowest refusal number that applies of its own and writes nothing at all. Any
- * numbers may be passed; no caller checks first. What is asked of the caller:
+ * Each call answers 0 and writes its result, or answers the lowest refusal number that applies of its own and writes nothing, but that 9
+ * leaves scratch as acceptance does. Any numbers may be passed; no caller checks first. What is asked of the caller:
  *   - a pointer is not null and is aligned, also where its count is 0;
  *   - the places that a count promises are there;
  *   - what a call writes overlaps nothing else that it is lent. Planes may overlap each other.

@@ -5,6 +5,15 @@ use std::f64::consts::{E, PI};
 /// The taps of a kernel, for rows and columns alike. It holds what it is given; [`ssim`](crate::ssim) judges it, and refuses an unlawful
 /// one with 7. Lawful is: an odd count of taps from 1 to 255, each from 0 to 256, summing to 256, the same from both ends, the middle one
 /// at least 1.
+///
+/// ```
+/// use fuavelino::Kernel;
+///
+/// // for 640 by 360: 13 taps, as av-metrics builds them
+/// let kernel = Kernel::for_plane(640, 360);
+/// assert_eq!((kernel.taps().len(), kernel.taps().iter().sum::<u16>()), (13, 256));
+/// assert_eq!(Kernel::from_taps(vec![64, 128, 64]).taps(), [64, 128, 64]);
+/// ```
 #[derive(Clone, Debug, PartialEq, Eq)]
 pub struct Kernel {
     taps: Vec<u16>,

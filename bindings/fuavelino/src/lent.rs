@@ -2,6 +2,21 @@
 //!
 //! A call that refuses leaves every lent place as it was, but that refusal 9 leaves scratch as acceptance does: the needed part 0, the
 //! rest unchanged. Nothing here allocates. The functions above this module are these with the places kept for you.
+//!
+//! ```
+//! use fuavelino::{lent, Pair, Plane, Refusal, Shape};
+//!
+//! let plane = Plane { data: &[9u8; 12][..], stride: 4 };
+//! let shape = Shape { width: 4, height: 3, bit_depth: 8 };
+//! let mut pair = Pair::default();
+//! // six sums for each of 4 columns, in as many lines as the least power of two not below 3 taps
+//! let mut scratch = [7i64; 6 * 4 * 4];
+//! let short = lent::ssim(plane, plane, shape, &[64, 128, 64], &mut scratch[1..], &mut pair);
+//! assert_eq!((short, scratch), (Err(Refusal::Scratch), [7; 96]));
+//! lent::ssim(plane, plane, shape, &[64, 128, 64], &mut scratch, &mut pair)?;
+//! assert_eq!((pair.cs, scratch), (1.0, [0; 96]));
+//! # Ok::<(), Refusal>(())
+//! ```
 
 use crate::exports;
 use crate::plane::{Pair, Plane, PlaneKind, PsnrMetrics, Sample, Shape};

@@ -52,9 +52,9 @@ pub struct PsnrMetrics {
 }
 
 impl PsnrMetrics {
-    /// Whether every visible sample was the same. PSNR says 100 then.
+    /// Whether samples were compared and each was the same. PSNR says 100 then.
     pub fn is_identical(&self) -> bool {
-        self.sq_err == 0.0
+        self.n_pixels > 0 && self.sq_err == 0.0
     }
 }
 

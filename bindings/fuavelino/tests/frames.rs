@@ -72,9 +72,13 @@ fn past_the_weight() {
     assert_eq!(psnr_hvs::decibels(0.0), Some(100.0));
     assert_eq!(psnr_hvs::decibels(0.01), Some(20.0));
     assert_eq!([-1.0, f64::NAN, f64::INFINITY].map(psnr_hvs::decibels), [None; 3]);
-    let bad = PsnrMetrics { sq_err: f64::NAN, n_pixels: 3, sample_max: 255 };
-    assert_eq!(psnr::decibels(bad), Err(Refusal::Record));
-    assert_eq!(psnr::decibels(PsnrMetrics { sq_err: 0.0, ..bad }), Ok(100.0));
+    let record = PsnrMetrics { sq_err: 0.0, n_pixels: 3, sample_max: 255 };
+    assert_eq!(psnr::decibels(record), Some(100.0));
+    let bad = [f64::NAN, -1.0, f64::INFINITY].map(|sq_err| PsnrMetrics { sq_err, ..record });
+    assert_eq!(bad.map(psnr::decibels), [None; 3]);
+    // nothing was compared, so nothing is said to be identical
+    assert_eq!(psnr::decibels(PsnrMetrics::default()), None);
+    assert!(record.is_identical() && !PsnrMetrics::default().is_identical());
 }
 
 #[test]

@@ -1,8 +1,7 @@
 //! PSNR.
 
-use super::{combining, of_planes, scored, ChromaSampling, Field, Frame, MetricsError, PlanarMetrics, PERFECT};
+use super::{combining, finite, of_planes, scored, ChromaSampling, Field, Frame, MetricsError, PlanarMetrics, PERFECT};
 use crate::plane::{PsnrMetrics, Sample};
-use crate::refusal::Refusal;
 use crate::scores::{series, squared_error};
 
 /// PSNR of two frames in decibels; higher is better, and identical planes are 100. `avg` is that of all samples together.
@@ -34,20 +33,15 @@ pub fn calculate_frame_psnr<T: Sample>(
 ) -> Result<PlanarMetrics, MetricsError> {
     let records = scored(frame1, frame2, bit_depth, chroma_sampling, |a, b, shape, _| squared_error(a, b, shape))?;
     let total = series(&records[..chroma_sampling.count()]).map_err(combining)?;
-    let avg = of_total(total).ok_or(MetricsError::NotANumber { field: Field::Avg })?;
-    Ok(PlanarMetrics { avg, ..of_planes(records, of_total)? })
+    let avg = decibels(total).ok_or(MetricsError::NotANumber { field: Field::Avg })?;
+    Ok(PlanarMetrics { avg, ..of_planes(records, decibels)? })
 }
 
-/// The decibels of a record or a total. Refuses a bad record, as [`series`](crate::series) does.
-pub fn decibels(record: PsnrMetrics) -> Result<f64, Refusal> {
-    of_total(series(&[record])?).ok_or(Refusal::NotFinite)
-}
-
-/// Of a record that the library gave.
-fn of_total(total: PsnrMetrics) -> Option<f64> {
+/// The decibels of a record or a total, 100 where the error is 0; none where they would not be finite, or nothing was compared.
+pub fn decibels(total: PsnrMetrics) -> Option<f64> {
     if total.is_identical() {
         return Some(PERFECT);
     }
     let power = f64::from(total.sample_max) * f64::from(total.sample_max);
-    super::finite(10.0 * (power.log10() + (total.n_pixels as f64).log10() - total.sq_err.log10()))
+    finite(10.0 * (power.log10() + (total.n_pixels as f64).log10() - total.sq_err.log10()))
 }

@@ -14,6 +14,21 @@ const ROUNDING: f64 = 1e-6;
 
 /// SSIM of two frames in decibels; higher is better. Each plane has the kernel that its sides choose. It makes room for its own use: to
 /// keep that over many frames, lend it to [`calculate_frame_ssim_with`].
+///
+/// ```
+/// use fuavelino::video::ssim::calculate_frame_ssim;
+/// use fuavelino::video::{ChromaSampling, Frame, MetricsError, Plane, PlaneConfig};
+///
+/// let (a, b) = ([100u8; 64], [90u8; 64]);
+/// let gray = |samples| {
+///     let none = Plane { data: &[][..], cfg: PlaneConfig { width: 0, height: 0, stride: 0 } };
+///     Frame { planes: [Plane { data: samples, cfg: PlaneConfig { width: 8, height: 8, stride: 8 } }, none, none] }
+/// };
+/// let figures = calculate_frame_ssim(&gray(&a[..]), &gray(&b[..]), 8, ChromaSampling::Cs400)?;
+/// assert!(figures.y > 20.0 && figures.y < 25.0 && figures.avg == figures.y);
+/// assert_eq!(calculate_frame_ssim(&gray(&a[..]), &gray(&a[..]), 8, ChromaSampling::Cs400)?.y, 100.0);
+/// # Ok::<(), MetricsError>(())
+/// ```
 pub fn calculate_frame_ssim<T: Sample>(
     frame1: &Frame<'_, T>,
     frame2: &Frame<'_, T>,
