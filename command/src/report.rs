@@ -107,6 +107,7 @@ pub const FIELDS: [&str; 20] = [
 
 /// The figures under those names.
 pub fn values(scores: &Scores) -> Vec<Value> {
+    let double = |value: Option<f64>| value.map_or(Value::None, Value::Double);
     let mut list = match &scores.error {
         Some(record) => vec![
             Value::Double(record.sq_err),
@@ -114,11 +115,10 @@ pub fn values(scores: &Scores) -> Vec<Value> {
             Value::Whole(u64::from(record.sample_max)),
             Value::Truth(record.is_identical()),
             Value::Double(decibels::mean_error(record)),
-            Value::Double(decibels::psnr(record)),
+            double(decibels::psnr(*record)),
         ],
         None => (0..6).map(|_| Value::None).collect(),
     };
-    let double = |value: Option<f64>| value.map_or(Value::None, Value::Double);
     list.push(double(scores.ssim.map(|pair| pair.ssim)));
     list.push(double(scores.ssim.map(|pair| pair.cs)));
     for scale in 0..5 {

@@ -73,9 +73,10 @@ impl Table {
     fn row(&self, frame: &str, plane: &str, scores: &Scores) -> String {
         let mut line = format!("{:>6} {:<8}", frame, plane);
         if let Some(record) = &scores.error {
-            let psnr = match record.is_identical() {
-                true => "identical".to_string(),
-                false => format!("{:.3}", decibels::psnr(record)),
+            let psnr = match decibels::psnr(*record) {
+                _ if record.is_identical() => "identical".to_string(),
+                Some(told) => format!("{:.3}", told),
+                None => "none".to_string(),
             };
             line += &format!(" {:>12.0} {:>10.4} {:>9}", record.sq_err, decibels::mean_error(record), psnr);
         }

@@ -2,6 +2,7 @@
 
 use crate::decibels;
 use crate::score::{FrameScores, Metrics, Scores};
+use fuavelino::PsnrMetrics;
 
 /// What a threshold is held against.
 #[derive(Clone, Copy, Debug, PartialEq, Eq)]
@@ -97,7 +98,7 @@ const SCALES: [&str; 5] = ["scale1_ssim", "scale2_ssim", "scale3_ssim", "scale4_
 pub fn figures(figure: Figure, scores: &Scores) -> Vec<(&'static str, Option<f64>)> {
     match figure {
         Figure::MeanError => vec![("mse", scores.error.map(|record| decibels::mean_error(&record)))],
-        Figure::Psnr => vec![("psnr_db", scores.error.map(|record| psnr_to_hold(&record)))],
+        Figure::Psnr => vec![("psnr_db", scores.error.and_then(psnr_to_hold))],
         Figure::Ssim => vec![("ssim", scores.ssim.map(|pair| pair.ssim))],
         Figure::Cs => vec![("cs", scores.ssim.map(|pair| pair.cs))],
         Figure::Scale => {
@@ -109,9 +110,9 @@ pub fn figures(figure: Figure, scores: &Scores) -> Vec<(&'static str, Option<f64
 }
 
 /// PSNR for a threshold: identical planes, whose error of 0 is proved, meet every one, above 100 too.
-fn psnr_to_hold(record: &fuavelino::PsnrMetrics) -> f64 {
+fn psnr_to_hold(record: PsnrMetrics) -> Option<f64> {
     if record.is_identical() {
-        f64::INFINITY
+        Some(f64::INFINITY)
     } else {
         decibels::psnr(record)
     }
