@@ -2,6 +2,7 @@
 //!
 //! judge [--full] [--seed N] [FAMILY..]
 
+mod downscale;
 mod family;
 mod hvs;
 mod hvs_ways;
@@ -26,7 +27,7 @@ use std::process::exit;
 /// A family's name, and what runs it.
 type Named = (&'static str, fn(Run) -> bool);
 
-const FAMILIES: [Named; 9] = [
+const FAMILIES: [Named; 10] = [
     ("published", published_numbers::compare),
     ("root", root::compare),
     ("plane", plane::compare),
@@ -35,6 +36,7 @@ const FAMILIES: [Named; 9] = [
     ("series", series::compare),
     ("ssim", ssim::compare),
     ("hvs", hvs::compare),
+    ("downscale", downscale::compare),
     ("scales", scales::compare),
 ];
 
