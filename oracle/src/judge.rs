@@ -4,6 +4,7 @@
 
 mod downscale;
 mod family;
+mod five;
 mod hvs;
 mod hvs_ways;
 mod lifting;

@@ -1,4 +1,4 @@
-//! The stored answers that the published Rust gives: transforms, squared errors and SSIM; refusals are the model's.
+//! The stored answers that the published Rust gives: transforms, squared errors and scores; refusals are the model's.
 
 use crate::lifting;
 use crate::model::{Lent, VALUE};
@@ -112,15 +112,15 @@ fn squared_asks(wide: bool) -> Vec<Ask> {
     ]
 }
 
-/// Rows of 14: words (1) or bytes (0), depth, width, height; of each plane its stride, and where it begins and ends; the answer,
-/// and of an accepted one its squared error, its count of samples and their largest.
+/// Rows of 14: words (1) or bytes (0), depth, width, height; of each plane its stride, and where it begins and ends; the squared error,
+/// the count of samples and their largest, 0 where it is refused; the answer.
 pub fn squared(samples: &Samples) -> Vec<usize> {
     let asks = [false, true].into_iter().flat_map(squared_asks);
     asks.flat_map(|ask| {
         let no = samples.refusal(&ask);
         let (error, n, max) = if no == 0 { record(samples, &ask) } else { (0.0, 0, 0) };
         let mut row = ask.row();
-        row.extend([usize::from(no), error as usize, n, max]);
+        row.extend([error as usize, n, max, usize::from(no)]);
         row
     })
     .collect()
@@ -157,9 +157,9 @@ fn similar_asks(wide: bool) -> Vec<Similar> {
 }
 
 /// Rows of 14: as `squared` up to the planes, then where the kernel begins and ends, the places of scratch, the answer. Then the
-/// ssim of each row and the cs of each, 0 where it is refused.
-pub fn similar(samples: &Samples) -> (Vec<usize>, Vec<f64>, Vec<f64>) {
-    let (mut rows, mut ssims, mut css) = (Vec::new(), Vec::new(), Vec::new());
+/// ssim and the cs of each row, 0 where it is refused.
+pub fn similar(samples: &Samples) -> (Vec<usize>, Vec<f64>) {
+    let (mut rows, mut scores) = (Vec::new(), Vec::new());
     for (ask, kernel, scratch) in [false, true].into_iter().flat_map(similar_asks) {
         let begins: usize = KERNELS[..kernel].iter().map(|k| k.len()).sum();
         let kernel = KERNELS[kernel];
@@ -167,10 +167,9 @@ pub fn similar(samples: &Samples) -> (Vec<usize>, Vec<f64>, Vec<f64>) {
         rows.extend(ask.row());
         rows.extend([begins, begins + kernel.len(), scratch, usize::from(no)]);
         let (ssim, cs) = if no == 0 { pair(samples, &ask, kernel) } else { (0.0, 0.0) };
-        ssims.push(ssim);
-        css.push(cs);
+        scores.extend([ssim, cs]);
     }
-    (rows, ssims, css)
+    (rows, scores)
 }
 
 pub fn kernels() -> Vec<u16> {

@@ -4,9 +4,11 @@
 
 #![allow(dead_code)] // it uses a part of what it shares with the judge
 
+mod five;
 mod lifting;
 mod model;
 mod random;
+mod scaled;
 mod scored;
 
 use model::{Check, Plane};
@@ -28,9 +30,9 @@ fn main() {
     list("ROOTLESS", "f64", refused.iter().map(|bits| number(*bits)).collect());
     let checks = checks();
     assert!(checks.iter().all(|c| c.a.len <= ROOM && c.b.len <= ROOM));
-    println!("// Checks of two planes, 14 numbers each: words (1) or bytes (0), depth, width, height, least side; then of each");
-    println!("// plane its stride, its length, and place and value of one sample (the others are 0; at place 4096 none is set);");
-    println!("// then the answer.");
+    println!("// Checks of two planes, 14 numbers each: words (1) or bytes (0), depth, width, height; then of each plane its stride, the");
+    println!("// place of one sample (the others are 0; at place 4096 none is set) and its length; then that sample of each plane, the");
+    println!("// least side, the answer.");
     list("CHECKS", "usize", words(checks.iter().flat_map(row)));
     transforms(seed);
     planes(&Samples::new(seed));
@@ -48,24 +50,30 @@ fn planes(samples: &Samples) {
     list("BYTES", "u8", words(&samples.bytes));
     list("WORDS", "u16", words(&samples.words));
     println!("// Squared errors, 14 numbers each: words (1) or bytes (0), depth, width, height; then of each plane its stride and where");
-    println!(
-        "// it begins and ends; then the answer and, where it is 0, the error, the count of samples and their largest."
-    );
+    println!("// it begins and ends; then the error, the count of samples and their largest, 0 where it is refused; then the answer.");
     list("SQUARED", "usize", words(scored::squared(samples)));
     println!("// The taps of the kernels below.");
     list("TAPS", "u16", words(scored::kernels()));
     println!("// SSIM, 14 numbers each: as above up to the planes; then where the kernel begins and ends, the places of scratch, the");
-    println!("// answer. Then the ssim of each, and the cs of each, 0 where it is refused.");
-    let (rows, ssims, css) = scored::similar(samples);
+    println!("// answer. Then the ssim and the cs of each, 0 where it is refused.");
+    let (rows, scores) = scored::similar(samples);
     list("SIMILAR", "usize", words(rows));
-    for (name, scores) in [("SSIMS", ssims), ("CSS", css)] {
-        list(name, "f64", scores.iter().map(|score| number(score.to_bits())).collect());
-    }
+    list("SSIMS", "f64", numbers(&scores));
     println!("// PSNR-HVS, 14 numbers each: as above up to the planes; then the kind (y 0, u 1, v 2), two zeros, the answer. Then the");
     println!("// score of each, 0 where it is refused.");
     let (rows, scores) = scored::visual(samples);
     list("VISUAL", "usize", words(rows));
-    list("HVSS", "f64", scores.iter().map(|score| number(score.to_bits())).collect());
+    list("HVSS", "f64", numbers(&scores));
+    println!("// MS-SSIM, 14 numbers each: words (1) or bytes (0), depth, width, height; then of each plane its stride, its seed and its");
+    println!("// length; then how far below the largest the samples reach, the places of scratch, those of each plane's room, the answer.");
+    println!("// Then the five pairs of each that is accepted; the refused ones come last.");
+    let (rows, scores) = scaled::rows();
+    list("SCALES", "usize", words(rows));
+    list("FIVES", "f64", numbers(&scores));
+}
+
+fn numbers(scores: &[f64]) -> Vec<String> {
+    scores.iter().map(|score| number(score.to_bits())).collect()
 }
 
 fn words<T: ToString>(numbers: impl IntoIterator<Item = T>) -> Vec<String> {
@@ -87,13 +95,14 @@ fn number(bits: u64) -> String {
 }
 
 fn row(c: &Check) -> Vec<usize> {
-    let mut list = vec![usize::from(c.wide), c.depth as usize, c.width, c.height, c.least];
+    let mut list = vec![usize::from(c.wide), c.depth as usize, c.width, c.height];
+    let odd = |p: &Plane| p.odd.first().copied().unwrap_or((ROOM, 0));
     for plane in c.planes() {
-        let (at, value) = plane.odd.first().copied().unwrap_or((ROOM, 0));
-        list.extend([plane.stride, plane.len, at, usize::from(value)]);
+        list.extend([plane.stride, odd(plane).0, plane.len]);
     }
+    list.extend(c.planes().map(|plane| usize::from(odd(plane).1)));
     let [a, b] = c.planes().map(|p| p.samples(c.width, c.height));
-    list.push(usize::from(c.lent(&a, &b).refusal()));
+    list.extend([c.least, usize::from(c.lent(&a, &b).refusal())]);
     list
 }
 

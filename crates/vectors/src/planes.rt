@@ -1,5 +1,6 @@
-// Checks of two planes.
-use crate::table;
+// Checks of two planes. Of each plane `from` is the place of the one sample that is not 0, and `end` how many samples there are; x and y are
+// those samples, z is the least side.
+use crate::rows::Row;
 use crate::tell;
 
 // A plane of bytes that are 0 but for one.
@@ -20,80 +21,40 @@ fn words(at: usize, value: usize) -> [u16; 4096] {
     list
 }
 
-// What the check of bytes answers to a row of the table; 255 where the row asks for more samples than there are.
-fn ask8(row: &[usize; 14], a: &[u8], b: &[u8]) -> u8 {
-    let first: usize = 0;
-    let m = row[6];
-    let n = row[10];
-    if m > a.len() || n > b.len() {
-        return 255;
-    }
+fn ask8(r: Row) -> u8 {
+    let a = bytes(r.from_a, r.x);
+    let b = bytes(r.from_b, r.y);
     plane::check8(
-        &a[first..m],
-        &b[first..n],
-        row[2],
-        row[3],
-        row[5],
-        row[9],
-        tell::depth_of(row[1]),
-        row[4],
+        tell::bytes_of(&a, 0, r.end_a),
+        tell::bytes_of(&b, 0, r.end_b),
+        r.width,
+        r.height,
+        r.stride_a,
+        r.stride_b,
+        r.depth,
+        r.z,
     )
 }
 
-fn ask16(row: &[usize; 14], a: &[u16], b: &[u16]) -> u8 {
-    let first: usize = 0;
-    let m = row[6];
-    let n = row[10];
-    if m > a.len() || n > b.len() {
-        return 255;
-    }
+fn ask16(r: Row) -> u8 {
+    let a = words(r.from_a, r.x);
+    let b = words(r.from_b, r.y);
     plane::check16(
-        &a[first..m],
-        &b[first..n],
-        row[2],
-        row[3],
-        row[5],
-        row[9],
-        tell::depth_of(row[1]),
-        row[4],
+        tell::words_of(&a, 0, r.end_a),
+        tell::words_of(&b, 0, r.end_b),
+        r.width,
+        r.height,
+        r.stride_a,
+        r.stride_b,
+        r.depth,
+        r.z,
     )
 }
 
-fn answer8(row: &[usize; 14]) -> u8 {
-    let a = bytes(row[7], row[8]);
-    let b = bytes(row[11], row[12]);
-    ask8(row, &a, &b)
-}
-
-fn answer16(row: &[usize; 14]) -> u8 {
-    let a = words(row[7], row[8]);
-    let b = words(row[11], row[12]);
-    ask16(row, &a, &b)
-}
-
-fn check_is(row: &[usize; 14]) -> bool {
-    if row[0] == 0 {
-        tell::wide(answer8(row)) == row[13]
+pub fn check_is(r: Row) -> bool {
+    if r.wide {
+        tell::wide(ask16(r)) == r.no
     } else {
-        tell::wide(answer16(row)) == row[13]
+        tell::wide(ask8(r)) == r.no
     }
-}
-
-// How many checks of `list` give their answer.
-fn checks(list: &[usize]) -> usize {
-    let mut right: usize = 0;
-    let mut i: usize = 0;
-    while list.len() - i >= 14 {
-        let row = tell::row_at(list, i);
-        if check_is(&row) {
-            right += 1;
-        }
-        i += 14;
-    }
-    right
-}
-
-pub fn replay_checks() {
-    let list = table::CHECKS;
-    tell::line(b"plane checks: ", checks(&list), list.len() / 14);
 }

@@ -1,17 +1,17 @@
--- `vectors::squared::errors` is safe and ends: the place stays within the list, and no more is right than was passed. Assumes nothing.
+-- `vectors::rows::right_ones` is safe and ends: the place stays within the list, and no more is right than was passed. Assumes nothing.
 use Prim.Native.Nat.{_≤_, _-_}
 use native.Mathlib.Omega.{arith}
 use borrow.Author.Needs.{needs}
 use lib.ListN.{length}
 use mathlib.Core.Logic.{⊎-elim}
-use Rattle.vectors.proofs.squared.errors.Statement.{statement}
-use Rattle.vectors.proofs.squared.errors.Tie as tie
+use Rattle.vectors.proofs.rows.right_ones.Statement.{statement}
+use Rattle.vectors.proofs.rows.right_ones.Tie as tie
 
 abbrev Inv-loop : tie.InvT-loop
-Inv-loop list bytes words right₀ i₀ right i = (i ≤ length list) × (right ≤ i)
+Inv-loop family list scores right₀ i₀ right i = (i ≤ length list) × (right ≤ i)
 
 abbrev μ-loop : tie.MeasureT-loop
-μ-loop list bytes words right₀ i₀ right i = length list - i
+μ-loop family list scores right₀ i₀ right i = length list - i
 
 loop-holds : tie.Need-loop-holds Inv-loop μ-loop
 loop-holds c = search needs
@@ -22,8 +22,8 @@ sub-loop c = search needs
 row-at-requires : tie.Need-row-at-requires Inv-loop μ-loop
 row-at-requires c κs = search needs
 
-error-is-requires : tie.Need-error-is-requires Inv-loop μ-loop
-error-is-requires c κs = search needs
+row-is-requires : tie.Need-row-is-requires Inv-loop μ-loop
+row-is-requires c κs = search needs
 
 add-right : tie.Need-add-right Inv-loop μ-loop
 add-right c = search needs
@@ -40,8 +40,8 @@ loop-again c = ⊎-elim (λ w. omega arith) (λ w. omega arith) (c .if1 .came)
 returns : tie.Need-returns Inv-loop μ-loop
 returns c = search needs
 
-pub errors-spec : {M : Type 1} → statement M
-errors-spec =
+pub right-ones-spec : {M : Type 1} → statement M
+right-ones-spec =
     tie.close
     (tie.spec
     Inv-loop
@@ -49,7 +49,7 @@ errors-spec =
     loop-holds
     sub-loop
     row-at-requires
-    error-is-requires
+    row-is-requires
     add-right
     add-i
     loop-less
