@@ -4,57 +4,54 @@ use crate::rows::Row;
 use crate::tell;
 
 // A plane of bytes that are 0 but for one.
-fn bytes(at: usize, value: usize) -> [u8; 4096] {
-    let mut list = [0u8; 4096];
-    if at < 4096 {
+fn bytes(at: usize, value: usize) -> [u8; 8192] {
+    let mut list = [0u8; 8192];
+    if at < 8192 {
         list[at] = (value % 256) as u8;
     }
     list
 }
 
 // The same of words.
-fn words(at: usize, value: usize) -> [u16; 4096] {
-    let mut list = [0u16; 4096];
-    if at < 4096 {
+fn words(at: usize, value: usize) -> [u16; 8192] {
+    let mut list = [0u16; 8192];
+    if at < 8192 {
         list[at] = (value % 65536) as u16;
     }
     list
 }
 
 fn ask8(r: Row) -> u8 {
-    let a = bytes(r.from_a, r.x);
-    let b = bytes(r.from_b, r.y);
+    let a = bytes(r.a.from, r.told.x);
+    let b = bytes(r.b.from, r.told.y);
     plane::check8(
-        tell::bytes_of(&a, 0, r.end_a),
-        tell::bytes_of(&b, 0, r.end_b),
-        r.width,
-        r.height,
-        r.stride_a,
-        r.stride_b,
-        r.depth,
-        r.z,
+        tell::bytes_of(&a, 0, r.a.end),
+        tell::bytes_of(&b, 0, r.b.end),
+        r.size.width,
+        r.size.height,
+        r.a.stride,
+        r.b.stride,
+        r.size.depth,
+        r.told.z,
     )
 }
 
 fn ask16(r: Row) -> u8 {
-    let a = words(r.from_a, r.x);
-    let b = words(r.from_b, r.y);
+    let a = words(r.a.from, r.told.x);
+    let b = words(r.b.from, r.told.y);
     plane::check16(
-        tell::words_of(&a, 0, r.end_a),
-        tell::words_of(&b, 0, r.end_b),
-        r.width,
-        r.height,
-        r.stride_a,
-        r.stride_b,
-        r.depth,
-        r.z,
+        tell::words_of(&a, 0, r.a.end),
+        tell::words_of(&b, 0, r.b.end),
+        r.size.width,
+        r.size.height,
+        r.a.stride,
+        r.b.stride,
+        r.size.depth,
+        r.told.z,
     )
 }
 
 pub fn check_is(r: Row) -> bool {
-    if r.wide {
-        tell::wide(ask16(r)) == r.no
-    } else {
-        tell::wide(ask8(r)) == r.no
-    }
+    let no = if r.size.wide { ask16(r) } else { ask8(r) };
+    tell::wide(no) == r.told.no
 }

@@ -1,91 +1,133 @@
-// Rows of a table: each asks for a call on two planes, and has the answer.
-ghost use Prim.Native.Nat.{_+_, _≤_};
-ghost use lib.ListN.{length};
+// Rows of the table: each asks for a call on two planes, and has the answer.
+ghost use Prim.Native.Nat.{_≤_, _<_};
 use crate::planes;
 use crate::scales;
 use crate::similar;
 use crate::squared;
+use crate::table;
 use crate::tell;
 use crate::visual;
 
-// What the rows of a table ask for.
-pub enum Family {
-    Checks,
-    Squared,
-    Similar,
-    Visual,
-    Scales,
-}
-
-// The two planes and the answer. What from, end, x, y and z tell is the family's to say.
-pub struct Row {
+pub struct Size {
     pub wide: bool,
     pub depth: u32,
     pub width: usize,
     pub height: usize,
-    pub stride_a: usize,
-    pub from_a: usize,
-    pub end_a: usize,
-    pub stride_b: usize,
-    pub from_b: usize,
-    pub end_b: usize,
+}
+
+// A plane. What `from` and `end` tell is the family's to say.
+pub struct Lent {
+    pub stride: usize,
+    pub from: usize,
+    pub end: usize,
+}
+
+// Three numbers more, which are the family's too; the answer; and where in the list its scores begin.
+pub struct Told {
     pub x: usize,
     pub y: usize,
     pub z: usize,
     pub no: usize,
+    pub at: usize,
+}
+
+pub struct Row {
+    pub size: Size,
+    pub a: Lent,
+    pub b: Lent,
+    pub told: Told,
+}
+
+// Number i of the table of rows.
+fn number(i: usize) -> usize {
+    let list = table::ROWS;
+    if i < list.len() { list[i] } else { 0 }
 }
 
 fn depth_of(n: usize) -> u32 {
     if n < 65536 { n as u32 } else { 0 }
 }
 
-// The row of the 14 numbers from a place on.
-fn row_at(list: &[usize], from: usize) -> Row
-    requires { ⌜ from + 14 ≤ length (now list) ⌝ }
+fn size_at(from: usize) -> Size
+    requires { ⌜ from ≤ 65536 ⌝ }
 {
+    Size {
+        wide: number(from) != 0,
+        depth: depth_of(number(from + 1)),
+        width: number(from + 2),
+        height: number(from + 3),
+    }
+}
+
+fn lent_at(from: usize) -> Lent
+    requires { ⌜ from ≤ 65536 ⌝ }
+{
+    Lent {
+        stride: number(from),
+        from: number(from + 1),
+        end: number(from + 2),
+    }
+}
+
+fn told_at(from: usize) -> Told
+    requires { ⌜ from ≤ 65536 ⌝ }
+{
+    Told {
+        x: number(from),
+        y: number(from + 1),
+        z: number(from + 2),
+        no: number(from + 3),
+        at: number(from + 4),
+    }
+}
+
+// Row i, of 15 numbers.
+fn row_at(i: usize) -> Row
+    requires { ⌜ i < 4096 ⌝ }
+{
+    let from = 15 * i;
     Row {
-        wide: list[from] != 0,
-        depth: depth_of(list[from + 1]),
-        width: list[from + 2],
-        height: list[from + 3],
-        stride_a: list[from + 4],
-        from_a: list[from + 5],
-        end_a: list[from + 6],
-        stride_b: list[from + 7],
-        from_b: list[from + 8],
-        end_b: list[from + 9],
-        x: list[from + 10],
-        y: list[from + 11],
-        z: list[from + 12],
-        no: list[from + 13],
+        size: size_at(from),
+        a: lent_at(from + 4),
+        b: lent_at(from + 7),
+        told: told_at(from + 10),
     }
 }
 
-// Whether row number `at` gives its answer.
-fn row_is(family: Family, r: Row, at: usize, scores: &[f64]) -> bool {
+// Whether a row of a family gives its answer.
+fn row_is(family: usize, r: Row) -> bool {
     match family {
-        Family::Checks => planes::check_is(r),
-        Family::Squared => squared::error_is(r),
-        Family::Similar => similar::pair_is(r, at, scores),
-        Family::Visual => visual::score_is(r, at, scores),
-        Family::Scales => scales::five_are(r, at, scores),
+        0 => planes::check_is(r),
+        1 => squared::error_is(r),
+        2 => similar::pair_is(r),
+        3 => visual::score_is(r),
+        _ => scales::five_are(r),
     }
 }
 
-// How many rows of `list` give their answer.
-fn right_ones(family: Family, list: &[usize], scores: &[f64]) -> usize {
+// How many rows from `first` on, up to `end`, give their answer.
+fn right_ones(family: usize, first: usize, end: usize) -> usize
+    requires { ⌜ end ≤ 4096 ⌝ }
+{
     let mut right: usize = 0;
-    let mut i: usize = 0;
-    while list.len() - i >= 14 {
-        let r = row_at(list, i);
-        if row_is(family, r, i / 14, scores) {
+    for i in first..end {
+        if row_is(family, row_at(i)) {
             right += 1;
         }
-        i += 14;
     }
     right
 }
 
-pub fn replay(name: &[u8], family: Family, list: &[usize], scores: &[f64]) {
-    tell::line(name, right_ones(family, list, scores), list.len() / 14);
+fn family(name: &[u8], family: usize, first: usize, end: usize)
+    requires { ⌜ (first ≤ end) × (end ≤ 4096) ⌝ }
+{
+    tell::line(name, right_ones(family, first, end), end - first);
+}
+
+pub fn replay() {
+    family(b"plane checks: ", 0, 0, table::CHECKS);
+    family(b"squared errors: ", 1, table::CHECKS, table::SQUARED);
+    family(b"SSIM: ", 2, table::SQUARED, table::SIMILAR);
+    family(b"PSNR-HVS: ", 3, table::SIMILAR, table::VISUAL);
+    family(b"MS-SSIM: ", 4, table::VISUAL, table::SCALES);
 }

@@ -1,5 +1,5 @@
 // MS-SSIM of two planes that are made by a rule: of each plane `from` is its seed, and `end` how many samples there are; x is how far below the
-// largest its samples reach, y is how many places of scratch there are, z how many of room for each plane.
+// largest its samples reach, y is 0, z is 0. The places lent are those that 17 by 33 need, and no row asks for more.
 use crate::rows::Row;
 use crate::tell;
 use msssim::MsSsim;
@@ -29,67 +29,63 @@ fn words(seed: usize, reach: usize) -> [u16; 640] {
     list
 }
 
-fn ask8(r: Row, scratch: &mut [i64], room_a: &mut [u32], room_b: &mut [u32]) -> MsSsim {
-    let a = bytes(r.from_a, r.x);
-    let b = bytes(r.from_b, r.x);
+fn ask8(r: Row) -> MsSsim {
+    let a = bytes(r.a.from, r.told.x);
+    let b = bytes(r.b.from, r.told.x);
+    let mut scratch = [0i64; 1632];
+    let mut room_a = [0u32; 561];
+    let mut room_b = [0u32; 561];
     msssim::msssim8(
-        tell::bytes_of(&a, 0, r.end_a),
-        tell::bytes_of(&b, 0, r.end_b),
-        r.width,
-        r.height,
-        r.stride_a,
-        r.stride_b,
-        r.depth,
-        scratch,
-        room_a,
-        room_b,
+        tell::bytes_of(&a, 0, r.a.end),
+        tell::bytes_of(&b, 0, r.b.end),
+        r.size.width,
+        r.size.height,
+        r.a.stride,
+        r.b.stride,
+        r.size.depth,
+        &mut scratch,
+        &mut room_a,
+        &mut room_b,
     )
 }
 
-fn ask16(r: Row, scratch: &mut [i64], room_a: &mut [u32], room_b: &mut [u32]) -> MsSsim {
-    let a = words(r.from_a, r.x);
-    let b = words(r.from_b, r.x);
+fn ask16(r: Row) -> MsSsim {
+    let a = words(r.a.from, r.told.x);
+    let b = words(r.b.from, r.told.x);
+    let mut scratch = [0i64; 1632];
+    let mut room_a = [0u32; 561];
+    let mut room_b = [0u32; 561];
     msssim::msssim16(
-        tell::words_of(&a, 0, r.end_a),
-        tell::words_of(&b, 0, r.end_b),
-        r.width,
-        r.height,
-        r.stride_a,
-        r.stride_b,
-        r.depth,
-        scratch,
-        room_a,
-        room_b,
+        tell::words_of(&a, 0, r.a.end),
+        tell::words_of(&b, 0, r.b.end),
+        r.size.width,
+        r.size.height,
+        r.a.stride,
+        r.b.stride,
+        r.size.depth,
+        &mut scratch,
+        &mut room_a,
+        &mut room_b,
     )
 }
 
 fn ask(r: Row) -> MsSsim {
-    let mut places = [0i64; 1664];
-    let mut rooms_a = [0u32; 640];
-    let mut rooms_b = [0u32; 640];
-    let scratch = tell::places_of(&mut places, r.y);
-    let room_a = tell::room_of(&mut rooms_a, r.z);
-    let room_b = tell::room_of(&mut rooms_b, r.z);
-    if r.wide {
-        ask16(r, scratch, room_a, room_b)
-    } else {
-        ask8(r, scratch, room_a, room_b)
-    }
+    if r.size.wide { ask16(r) } else { ask8(r) }
 }
 
 // Whether the ten numbers stand in the list from a place on.
-fn pairs_are(p: Pairs, list: &[f64], from: usize) -> bool {
-    let upper = tell::both_stand(p.ssim1, p.cs1, list, from)
-        & tell::both_stand(p.ssim2, p.cs2, list, from % 65536 + 2);
-    let lower = tell::both_stand(p.ssim3, p.cs3, list, from % 65536 + 4)
-        & tell::both_stand(p.ssim4, p.cs4, list, from % 65536 + 6);
-    upper & lower & tell::both_stand(p.ssim5, p.cs5, list, from % 65536 + 8)
+fn pairs_are(p: Pairs, from: usize) -> bool {
+    let at = from % 65536;
+    tell::both_stand(p.ssim1, p.cs1, at)
+        & tell::both_stand(p.ssim2, p.cs2, at + 2)
+        & tell::both_stand(p.ssim3, p.cs3, at + 4)
+        & tell::both_stand(p.ssim4, p.cs4, at + 6)
+        & tell::both_stand(p.ssim5, p.cs5, at + 8)
 }
 
-// Whether row number `at` gives its answer; each row that is accepted has ten scores, and the refused ones come after them.
-pub fn five_are(r: Row, at: usize, scores: &[f64]) -> bool {
+pub fn five_are(r: Row) -> bool {
     match ask(r) {
-        MsSsim::Five(p) => (r.no == 0) & pairs_are(p, scores, at % 4096 * 10),
-        MsSsim::Refused(n) => tell::wide(n) == r.no,
+        MsSsim::Five(p) => (r.told.no == 0) & pairs_are(p, r.told.at),
+        MsSsim::Refused(n) => tell::wide(n) == r.told.no,
     }
 }

@@ -7,13 +7,13 @@ use ssim::Ssim;
 fn ask8(r: Row, kernel: &[u16], scratch: &mut [i64]) -> Ssim {
     let list = table::BYTES;
     ssim::ssim8(
-        tell::bytes_of(&list, r.from_a, r.end_a),
-        tell::bytes_of(&list, r.from_b, r.end_b),
-        r.width,
-        r.height,
-        r.stride_a,
-        r.stride_b,
-        r.depth,
+        tell::bytes_of(&list, r.a.from, r.a.end),
+        tell::bytes_of(&list, r.b.from, r.b.end),
+        r.size.width,
+        r.size.height,
+        r.a.stride,
+        r.b.stride,
+        r.size.depth,
         kernel,
         scratch,
     )
@@ -22,13 +22,13 @@ fn ask8(r: Row, kernel: &[u16], scratch: &mut [i64]) -> Ssim {
 fn ask16(r: Row, kernel: &[u16], scratch: &mut [i64]) -> Ssim {
     let list = table::WORDS;
     ssim::ssim16(
-        tell::words_of(&list, r.from_a, r.end_a),
-        tell::words_of(&list, r.from_b, r.end_b),
-        r.width,
-        r.height,
-        r.stride_a,
-        r.stride_b,
-        r.depth,
+        tell::words_of(&list, r.a.from, r.a.end),
+        tell::words_of(&list, r.b.from, r.b.end),
+        r.size.width,
+        r.size.height,
+        r.a.stride,
+        r.b.stride,
+        r.size.depth,
         kernel,
         scratch,
     )
@@ -37,22 +37,18 @@ fn ask16(r: Row, kernel: &[u16], scratch: &mut [i64]) -> Ssim {
 fn ask(r: Row) -> Ssim {
     let taps = table::TAPS;
     let mut places = [0i64; 512];
-    let kernel = tell::words_of(&taps, r.x, r.y);
-    let scratch = tell::places_of(&mut places, r.z);
-    if r.wide {
+    let kernel = tell::words_of(&taps, r.told.x, r.told.y);
+    let scratch = tell::places_of(&mut places, r.told.z);
+    if r.size.wide {
         ask16(r, kernel, scratch)
     } else {
         ask8(r, kernel, scratch)
     }
 }
 
-// Whether row number `at` gives its answer; each row has two scores.
-pub fn pair_is(r: Row, at: usize, scores: &[f64]) -> bool {
-    let from = at % 4096 * 2;
+pub fn pair_is(r: Row) -> bool {
     match ask(r) {
-        Ssim::Pair { ssim, cs } => {
-            (r.no == 0) & tell::stands(ssim, scores, from) & tell::stands(cs, scores, from + 1)
-        }
-        Ssim::Refused(n) => tell::wide(n) == r.no,
+        Ssim::Pair { ssim, cs } => { (r.told.no == 0) & tell::both_stand(ssim, cs, r.told.at) }
+        Ssim::Refused(n) => tell::wide(n) == r.told.no,
     }
 }

@@ -8,49 +8,45 @@ use psnr::SquaredError;
 fn ask8(r: Row) -> SquaredError {
     let list = table::BYTES;
     psnr::squared_error8(
-        tell::bytes_of(&list, r.from_a, r.end_a),
-        tell::bytes_of(&list, r.from_b, r.end_b),
-        r.width,
-        r.height,
-        r.stride_a,
-        r.stride_b,
-        r.depth,
+        tell::bytes_of(&list, r.a.from, r.a.end),
+        tell::bytes_of(&list, r.b.from, r.b.end),
+        r.size.width,
+        r.size.height,
+        r.a.stride,
+        r.b.stride,
+        r.size.depth,
     )
 }
 
 fn ask16(r: Row) -> SquaredError {
     let list = table::WORDS;
     psnr::squared_error16(
-        tell::words_of(&list, r.from_a, r.end_a),
-        tell::words_of(&list, r.from_b, r.end_b),
-        r.width,
-        r.height,
-        r.stride_a,
-        r.stride_b,
-        r.depth,
+        tell::words_of(&list, r.a.from, r.a.end),
+        tell::words_of(&list, r.b.from, r.b.end),
+        r.size.width,
+        r.size.height,
+        r.a.stride,
+        r.b.stride,
+        r.size.depth,
     )
 }
 
 fn record_is(s: Record, r: Row) -> bool {
-    (r.no == 0)
-        & tell::same(s.sq_err, tell::double(r.x))
-        & (s.n == (r.y as u64))
-        & ((s.sample_max as usize) == r.z)
+    (r.told.no == 0)
+        & tell::same(s.sq_err, tell::double(r.told.x))
+        & (s.n == (r.told.y as u64))
+        & ((s.sample_max as usize) == r.told.z)
+}
+
+fn ask(r: Row) -> SquaredError {
+    if r.size.wide { ask16(r) } else { ask8(r) }
 }
 
 // "Identical" belongs to an error of 0 and to no other.
-fn answer_is(answer: SquaredError, r: Row) -> bool {
-    match answer {
-        SquaredError::Differs(s) => record_is(s, r) & (r.x != 0),
-        SquaredError::Identical(s) => record_is(s, r) & (r.x == 0),
-        SquaredError::Refused(n) => tell::wide(n) == r.no,
-    }
-}
-
 pub fn error_is(r: Row) -> bool {
-    if r.wide {
-        answer_is(ask16(r), r)
-    } else {
-        answer_is(ask8(r), r)
+    match ask(r) {
+        SquaredError::Differs(s) => record_is(s, r) & (r.told.x != 0),
+        SquaredError::Identical(s) => record_is(s, r) & (r.told.x == 0),
+        SquaredError::Refused(n) => tell::wide(n) == r.told.no,
     }
 }

@@ -1,4 +1,5 @@
 // What the replays share: the line that each prints, parts of what is lent, and numbers compared.
+use crate::table;
 
 pub fn line(name: &[u8], right: usize, all: usize) {
     io::write_all(1, name);
@@ -55,21 +56,14 @@ pub fn places_of(list: &mut [i64], count: usize) -> &mut [i64] {
     &mut list[..0]
 }
 
-// The same of a plane's room.
-pub fn room_of(list: &mut [u32], count: usize) -> &mut [u32] {
-    if count <= list.len() {
-        return &mut list[..count];
-    }
-    &mut list[..0]
-}
-
 // Whether two numbers are one, zeros of unlike sign told apart.
 pub fn same(x: f64, y: f64) -> bool {
     (x == y) & (1.0 / x == 1.0 / y)
 }
 
-// Whether a number stands at a place of a list.
-pub fn stands(x: f64, list: &[f64], at: usize) -> bool {
+// Whether a number stands at a place of the table of scores.
+pub fn stands(x: f64, at: usize) -> bool {
+    let list = table::SCORES;
     if at < list.len() {
         return same(x, list[at]);
     }
@@ -77,8 +71,8 @@ pub fn stands(x: f64, list: &[f64], at: usize) -> bool {
 }
 
 // Whether two numbers stand at a place and the next.
-pub fn both_stand(x: f64, y: f64, list: &[f64], at: usize) -> bool {
-    stands(x, list, at) & stands(y, list, at % 65536 + 1)
+pub fn both_stand(x: f64, y: f64, at: usize) -> bool {
+    stands(x, at) & stands(y, at % 65536 + 1)
 }
 
 pub fn wide(n: u8) -> usize {

@@ -17,43 +17,38 @@ fn kind_of(n: usize) -> Kind {
 fn ask8(r: Row) -> Hvs {
     let list = table::BYTES;
     psnr_hvs::psnr_hvs8(
-        tell::bytes_of(&list, r.from_a, r.end_a),
-        tell::bytes_of(&list, r.from_b, r.end_b),
-        r.width,
-        r.height,
-        r.stride_a,
-        r.stride_b,
-        r.depth,
-        kind_of(r.x),
+        tell::bytes_of(&list, r.a.from, r.a.end),
+        tell::bytes_of(&list, r.b.from, r.b.end),
+        r.size.width,
+        r.size.height,
+        r.a.stride,
+        r.b.stride,
+        r.size.depth,
+        kind_of(r.told.x),
     )
 }
 
 fn ask16(r: Row) -> Hvs {
     let list = table::WORDS;
     psnr_hvs::psnr_hvs16(
-        tell::words_of(&list, r.from_a, r.end_a),
-        tell::words_of(&list, r.from_b, r.end_b),
-        r.width,
-        r.height,
-        r.stride_a,
-        r.stride_b,
-        r.depth,
-        kind_of(r.x),
+        tell::words_of(&list, r.a.from, r.a.end),
+        tell::words_of(&list, r.b.from, r.b.end),
+        r.size.width,
+        r.size.height,
+        r.a.stride,
+        r.b.stride,
+        r.size.depth,
+        kind_of(r.told.x),
     )
 }
 
-fn answer_is(answer: Hvs, r: Row, at: usize, scores: &[f64]) -> bool {
-    match answer {
-        Hvs::Score(s) => (r.no == 0) & tell::stands(s, scores, at),
-        Hvs::Refused(n) => tell::wide(n) == r.no,
-    }
+fn ask(r: Row) -> Hvs {
+    if r.size.wide { ask16(r) } else { ask8(r) }
 }
 
-// Whether row number `at` gives its answer; each row has one score.
-pub fn score_is(r: Row, at: usize, scores: &[f64]) -> bool {
-    if r.wide {
-        answer_is(ask16(r), r, at, scores)
-    } else {
-        answer_is(ask8(r), r, at, scores)
+pub fn score_is(r: Row) -> bool {
+    match ask(r) {
+        Hvs::Score(s) => (r.told.no == 0) & tell::stands(s, r.told.at),
+        Hvs::Refused(n) => tell::wide(n) == r.told.no,
     }
 }

@@ -1,38 +1,31 @@
--- `vectors::root::roots` is safe and ends: the place stays within the list, and no more is right than was passed. Assumes nothing.
+-- `vectors::root::roots` is safe and ends: no more is right than was passed. Assumes nothing.
 use Prim.Native.Nat.{_≤_, _-_}
-use native.Mathlib.Omega.{arith}
 use borrow.Author.Needs.{needs}
-use lib.ListN.{length}
+use native.Mathlib.Omega.{arith}
 use mathlib.Core.Logic.{⊎-elim}
 use Rattle.vectors.proofs.root.roots.Statement.{statement}
 use Rattle.vectors.proofs.root.roots.Tie as tie
 
 abbrev Inv-loop : tie.InvT-loop
-Inv-loop list right₀ i₀ right i = (i ≤ length list) × (right ≤ i)
+Inv-loop pairs right₀ i₀ right i = right ≤ i
 
 abbrev μ-loop : tie.MeasureT-loop
-μ-loop list right₀ i₀ right i = length list - i
+μ-loop pairs right₀ i₀ right i = pairs - i
 
 loop-holds : tie.Need-loop-holds Inv-loop μ-loop
 loop-holds c = search needs
 
-sub-loop : tie.Need-sub-loop Inv-loop μ-loop
-sub-loop c = search needs
+mul-at : tie.Need-mul-at Inv-loop μ-loop
+mul-at c = search needs
 
-mul-root-is : tie.Need-mul-root-is Inv-loop μ-loop
-mul-root-is c = search needs
+entry-requires : tie.Need-entry-requires Inv-loop μ-loop
+entry-requires c κs = search needs
 
-shared-slice-read-root-is : tie.Need-shared-slice-read-root-is Inv-loop μ-loop
-shared-slice-read-root-is c = search needs
+add-entry : tie.Need-add-entry Inv-loop μ-loop
+add-entry c = search needs
 
-add-root-is : tie.Need-add-root-is Inv-loop μ-loop
-add-root-is c = search needs
-
-mul-root-is-2 : tie.Need-mul-root-is-2 Inv-loop μ-loop
-mul-root-is-2 c = search needs
-
-shared-slice-read-root-is-2 : tie.Need-shared-slice-read-root-is-2 Inv-loop μ-loop
-shared-slice-read-root-is-2 c = search needs
+entry-requires-2 : tie.Need-entry-requires-2 Inv-loop μ-loop
+entry-requires-2 c κs = search needs
 
 root-is-requires : tie.Need-root-is-requires Inv-loop μ-loop
 root-is-requires c κs = search needs
@@ -59,12 +52,10 @@ roots-spec =
     Inv-loop
     μ-loop
     loop-holds
-    sub-loop
-    mul-root-is
-    shared-slice-read-root-is
-    add-root-is
-    mul-root-is-2
-    shared-slice-read-root-is-2
+    mul-at
+    entry-requires
+    add-entry
+    entry-requires-2
     root-is-requires
     add-right
     add-i

@@ -1,23 +1,19 @@
--- `vectors::rows::right_ones` is safe and ends: the place stays within the list, and no more is right than was passed. Assumes nothing.
+-- `vectors::rows::right_ones` is safe and ends: no more is right than was passed. Assumes nothing.
 use Prim.Native.Nat.{_≤_, _-_}
-use native.Mathlib.Omega.{arith}
 use borrow.Author.Needs.{needs}
-use lib.ListN.{length}
+use native.Mathlib.Omega.{arith}
 use mathlib.Core.Logic.{⊎-elim}
 use Rattle.vectors.proofs.rows.right_ones.Statement.{statement}
 use Rattle.vectors.proofs.rows.right_ones.Tie as tie
 
 abbrev Inv-loop : tie.InvT-loop
-Inv-loop family list scores right₀ i₀ right i = (i ≤ length list) × (right ≤ i)
+Inv-loop family first end right₀ i₀ right i = right ≤ i
 
 abbrev μ-loop : tie.MeasureT-loop
-μ-loop family list scores right₀ i₀ right i = length list - i
+μ-loop family first end right₀ i₀ right i = end - i
 
 loop-holds : tie.Need-loop-holds Inv-loop μ-loop
 loop-holds c = search needs
-
-sub-loop : tie.Need-sub-loop Inv-loop μ-loop
-sub-loop c = search needs
 
 row-at-requires : tie.Need-row-at-requires Inv-loop μ-loop
 row-at-requires c κs = search needs
@@ -47,7 +43,6 @@ right-ones-spec =
     Inv-loop
     μ-loop
     loop-holds
-    sub-loop
     row-at-requires
     row-is-requires
     add-right

@@ -1,17 +1,14 @@
--- `vectors::transform::same` is safe and ends: the place stays within the first list. Assumes nothing.
+-- `vectors::transform::same` is safe and ends. Assumes nothing.
 use Prim.Native.Nat.{_≤_, _-_}
-use native.Mathlib.Omega.{arith}
 use borrow.Author.Needs.{needs}
-use lib.ListN.{length}
-use mathlib.Core.Logic.{⊎-elim}
 use Rattle.vectors.proofs.transform.same.Statement.{statement}
 use Rattle.vectors.proofs.transform.same.Tie as tie
 
 abbrev Inv-loop : tie.InvT-loop
-Inv-loop a b right₀ i₀ right i = i ≤ length a
+Inv-loop a b right₀ i₀ right i = i ≤ 64
 
 abbrev μ-loop : tie.MeasureT-loop
-μ-loop a b right₀ i₀ right i = length a - i
+μ-loop a b right₀ i₀ right i = 64 - i
 
 loop-holds : tie.Need-loop-holds Inv-loop μ-loop
 loop-holds c = search needs
@@ -19,14 +16,14 @@ loop-holds c = search needs
 mul-right : tie.Need-mul-right Inv-loop μ-loop
 mul-right c = search needs
 
-shared-slice-copy-out-right : tie.Need-shared-slice-copy-out-right Inv-loop μ-loop
-shared-slice-copy-out-right c = search needs
+element-copy-out-right : tie.Need-element-copy-out-right Inv-loop μ-loop
+element-copy-out-right c = search needs
 
 mul-right-2 : tie.Need-mul-right-2 Inv-loop μ-loop
 mul-right-2 c = search needs
 
-shared-slice-copy-out-right-2 : tie.Need-shared-slice-copy-out-right-2 Inv-loop μ-loop
-shared-slice-copy-out-right-2 c = search needs
+element-copy-out-right-2 : tie.Need-element-copy-out-right-2 Inv-loop μ-loop
+element-copy-out-right-2 c = search needs
 
 add-i : tie.Need-add-i Inv-loop μ-loop
 add-i c = search needs
@@ -40,9 +37,6 @@ loop-again c = search needs
 returns : tie.Need-returns Inv-loop μ-loop
 returns c = search needs
 
-returns-2 : tie.Need-returns-2 Inv-loop μ-loop
-returns-2 c = search needs
-
 pub same-spec : {M : Type 1} → statement M
 same-spec =
     tie.close
@@ -51,11 +45,10 @@ same-spec =
     μ-loop
     loop-holds
     mul-right
-    shared-slice-copy-out-right
+    element-copy-out-right
     mul-right-2
-    shared-slice-copy-out-right-2
+    element-copy-out-right-2
     add-i
     loop-less
     loop-again
-    returns
-    returns-2)
+    returns)

@@ -1,26 +1,22 @@
--- `vectors::transform::transforms` is safe and ends: the place stays within the list, no more is right than was passed. Assumes nothing.
+-- `vectors::transform::transforms` is safe and ends: no more is right than was passed. Assumes nothing.
 use Prim.Native.Nat.{_≤_, _-_}
-use native.Mathlib.Omega.{arith}
 use borrow.Author.Needs.{needs}
-use lib.ListN.{length}
+use native.Mathlib.Omega.{arith}
 use mathlib.Core.Logic.{⊎-elim}
 use Rattle.vectors.proofs.transform.transforms.Statement.{statement}
 use Rattle.vectors.proofs.transform.transforms.Tie as tie
 
 abbrev Inv-loop : tie.InvT-loop
-Inv-loop list right₀ i₀ right i = (i ≤ length list) × (right ≤ i)
+Inv-loop rows right₀ i₀ right i = right ≤ i
 
 abbrev μ-loop : tie.MeasureT-loop
-μ-loop list right₀ i₀ right i = length list - i
+μ-loop rows right₀ i₀ right i = rows - i
 
 loop-holds : tie.Need-loop-holds Inv-loop μ-loop
 loop-holds c = search needs
 
-sub-loop : tie.Need-sub-loop Inv-loop μ-loop
-sub-loop c = search needs
-
-transform-at-requires : tie.Need-transform-at-requires Inv-loop μ-loop
-transform-at-requires c κs = search needs
+transform-is-requires : tie.Need-transform-is-requires Inv-loop μ-loop
+transform-is-requires c κs = search needs
 
 add-right : tie.Need-add-right Inv-loop μ-loop
 add-right c = search needs
@@ -44,8 +40,7 @@ transforms-spec =
     Inv-loop
     μ-loop
     loop-holds
-    sub-loop
-    transform-at-requires
+    transform-is-requires
     add-right
     add-i
     loop-less
