@@ -112,18 +112,18 @@ fn squared_asks(wide: bool) -> Vec<Ask> {
     ]
 }
 
-/// Rows of 15: words (1) or bytes (0), depth, width, height; of each plane its stride, and where it begins and ends; the squared error,
-/// the count of samples and their largest, 0 where it is refused; the answer; 0.
-pub fn squared(samples: &Samples) -> Vec<usize> {
-    let asks = [false, true].into_iter().flat_map(squared_asks);
-    asks.flat_map(|ask| {
+/// Rows of 15: words (1) or bytes (0), depth, width, height; of each plane its stride, and where it begins and ends; whether there is an error,
+/// the count of samples and their largest, 0 where it is refused; the answer, and where in the scores the error stands.
+pub fn squared(samples: &Samples, scores: &mut Vec<f64>) -> Vec<usize> {
+    let mut rows = Vec::new();
+    for ask in [false, true].into_iter().flat_map(squared_asks) {
         let no = samples.refusal(&ask);
         let (error, n, max) = if no == 0 { record(samples, &ask) } else { (0.0, 0, 0) };
-        let mut row = ask.row();
-        row.extend([error as usize, n, max, usize::from(no), 0]);
-        row
-    })
-    .collect()
+        rows.extend(ask.row());
+        rows.extend([usize::from(error > 0.0), n, max]);
+        rows.extend(told(no, scores, || [error]));
+    }
+    rows
 }
 
 fn record(samples: &Samples, ask: &Ask) -> (f64, usize, usize) {

@@ -53,7 +53,7 @@ fn planes(samples: &Samples) {
     let mut scores = Vec::new();
     let families = [
         ("CHECKS", checks.iter().flat_map(row).collect()),
-        ("SQUARED", scored::squared(samples)),
+        ("SQUARED", scored::squared(samples, &mut scores)),
         ("SIMILAR", scored::similar(samples, &mut scores)),
         ("VISUAL", scored::visual(samples, &mut scores)),
         ("SCALES", scaled::rows(&mut scores)),
@@ -62,7 +62,8 @@ fn planes(samples: &Samples) {
     println!("// answer; and where its scores begin, 0 where it has none. The families follow each other:");
     println!("// checks: of each plane the place of one sample, the others being 0 (at place {} none is set), and its length; then", ROOM);
     println!("// that sample of each, and the least side;");
-    println!("// squared errors: of each plane where it begins and ends; then the error, the count of samples and their largest;");
+    println!("// squared errors: of each plane where it begins and ends; then whether there is an error (1) or none (0), the count of");
+    println!("// samples and their largest; its score is the error;");
     println!("// SSIM: planes as before; then where the kernel begins and ends, and the places of scratch; its scores are ssim and cs;");
     println!("// PSNR-HVS: planes as before; then the kind (y 0, u 1, v 2) and two zeros;");
     println!("// MS-SSIM: of each plane its seed and its length; then how far below the largest the samples reach, and two zeros; its");

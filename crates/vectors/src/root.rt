@@ -31,8 +31,7 @@ fn roots(pairs: usize) -> usize {
     right
 }
 
-pub fn replay() {
-    tell::line(b"roots: ", roots(table::PAIRS), table::PAIRS);
+fn others() {
     let infinity = 1.0 / 0.0;
     let list = [
         root_is(infinity, -1.0),
@@ -40,4 +39,9 @@ pub fn replay() {
         root_is(0.0 / 0.0, -1.0),
     ];
     tell::held(b"infinities and not a number: ", &list);
+}
+
+pub fn replay() {
+    tell::line(b"roots: ", roots(table::PAIRS), table::PAIRS);
+    others();
 }

@@ -68,7 +68,7 @@ fn spoils(sq_err: f64, n: u64, sample_max: u32) -> bool {
     sums_to(two(sq_err, n, sample_max), RECORD, 0.0, 0, 0)
 }
 
-// The totals 2^53 and one more; none, the most records and one more.
+// The totals 2^53 and one more.
 fn totals() {
     let list = [
         sums_to(
@@ -80,12 +80,19 @@ fn totals() {
         ),
         sums_to(nine(4397509640193.0), TOTAL, 0.0, 0, 0),
         sums_to(two(0.0, 3, 255), 0, 9.0, 5, 255),
+    ];
+    tell::held(b"series: ", &list);
+}
+
+// No record, the most and one more; and a largest sample that no depth has.
+fn counts() {
+    let list = [
         sums_to(equal(0, 1), RECORD, 0.0, 0, 0),
         sums_to(equal(65536, 1), 0, 0.0, 327680, 1),
         sums_to(equal(65537, 1), RECORD, 0.0, 0, 0),
         sums_to(equal(1, 254), RECORD, 0.0, 0, 0),
     ];
-    tell::held(b"series: ", &list);
+    tell::held(b"series of equal records: ", &list);
 }
 
 // Records that spoil a series.
@@ -104,5 +111,6 @@ fn spoiled() {
 
 pub fn replay() {
     totals();
+    counts();
     spoiled();
 }

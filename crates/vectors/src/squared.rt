@@ -1,4 +1,4 @@
-// Squared errors of two planes: x is the error, y the count of samples, z the largest that a sample can be.
+// Squared errors of two planes: x is 0 where the planes are equal, else 1; y is the count of samples, z the largest that one can be.
 use crate::rows::Row;
 use crate::table;
 use crate::tell;
@@ -33,7 +33,7 @@ fn ask16(r: Row) -> SquaredError {
 
 fn record_is(s: Record, r: Row) -> bool {
     (r.told.no == 0)
-        & tell::same(s.sq_err, tell::double(r.told.x))
+        & tell::stands(s.sq_err, r.told.at)
         & (s.n == (r.told.y as u64))
         & ((s.sample_max as usize) == r.told.z)
 }

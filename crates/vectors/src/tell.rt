@@ -78,12 +78,3 @@ pub fn both_stand(x: f64, y: f64, at: usize) -> bool {
 pub fn wide(n: u8) -> usize {
     n as usize
 }
-
-// A whole number as a double; none of the table's is above 2^53.
-pub fn double(n: usize) -> f64 {
-    if n <= 0x20_0000_0000_0000 {
-        number::exact(n as u64)
-    } else {
-        -1.0
-    }
-}

@@ -20,10 +20,13 @@ fn block(from: usize) -> [i32; 64]
     list
 }
 
-fn same(a: &[i32; 64], b: &[i32; 64]) -> bool {
+// Whether these are the 64 numbers from a place on.
+fn stand(list: &[i32; 64], from: usize) -> bool
+    requires { ⌜ from ≤ 65536 ⌝ }
+{
     let mut right = true;
     for i in 0..64 {
-        right = right & (a[i] == b[i]);
+        right = right & (list[i] == entry(from + i));
     }
     right
 }
@@ -44,7 +47,7 @@ fn transform_is(i: usize) -> bool
     let from = block(at + 2);
     let mut out = [0i32; 64];
     let answer = ask(entry(at) != 0, &from, &mut out);
-    ((answer as i32) == entry(at + 1)) & same(&out, &block(at + 66))
+    ((answer as i32) == entry(at + 1)) & stand(&out, at + 66)
 }
 
 // How many of the first rows give their answer.
