@@ -12,8 +12,7 @@ mod transform;
 mod visual;
 
 fn main() {
-    root::replay();
-    transform::replay();
+    root::replay_others();
     series::replay();
     rows::replay();
 }

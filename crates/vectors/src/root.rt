@@ -1,4 +1,5 @@
 // Roots: a number, and its root or -1 where it is refused.
+ghost use Prim.Native.Nat.{_<_};
 use crate::table;
 use crate::tell;
 use number::Rooted;
@@ -19,19 +20,14 @@ fn root_is(x: f64, root: f64) -> bool {
     }
 }
 
-// How many of the first pairs are a number and its root.
-fn roots(pairs: usize) -> usize {
-    let mut right: usize = 0;
-    for i in 0..pairs {
-        let at = 2 * (i % 4096);
-        if root_is(entry(at), entry(at + 1)) {
-            right += 1;
-        }
-    }
-    right
+// Whether pair i is a number and its root.
+pub fn pair_is(i: usize) -> bool
+    requires { ⌜ i < 4096 ⌝ }
+{
+    root_is(entry(2 * i), entry(2 * i + 1))
 }
 
-fn others() {
+pub fn replay_others() {
     let infinity = 1.0 / 0.0;
     let list = [
         root_is(infinity, -1.0),
@@ -39,9 +35,4 @@ fn others() {
         root_is(0.0 / 0.0, -1.0),
     ];
     tell::held(b"infinities and not a number: ", &list);
-}
-
-pub fn replay() {
-    tell::line(b"roots: ", roots(table::PAIRS), table::PAIRS);
-    others();
 }

@@ -1,11 +1,13 @@
-// Rows of the table: each asks for a call on two planes, and has the answer.
+// The families of stored answers. A row of the largest table asks for a call on two planes, and has the answer.
 ghost use Prim.Native.Nat.{_≤_, _<_};
 use crate::planes;
+use crate::root;
 use crate::scales;
 use crate::similar;
 use crate::squared;
 use crate::table;
 use crate::tell;
+use crate::transform;
 use crate::visual;
 
 pub struct Size {
@@ -44,16 +46,12 @@ fn number(i: usize) -> usize {
     if i < list.len() { list[i] } else { 0 }
 }
 
-fn depth_of(n: usize) -> u32 {
-    if n < 65536 { n as u32 } else { 0 }
-}
-
 fn size_at(from: usize) -> Size
     requires { ⌜ from ≤ 65536 ⌝ }
 {
     Size {
         wide: number(from) != 0,
-        depth: depth_of(number(from + 1)),
+        depth: (number(from + 1) % 65536) as u32,
         width: number(from + 2),
         height: number(from + 3),
     }
@@ -94,14 +92,18 @@ fn row_at(i: usize) -> Row
     }
 }
 
-// Whether a row of a family gives its answer.
-fn row_is(family: usize, r: Row) -> bool {
+// Whether row i gives its answer: of roots, of transforms, or of this table.
+fn row_is(family: usize, i: usize) -> bool
+    requires { ⌜ i < 4096 ⌝ }
+{
     match family {
-        0 => planes::check_is(r),
-        1 => squared::error_is(r),
-        2 => similar::pair_is(r),
-        3 => visual::score_is(r),
-        _ => scales::five_are(r),
+        0 => root::pair_is(i),
+        1 => transform::block_is(i),
+        2 => planes::check_is(row_at(i)),
+        3 => squared::error_is(row_at(i)),
+        4 => similar::pair_is(row_at(i)),
+        5 => visual::score_is(row_at(i)),
+        _ => scales::five_are(row_at(i)),
     }
 }
 
@@ -111,7 +113,7 @@ fn right_ones(family: usize, first: usize, end: usize) -> usize
 {
     let mut right: usize = 0;
     for i in first..end {
-        if row_is(family, row_at(i)) {
+        if row_is(family, i) {
             right += 1;
         }
     }
@@ -125,9 +127,11 @@ fn family(name: &[u8], family: usize, first: usize, end: usize)
 }
 
 pub fn replay() {
-    family(b"plane checks: ", 0, 0, table::CHECKS);
-    family(b"squared errors: ", 1, table::CHECKS, table::SQUARED);
-    family(b"SSIM: ", 2, table::SQUARED, table::SIMILAR);
-    family(b"PSNR-HVS: ", 3, table::SIMILAR, table::VISUAL);
-    family(b"MS-SSIM: ", 4, table::VISUAL, table::SCALES);
+    family(b"roots: ", 0, 0, table::PAIRS);
+    family(b"transforms: ", 1, 0, table::BLOCKS);
+    family(b"plane checks: ", 2, 0, table::CHECKS);
+    family(b"squared errors: ", 3, table::CHECKS, table::SQUARED);
+    family(b"SSIM: ", 4, table::SQUARED, table::SIMILAR);
+    family(b"PSNR-HVS: ", 5, table::SIMILAR, table::VISUAL);
+    family(b"MS-SSIM: ", 6, table::VISUAL, table::SCALES);
 }

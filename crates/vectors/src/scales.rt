@@ -86,6 +86,6 @@ fn pairs_are(p: Pairs, from: usize) -> bool {
 pub fn five_are(r: Row) -> bool {
     match ask(r) {
         MsSsim::Five(p) => (r.told.no == 0) & pairs_are(p, r.told.at),
-        MsSsim::Refused(n) => tell::wide(n) == r.told.no,
+        MsSsim::Refused(n) => (n as usize) == r.told.no,
     }
 }

@@ -49,6 +49,6 @@ fn ask(r: Row) -> Ssim {
 pub fn pair_is(r: Row) -> bool {
     match ask(r) {
         Ssim::Pair { ssim, cs } => { (r.told.no == 0) & tell::both_stand(ssim, cs, r.told.at) }
-        Ssim::Refused(n) => tell::wide(n) == r.told.no,
+        Ssim::Refused(n) => (n as usize) == r.told.no,
     }
 }

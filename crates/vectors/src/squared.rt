@@ -47,6 +47,6 @@ pub fn error_is(r: Row) -> bool {
     match ask(r) {
         SquaredError::Differs(s) => record_is(s, r) & (r.told.x != 0),
         SquaredError::Identical(s) => record_is(s, r) & (r.told.x == 0),
-        SquaredError::Refused(n) => tell::wide(n) == r.told.no,
+        SquaredError::Refused(n) => (n as usize) == r.told.no,
     }
 }

@@ -74,7 +74,3 @@ pub fn stands(x: f64, at: usize) -> bool {
 pub fn both_stand(x: f64, y: f64, at: usize) -> bool {
     stands(x, at) & stands(y, at % 65536 + 1)
 }
-
-pub fn wide(n: u8) -> usize {
-    n as usize
-}

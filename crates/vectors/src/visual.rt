@@ -49,6 +49,6 @@ fn ask(r: Row) -> Hvs {
 pub fn score_is(r: Row) -> bool {
     match ask(r) {
         Hvs::Score(s) => (r.told.no == 0) & tell::stands(s, r.told.at),
-        Hvs::Refused(n) => tell::wide(n) == r.told.no,
+        Hvs::Refused(n) => (n as usize) == r.told.no,
     }
 }

@@ -15,9 +15,6 @@ abbrev μ-loop : tie.MeasureT-loop
 loop-holds : tie.Need-loop-holds Inv-loop μ-loop
 loop-holds c = search needs
 
-row-at-requires : tie.Need-row-at-requires Inv-loop μ-loop
-row-at-requires c κs = search needs
-
 row-is-requires : tie.Need-row-is-requires Inv-loop μ-loop
 row-is-requires c κs = search needs
 
@@ -43,7 +40,6 @@ right-ones-spec =
     Inv-loop
     μ-loop
     loop-holds
-    row-at-requires
     row-is-requires
     add-right
     add-i
