@@ -14,5 +14,6 @@ mod visual;
 fn main() {
     root::replay_others();
     series::replay();
-    rows::replay();
+    rows::replay_plain();
+    rows::replay_scores();
 }
