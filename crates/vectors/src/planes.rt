@@ -1,5 +1,5 @@
-// Checks of two planes. Of each plane `from` is the place of the one sample that is not 0, and `end` how many samples there are; x and y are
-// those samples, z is the least side.
+// Checks of two planes. Of each plane `from` is the place of the one sample that is not 0, and `end` how many samples there are; x and y
+// are those samples, z is the least side.
 use crate::rows::Row;
 use crate::tell;
 

@@ -1,5 +1,5 @@
-// MS-SSIM of two planes that are made by a rule: of each plane `from` is its seed, and `end` how many samples there are; x is how far below the
-// largest its samples reach, y is 0, z is 0. The places lent are those that 17 by 33 need, and no row asks for more.
+// MS-SSIM of two planes that are made by a rule: of each plane `from` is its seed, and `end` how many samples there are; x is how far
+// below the largest its samples reach, y is 0, z is 0. The places lent are those that 17 by 33 need, and no row asks for more.
 use crate::rows::Row;
 use crate::tell;
 use msssim::MsSsim;
