@@ -3,7 +3,9 @@
 //! judge [--full] [--seed N] [FAMILY..]
 
 mod combine;
+mod downscale;
 mod family;
+mod five;
 mod hvs;
 mod hvs_ways;
 mod lifting;
@@ -28,7 +30,7 @@ use std::process::exit;
 /// A family's name, and what runs it.
 type Named = (&'static str, fn(Run) -> bool);
 
-const FAMILIES: [Named; 11] = [
+const FAMILIES: [Named; 12] = [
     ("published", published_numbers::compare),
     ("root", root::compare),
     ("plane", plane::compare),
@@ -37,6 +39,7 @@ const FAMILIES: [Named; 11] = [
     ("series", series::compare),
     ("ssim", ssim::compare),
     ("hvs", hvs::compare),
+    ("downscale", downscale::compare),
     ("scales", scales::compare),
     ("combine", combine::compare),
     ("together", together::compare),

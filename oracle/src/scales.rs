@@ -1,11 +1,11 @@
 //! MS-SSIM's five pairs of both widths: the published pair at each published scale, the rules' refusals, and what is left in all that is lent.
 
 use crate::family::{number, run, Family, Run};
+use crate::five;
 use crate::plane;
 use crate::random::Random;
 use crate::samples::{sound, sound_of, Pair};
 use fuavelino::{lent, Sample};
-use published::video::ssim;
 
 /// What each place of the answer holds before a call, and must hold after a refusal.
 const BEFORE: u64 = 0x7FF4_DEAD_BEEF_0001;
@@ -121,7 +121,8 @@ fn model(c: &Case) -> (u8, [u64; 10]) {
     match c.pair.refusal(16) {
         0 if short => (8, [BEFORE; 10]),
         0 => {
-            let pairs = published(&c.pair);
+            let planes = c.pair.visible().map(|list| list.into_iter().map(u32::from).collect());
+            let pairs = five::pairs(planes, c.pair.width, c.pair.height, c.pair.max() as u64);
             if pairs.iter().all(|x| x.is_finite()) {
                 (0, pairs.map(f64::to_bits))
             } else {
@@ -130,27 +131,6 @@ fn model(c: &Case) -> (u8, [u64; 10]) {
         }
         refused => (refused, [BEFORE; 10]),
     }
-}
-
-/// The published pairs of the published scales, each made from the one above.
-fn published(p: &Pair) -> [f64; 10] {
-    let kernel = ssim::probe_kernel(1.5, 5, 1_024);
-    let [mut a, mut b] = p.visible().map(|list| list.into_iter().map(u32::from).collect::<Vec<u32>>());
-    let (mut width, mut height, mut max) = (p.width, p.height, p.max() as u64);
-    let mut pairs = [0.0; 10];
-    for k in 0..5 {
-        if k > 0 {
-            a = ssim::probe_downscale(&a, width, height);
-            b = ssim::probe_downscale(&b, width, height);
-            width /= 2;
-            height /= 2;
-            max *= 4;
-        }
-        let (ssim, cs) = ssim::probe_pair(&a, &b, width, height, max, &kernel);
-        pairs[2 * k] = ssim;
-        pairs[2 * k + 1] = cs;
-    }
-    pairs
 }
 
 /// The least sides and one below, odd sides, a large one, and bright planes at every depth.

@@ -1,4 +1,4 @@
-//! The stored answers that the published Rust gives: transforms, squared errors and SSIM; refusals are the model's.
+//! The stored answers that the published Rust gives: transforms, squared errors and scores; refusals are the model's.
 
 use crate::lifting;
 use crate::model::{Lent, VALUE};
@@ -112,18 +112,18 @@ fn squared_asks(wide: bool) -> Vec<Ask> {
     ]
 }
 
-/// Rows of 14: words (1) or bytes (0), depth, width, height; of each plane its stride, and where it begins and ends; the answer,
-/// and of an accepted one its squared error, its count of samples and their largest.
-pub fn squared(samples: &Samples) -> Vec<usize> {
-    let asks = [false, true].into_iter().flat_map(squared_asks);
-    asks.flat_map(|ask| {
+/// Rows of 15: words (1) or bytes (0), depth, width, height; of each plane its stride, and where it begins and ends; whether there is an error,
+/// the count of samples and their largest, 0 where it is refused; the answer, and where in the scores the error stands.
+pub fn squared(samples: &Samples, scores: &mut Vec<f64>) -> Vec<usize> {
+    let mut rows = Vec::new();
+    for ask in [false, true].into_iter().flat_map(squared_asks) {
         let no = samples.refusal(&ask);
         let (error, n, max) = if no == 0 { record(samples, &ask) } else { (0.0, 0, 0) };
-        let mut row = ask.row();
-        row.extend([usize::from(no), error as usize, n, max]);
-        row
-    })
-    .collect()
+        rows.extend(ask.row());
+        rows.extend([usize::from(error > 0.0), n, max]);
+        rows.extend(told(no, scores, || [error]));
+    }
+    rows
 }
 
 fn record(samples: &Samples, ask: &Ask) -> (f64, usize, usize) {
@@ -156,21 +156,28 @@ fn similar_asks(wide: bool) -> Vec<Similar> {
     ]
 }
 
-/// Rows of 14: as `squared` up to the planes, then where the kernel begins and ends, the places of scratch, the answer. Then the
-/// ssim of each row and the cs of each, 0 where it is refused.
-pub fn similar(samples: &Samples) -> (Vec<usize>, Vec<f64>, Vec<f64>) {
-    let (mut rows, mut ssims, mut css) = (Vec::new(), Vec::new(), Vec::new());
+/// Rows of 15: as `squared` up to the planes, then where the kernel begins and ends, the places of scratch, the answer, and where in
+/// the scores ssim and cs stand.
+pub fn similar(samples: &Samples, scores: &mut Vec<f64>) -> Vec<usize> {
+    let mut rows = Vec::new();
     for (ask, kernel, scratch) in [false, true].into_iter().flat_map(similar_asks) {
         let begins: usize = KERNELS[..kernel].iter().map(|k| k.len()).sum();
         let kernel = KERNELS[kernel];
         let no = similar_refusal(samples.refusal(&ask), kernel, scratch, ask.width);
         rows.extend(ask.row());
-        rows.extend([begins, begins + kernel.len(), scratch, usize::from(no)]);
-        let (ssim, cs) = if no == 0 { pair(samples, &ask, kernel) } else { (0.0, 0.0) };
-        ssims.push(ssim);
-        css.push(cs);
+        rows.extend([begins, begins + kernel.len(), scratch]);
+        rows.extend(told(no, scores, || pair(samples, &ask, kernel)));
     }
-    (rows, ssims, css)
+    rows
+}
+
+/// The end of a row: its answer, and where the scores of an accepted one then stand.
+pub fn told<const N: usize>(no: u8, scores: &mut Vec<f64>, score: impl FnOnce() -> [f64; N]) -> [usize; 2] {
+    if no != 0 {
+        return [usize::from(no), 0];
+    }
+    scores.extend(score());
+    [0, scores.len() - N]
 }
 
 pub fn kernels() -> Vec<u16> {
@@ -190,10 +197,11 @@ fn similar_refusal(planes: u8, kernel: &[u16], scratch: usize, width: usize) -> 
     }
 }
 
-fn pair(samples: &Samples, ask: &Ask, kernel: &[u16]) -> (f64, f64) {
+fn pair(samples: &Samples, ask: &Ask, kernel: &[u16]) -> [f64; 2] {
     let [a, b] = [ask.a, ask.b].map(|v| samples.visible(ask, v).into_iter().map(u32::from).collect::<Vec<u32>>());
     let taps: Vec<i64> = kernel.iter().map(|tap| i64::from(*tap)).collect();
-    ssim::probe_pair(&a, &b, ask.width, ask.height, (1 << ask.depth) - 1, &taps)
+    let (ssim, cs) = ssim::probe_pair(&a, &b, ask.width, ask.height, (1 << ask.depth) - 1, &taps);
+    [ssim, cs]
 }
 
 /// Eight by eight and more, of every kind; and on the other side of the least side, 7.
@@ -208,18 +216,18 @@ fn visual_asks(wide: bool) -> Vec<(Ask, usize)> {
     list
 }
 
-/// Rows of 14: as `squared` up to the planes, then the kind, 0, 0, the answer. Then the score of each row, 0 where it is refused.
-pub fn visual(samples: &Samples) -> (Vec<usize>, Vec<f64>) {
-    let (mut rows, mut scores) = (Vec::new(), Vec::new());
+/// Rows of 15: as `squared` up to the planes, then the kind, 0, 0, the answer, and where in the scores its own stands.
+pub fn visual(samples: &Samples, scores: &mut Vec<f64>) -> Vec<usize> {
+    let mut rows = Vec::new();
     for (ask, kind) in [false, true].into_iter().flat_map(visual_asks) {
         let planes = [ask.a, ask.b].map(|v| (v.stride, &samples.of(ask.wide)[v.from..v.end]));
         let Ask { wide, depth, width, height, .. } = ask;
         let no = Lent { wide, depth, width, height, least: 8, planes }.refusal();
         rows.extend(ask.row());
-        rows.extend([kind, 0, 0, usize::from(no)]);
-        scores.push(if no == 0 { hvs(samples, &ask, kind) } else { 0.0 });
+        rows.extend([kind, 0, 0]);
+        rows.extend(told(no, scores, || [hvs(samples, &ask, kind)]));
     }
-    (rows, scores)
+    rows
 }
 
 fn hvs(samples: &Samples, ask: &Ask, kind: usize) -> f64 {

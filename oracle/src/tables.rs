@@ -4,9 +4,11 @@
 
 #![allow(dead_code)] // it uses a part of what it shares with the judge
 
+mod five;
 mod lifting;
 mod model;
 mod random;
+mod scaled;
 mod scored;
 
 use model::{Check, Plane};
@@ -14,58 +16,74 @@ use random::Random;
 use scored::Samples;
 
 /// The program's planes hold this many samples; a sample set at this place is none.
-const ROOM: usize = 4_096;
+const ROOM: usize = 8_192;
 
 fn main() {
     let seed = std::env::args().nth(1).map_or(1, |word| word.parse().expect("the seed is a number"));
-    let (roots, refused): (Vec<u64>, Vec<u64>) = asked(seed).iter().partition(|bits| model::root(**bits).is_some());
-    let pairs = roots.iter().flat_map(|bits| [*bits, model::root(*bits).unwrap()]);
     println!("// Made by `tools/vectors {}`, which asks the oracle. Do not edit: change oracle/src/tables.rs and make it anew.", seed);
     println!();
-    println!("// A number, then its root, in turn.");
-    list("ROOTS", "f64", pairs.map(number).collect());
-    println!("// Finite numbers that have no root.");
-    list("ROOTLESS", "f64", refused.iter().map(|bits| number(*bits)).collect());
-    let checks = checks();
-    assert!(checks.iter().all(|c| c.a.len <= ROOM && c.b.len <= ROOM));
-    println!("// Checks of two planes, 14 numbers each: words (1) or bytes (0), depth, width, height, least side; then of each");
-    println!("// plane its stride, its length, and place and value of one sample (the others are 0; at place 4096 none is set);");
-    println!("// then the answer.");
-    list("CHECKS", "usize", words(checks.iter().flat_map(row)));
+    println!("// A number, then its root or -1 where it is refused, in turn.");
+    let asked = asked(seed);
+    list("ROOTS", "f64", numbers(asked.iter().flat_map(|bits| root(*bits))));
+    count("PAIRS", asked.len());
     transforms(seed);
     planes(&Samples::new(seed));
+}
+
+fn root(bits: u64) -> [f64; 2] {
+    [f64::from_bits(bits), model::root(bits).map_or(-1.0, f64::from_bits)]
 }
 
 fn transforms(seed: u64) {
     println!("// Transforms, 130 numbers each: the inverse (1) or forward (0), the answer, 64 numbers, and the 64 that they become,");
     println!("// 0 where they are refused.");
-    list("TRANSFORMS", "i32", words(scored::transforms(seed)));
+    let rows = scored::transforms(seed);
+    list("TRANSFORMS", "i32", words(&rows));
+    count("BLOCKS", rows.len() / 130);
 }
 
-/// Squared errors and SSIM, and what both read.
+/// What the program asks of two planes: rows of 15 numbers, and the scores that they lead to.
 fn planes(samples: &Samples) {
-    println!("// The samples of the planes below.");
+    println!("// Samples that planes below are parts of, and the taps of kernels.");
     list("BYTES", "u8", words(&samples.bytes));
     list("WORDS", "u16", words(&samples.words));
-    println!("// Squared errors, 14 numbers each: words (1) or bytes (0), depth, width, height; then of each plane its stride and where");
-    println!(
-        "// it begins and ends; then the answer and, where it is 0, the error, the count of samples and their largest."
-    );
-    list("SQUARED", "usize", words(scored::squared(samples)));
-    println!("// The taps of the kernels below.");
     list("TAPS", "u16", words(scored::kernels()));
-    println!("// SSIM, 14 numbers each: as above up to the planes; then where the kernel begins and ends, the places of scratch, the");
-    println!("// answer. Then the ssim of each, and the cs of each, 0 where it is refused.");
-    let (rows, ssims, css) = scored::similar(samples);
-    list("SIMILAR", "usize", words(rows));
-    for (name, scores) in [("SSIMS", ssims), ("CSS", css)] {
-        list(name, "f64", scores.iter().map(|score| number(score.to_bits())).collect());
+    let checks = checks();
+    assert!(checks.iter().all(|c| c.a.len <= ROOM && c.b.len <= ROOM));
+    let mut scores = Vec::new();
+    let families = [
+        ("CHECKS", checks.iter().flat_map(row).collect()),
+        ("SQUARED", scored::squared(samples, &mut scores)),
+        ("SIMILAR", scored::similar(samples, &mut scores)),
+        ("VISUAL", scored::visual(samples, &mut scores)),
+        ("SCALES", scaled::rows(&mut scores)),
+    ];
+    println!("// Rows of 15: words (1) or bytes (0), depth, width, height; three numbers of each plane, its stride first; three more; the");
+    println!("// answer; and where its scores begin, 0 where it has none. The families follow each other:");
+    println!("// checks: of each plane the place of one sample, the others being 0 (at place {} none is set), and its length; then", ROOM);
+    println!("// that sample of each, and the least side;");
+    println!("// squared errors: of each plane where it begins and ends; then whether there is an error (1) or none (0), the count of");
+    println!("// samples and their largest; its score is the error;");
+    println!("// SSIM: planes as before; then where the kernel begins and ends, and the places of scratch; its scores are ssim and cs;");
+    println!("// PSNR-HVS: planes as before; then the kind (y 0, u 1, v 2) and two zeros;");
+    println!("// MS-SSIM: of each plane its seed and its length; then how far below the largest the samples reach, and two zeros; its");
+    println!("// scores are ssim and cs of each scale.");
+    list("ROWS", "usize", words(families.iter().flat_map(|(_, rows)| rows)));
+    println!("// The row at which each family ends.");
+    let mut end = 0;
+    for (name, rows) in families.iter() {
+        end += rows.len() / 15;
+        count(name, end);
     }
-    println!("// PSNR-HVS, 14 numbers each: as above up to the planes; then the kind (y 0, u 1, v 2), two zeros, the answer. Then the");
-    println!("// score of each, 0 where it is refused.");
-    let (rows, scores) = scored::visual(samples);
-    list("VISUAL", "usize", words(rows));
-    list("HVSS", "f64", scores.iter().map(|score| number(score.to_bits())).collect());
+    list("SCORES", "f64", numbers(scores));
+}
+
+fn count(name: &str, n: usize) {
+    println!("pub const {}: usize = {};\n", name, n);
+}
+
+fn numbers(list: impl IntoIterator<Item = f64>) -> Vec<String> {
+    list.into_iter().map(|x| number(x.to_bits())).collect()
 }
 
 fn words<T: ToString>(numbers: impl IntoIterator<Item = T>) -> Vec<String> {
@@ -87,13 +105,14 @@ fn number(bits: u64) -> String {
 }
 
 fn row(c: &Check) -> Vec<usize> {
-    let mut list = vec![usize::from(c.wide), c.depth as usize, c.width, c.height, c.least];
+    let mut list = vec![usize::from(c.wide), c.depth as usize, c.width, c.height];
+    let odd = |p: &Plane| p.odd.first().copied().unwrap_or((ROOM, 0));
     for plane in c.planes() {
-        let (at, value) = plane.odd.first().copied().unwrap_or((ROOM, 0));
-        list.extend([plane.stride, plane.len, at, usize::from(value)]);
+        list.extend([plane.stride, odd(plane).0, plane.len]);
     }
+    list.extend(c.planes().map(|plane| usize::from(odd(plane).1)));
     let [a, b] = c.planes().map(|p| p.samples(c.width, c.height));
-    list.push(usize::from(c.lent(&a, &b).refusal()));
+    list.extend([c.least, usize::from(c.lent(&a, &b).refusal()), 0]);
     list
 }
 
@@ -148,11 +167,12 @@ fn sides(list: &mut Vec<Check>, wide: bool) {
     list.push(Check { width: 0, ..sound(wide, 3, 2) });
     list.push(Check { height: 0, ..sound(wide, 3, 2) });
     for side in [8_192, 8_193, (1 << 32) + 1] {
-        let mut c = Check { width: side, ..sound(wide, 1, 1) };
+        let len = side.min(ROOM);
+        let mut c = Check { width: side, ..sound(wide, len, 1) };
         c.a.stride = side;
         c.b.stride = side;
         list.push(c);
-        list.push(Check { height: side, ..sound(wide, 1, 1) });
+        list.push(Check { height: side, ..sound(wide, 1, len) });
     }
     for least in [8, 16] {
         for (less, low) in [(1, 0), (0, 1), (0, 0)] {

@@ -1,7 +1,8 @@
 // Replays the oracle's stored answers (src/table.rt) and prints for each family how many of them the product gives.
-mod limits;
 mod planes;
 mod root;
+mod rows;
+mod scales;
 mod series;
 mod similar;
 mod squared;
@@ -11,13 +12,8 @@ mod transform;
 mod visual;
 
 fn main() {
-    root::replay_roots();
-    root::replay_rootless();
-    planes::replay_checks();
-    limits::replay();
-    transform::replay();
-    squared::replay();
+    root::replay_others();
     series::replay();
-    similar::replay();
-    visual::replay();
+    rows::replay_plain();
+    rows::replay_scores();
 }

@@ -1,99 +1,57 @@
-// Checks of two planes.
-use crate::table;
+// Checks of two planes. Of each plane `from` is the place of the one sample that is not 0, and `end` how many samples there are; x and y
+// are those samples, z is the least side.
+use crate::rows::Row;
 use crate::tell;
 
 // A plane of bytes that are 0 but for one.
-fn bytes(at: usize, value: usize) -> [u8; 4096] {
-    let mut list = [0u8; 4096];
-    if at < 4096 {
+fn bytes(at: usize, value: usize) -> [u8; 8192] {
+    let mut list = [0u8; 8192];
+    if at < 8192 {
         list[at] = (value % 256) as u8;
     }
     list
 }
 
 // The same of words.
-fn words(at: usize, value: usize) -> [u16; 4096] {
-    let mut list = [0u16; 4096];
-    if at < 4096 {
+fn words(at: usize, value: usize) -> [u16; 8192] {
+    let mut list = [0u16; 8192];
+    if at < 8192 {
         list[at] = (value % 65536) as u16;
     }
     list
 }
 
-// What the check of bytes answers to a row of the table; 255 where the row asks for more samples than there are.
-fn ask8(row: &[usize; 14], a: &[u8], b: &[u8]) -> u8 {
-    let first: usize = 0;
-    let m = row[6];
-    let n = row[10];
-    if m > a.len() || n > b.len() {
-        return 255;
-    }
+fn ask8(r: Row) -> u8 {
+    let a = bytes(r.a.from, r.told.x);
+    let b = bytes(r.b.from, r.told.y);
     plane::check8(
-        &a[first..m],
-        &b[first..n],
-        row[2],
-        row[3],
-        row[5],
-        row[9],
-        tell::depth_of(row[1]),
-        row[4],
+        tell::bytes_of(&a, 0, r.a.end),
+        tell::bytes_of(&b, 0, r.b.end),
+        r.size.width,
+        r.size.height,
+        r.a.stride,
+        r.b.stride,
+        r.size.depth,
+        r.told.z,
     )
 }
 
-fn ask16(row: &[usize; 14], a: &[u16], b: &[u16]) -> u8 {
-    let first: usize = 0;
-    let m = row[6];
-    let n = row[10];
-    if m > a.len() || n > b.len() {
-        return 255;
-    }
+fn ask16(r: Row) -> u8 {
+    let a = words(r.a.from, r.told.x);
+    let b = words(r.b.from, r.told.y);
     plane::check16(
-        &a[first..m],
-        &b[first..n],
-        row[2],
-        row[3],
-        row[5],
-        row[9],
-        tell::depth_of(row[1]),
-        row[4],
+        tell::words_of(&a, 0, r.a.end),
+        tell::words_of(&b, 0, r.b.end),
+        r.size.width,
+        r.size.height,
+        r.a.stride,
+        r.b.stride,
+        r.size.depth,
+        r.told.z,
     )
 }
 
-fn answer8(row: &[usize; 14]) -> u8 {
-    let a = bytes(row[7], row[8]);
-    let b = bytes(row[11], row[12]);
-    ask8(row, &a, &b)
-}
-
-fn answer16(row: &[usize; 14]) -> u8 {
-    let a = words(row[7], row[8]);
-    let b = words(row[11], row[12]);
-    ask16(row, &a, &b)
-}
-
-fn check_is(row: &[usize; 14]) -> bool {
-    if row[0] == 0 {
-        tell::wide(answer8(row)) == row[13]
-    } else {
-        tell::wide(answer16(row)) == row[13]
-    }
-}
-
-// How many checks of `list` give their answer.
-fn checks(list: &[usize]) -> usize {
-    let mut right: usize = 0;
-    let mut i: usize = 0;
-    while list.len() - i >= 14 {
-        let row = tell::row_at(list, i);
-        if check_is(&row) {
-            right += 1;
-        }
-        i += 14;
-    }
-    right
-}
-
-pub fn replay_checks() {
-    let list = table::CHECKS;
-    tell::line(b"plane checks: ", checks(&list), list.len() / 14);
+pub fn check_is(r: Row) -> bool {
+    let no = if r.size.wide { ask16(r) } else { ask8(r) };
+    (no as usize) == r.told.no
 }

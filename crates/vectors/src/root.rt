@@ -1,4 +1,5 @@
-// Roots.
+// Roots: a number, and its root or -1 where it is refused.
+ghost use Prim.Native.Nat.{_<_};
 use crate::table;
 use crate::tell;
 use number::Rooted;
@@ -6,59 +7,32 @@ use number::Rooted;
 // The refusal of a root.
 const VALUE: u8 = 12;
 
-pub fn root_is(x: f64, root: f64) -> bool {
+// Number i of the table.
+fn entry(i: usize) -> f64 {
+    let list = table::ROOTS;
+    if i < list.len() { list[i] } else { -2.0 }
+}
+
+fn root_is(x: f64, root: f64) -> bool {
     match number::root(x) {
         Rooted::Root(r) => tell::same(r, root),
-        Rooted::Refused(_) => false,
+        Rooted::Refused(n) => (n == VALUE) & (root == -1.0),
     }
 }
 
-fn is_rootless(x: f64) -> bool {
-    match number::root(x) {
-        Rooted::Root(_) => false,
-        Rooted::Refused(n) => n == VALUE,
-    }
+// Whether pair i is a number and its root.
+pub fn pair_is(i: usize) -> bool
+    requires { ⌜ i < 4096 ⌝ }
+{
+    root_is(entry(2 * i), entry(2 * i + 1))
 }
 
-// How many pairs of `list` are a number and its root.
-fn roots(list: &[f64]) -> usize {
-    let mut right: usize = 0;
-    let mut i: usize = 0;
-    while list.len() - i >= 2 {
-        if root_is(list[i], list[i + 1]) {
-            right += 1;
-        }
-        i += 2;
-    }
-    right
-}
-
-// How many numbers of `list` have no root.
-fn rootless(list: &[f64]) -> usize {
-    let mut right: usize = 0;
-    let mut i: usize = 0;
-    while i < list.len() {
-        if is_rootless(list[i]) {
-            right += 1;
-        }
-        i += 1;
-    }
-    right
-}
-
-pub fn replay_roots() {
-    let list = table::ROOTS;
-    tell::line(b"roots: ", roots(&list), list.len() / 2);
-}
-
-pub fn replay_rootless() {
-    let list = table::ROOTLESS;
-    tell::line(b"numbers without a root: ", rootless(&list), list.len());
+pub fn replay_others() {
     let infinity = 1.0 / 0.0;
-    let others = [infinity, -infinity, 0.0 / 0.0];
-    tell::line(
-        b"infinities and not a number: ",
-        rootless(&others),
-        others.len(),
-    );
+    let list = [
+        root_is(infinity, -1.0),
+        root_is(-infinity, -1.0),
+        root_is(0.0 / 0.0, -1.0),
+    ];
+    tell::held(b"infinities and not a number: ", &list);
 }

@@ -3,6 +3,7 @@ use crate::tell;
 use psnr::Record;
 use psnr::Run;
 use psnr::Summed;
+use psnr::Total;
 
 // The most samples of a record, and its largest error: each of them off by 4,095.
 const SAMPLES: u64 = 67108864;
@@ -33,28 +34,17 @@ fn repeated(s: Run, r: Record, times: usize) -> Run {
     t
 }
 
-fn refused(s: Run, no: u8) -> bool {
+// Whether a series is refused by this number, or where that is 0 has this total, "identical" where the error is 0 and nowhere else.
+fn sums_to(s: Run, no: u8, error: f64, n: u64, max: u32) -> bool {
     match psnr::finish(s) {
-        Summed::Differs(_) => false,
-        Summed::Identical(_) => false,
-        Summed::Refused(n) => n == no,
+        Summed::Differs(t) => total_is(t, no, error, n, max) & (error != 0.0),
+        Summed::Identical(t) => total_is(t, no, error, n, max) & (error == 0.0),
+        Summed::Refused(k) => k == no,
     }
 }
 
-fn differs(s: Run, error: f64, n: u64, max: u32) -> bool {
-    match psnr::finish(s) {
-        Summed::Differs(t) => t.sq_err == error && t.n == n && t.sample_max == max,
-        Summed::Identical(_) => false,
-        Summed::Refused(_) => false,
-    }
-}
-
-fn identical(s: Run, n: u64, max: u32) -> bool {
-    match psnr::finish(s) {
-        Summed::Differs(_) => false,
-        Summed::Identical(t) => tell::same(t.sq_err, 0.0) && t.n == n && t.sample_max == max,
-        Summed::Refused(_) => false,
-    }
+fn total_is(t: Total, no: u8, error: f64, n: u64, max: u32) -> bool {
+    (no == 0) & tell::same(t.sq_err, error) & (t.n == n) & (t.sample_max == max)
 }
 
 // Eight of the largest records, and one.
@@ -64,39 +54,63 @@ fn nine(error: f64) -> Run {
 }
 
 // A sound record, and one.
-fn two(r: Record) -> Run {
-    psnr::step(psnr::step(psnr::start(), record(9.0, 2, 255)), r)
+fn two(sq_err: f64, n: u64, sample_max: u32) -> Run {
+    let one = psnr::step(psnr::start(), record(9.0, 2, 255));
+    psnr::step(one, record(sq_err, n, sample_max))
 }
 
-// The total: 2^53 and one more.
+// So many equal records of error 0.
+fn equal(times: usize, sample_max: u32) -> Run {
+    repeated(psnr::start(), record(0.0, 5, sample_max), times)
+}
+
+fn spoils(sq_err: f64, n: u64, sample_max: u32) -> bool {
+    sums_to(two(sq_err, n, sample_max), RECORD, 0.0, 0, 0)
+}
+
+// The totals 2^53 and one more.
 fn totals() {
     let list = [
-        differs(nine(4397509640192.0), 9007199254740992.0, 603979776, 4095),
-        refused(nine(4397509640193.0), TOTAL),
-        differs(two(record(0.0, 3, 255)), 9.0, 5, 255),
-        identical(repeated(psnr::start(), record(0.0, 5, 1), 65536), 327680, 1),
+        sums_to(
+            nine(4397509640192.0),
+            0,
+            9007199254740992.0,
+            603979776,
+            4095,
+        ),
+        sums_to(nine(4397509640193.0), TOTAL, 0.0, 0, 0),
+        sums_to(two(0.0, 3, 255), 0, 9.0, 5, 255),
     ];
     tell::held(b"series: ", &list);
 }
 
-// Records that spoil a series, none, and one too many.
+// No record, the most and one more; and a largest sample that no depth has.
+fn counts() {
+    let list = [
+        sums_to(equal(0, 1), RECORD, 0.0, 0, 0),
+        sums_to(equal(65536, 1), 0, 0.0, 327680, 1),
+        sums_to(equal(65537, 1), RECORD, 0.0, 0, 0),
+        sums_to(equal(1, 254), RECORD, 0.0, 0, 0),
+    ];
+    tell::held(b"series of equal records: ", &list);
+}
+
+// Records that spoil a series.
 fn spoiled() {
     let list = [
-        refused(psnr::start(), RECORD),
-        refused(repeated(psnr::start(), record(0.0, 5, 1), 65537), RECORD),
-        refused(two(record(-0.0, 3, 255)), RECORD),
-        refused(two(record(0.5, 3, 255)), RECORD),
-        refused(two(record(0.0 / 0.0, 3, 255)), RECORD),
-        refused(two(record(195076.0, 3, 255)), RECORD),
-        refused(two(record(1.0, 0, 255)), RECORD),
-        refused(two(record(1.0, SAMPLES + 1, 255)), RECORD),
-        refused(two(record(1.0, 3, 127)), RECORD),
-        refused(psnr::step(psnr::start(), record(1.0, 3, 254)), RECORD),
+        spoils(-0.0, 3, 255),
+        spoils(0.5, 3, 255),
+        spoils(0.0 / 0.0, 3, 255),
+        spoils(195076.0, 3, 255),
+        spoils(1.0, 0, 255),
+        spoils(1.0, SAMPLES + 1, 255),
+        spoils(1.0, 3, 127),
     ];
     tell::held(b"spoiled series: ", &list);
 }
 
 pub fn replay() {
     totals();
+    counts();
     spoiled();
 }

@@ -1,6 +1,5 @@
-// What the replays share: the line that each prints, rows of a table, and numbers compared.
-ghost use Prim.Native.Nat.{_+_, _≤_};
-ghost use lib.ListN.{length};
+// What the replays share: the line that each prints, parts of what is lent, and numbers compared.
+use crate::table;
 
 pub fn line(name: &[u8], right: usize, all: usize) {
     io::write_all(1, name);
@@ -27,51 +26,51 @@ pub fn held(name: &[u8], list: &[bool]) {
     line(name, count(list), list.len());
 }
 
+// A part of bytes, and nothing where they are not there.
+pub fn bytes_of(list: &[u8], from: usize, end: usize) -> &[u8] {
+    if from > end {
+        return &list[..0];
+    }
+    if end > list.len() {
+        return &list[..0];
+    }
+    &list[from..end]
+}
+
+// The same of words.
+pub fn words_of(list: &[u16], from: usize, end: usize) -> &[u16] {
+    if from > end {
+        return &list[..0];
+    }
+    if end > list.len() {
+        return &list[..0];
+    }
+    &list[from..end]
+}
+
+// The first places of scratch, and none where there are not as many.
+pub fn places_of(list: &mut [i64], count: usize) -> &mut [i64] {
+    if count <= list.len() {
+        return &mut list[..count];
+    }
+    &mut list[..0]
+}
+
 // Whether two numbers are one, zeros of unlike sign told apart.
 pub fn same(x: f64, y: f64) -> bool {
-    x == y && 1.0 / x == 1.0 / y
+    (x == y) & (1.0 / x == 1.0 / y)
 }
 
-pub fn wide(n: u8) -> usize {
-    n as usize
-}
-
-pub fn depth_of(n: usize) -> u32 {
-    if n < 65536 { n as u32 } else { 0 }
-}
-
-// The 14 numbers from a place on.
-pub fn row_at(list: &[usize], from: usize) -> [usize; 14]
-    requires { ⌜ from + 14 ≤ length (now list) ⌝ }
-{
-    [
-        list[from],
-        list[from + 1],
-        list[from + 2],
-        list[from + 3],
-        list[from + 4],
-        list[from + 5],
-        list[from + 6],
-        list[from + 7],
-        list[from + 8],
-        list[from + 9],
-        list[from + 10],
-        list[from + 11],
-        list[from + 12],
-        list[from + 13],
-    ]
-}
-
-// A whole number as a double; none of the table's is above 2^53.
-pub fn double(n: usize) -> f64 {
-    if n <= 0x20_0000_0000_0000 {
-        number::exact(n as u64)
-    } else {
-        -1.0
+// Whether a number stands at a place of the table of scores.
+pub fn stands(x: f64, at: usize) -> bool {
+    let list = table::SCORES;
+    if at < list.len() {
+        return same(x, list[at]);
     }
+    false
 }
 
-// What stands at a place of a list of scores, and no score past its end.
-pub fn score(list: &[f64], at: usize) -> f64 {
-    if at < list.len() { list[at] } else { -2.0 }
+// Whether two numbers stand at a place and the next.
+pub fn both_stand(x: f64, y: f64, at: usize) -> bool {
+    stands(x, at) & stands(y, at % 65536 + 1)
 }

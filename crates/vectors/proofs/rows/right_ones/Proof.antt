@@ -1,29 +1,22 @@
--- `vectors::visual::right_ones` is safe and ends: the place stays within the list, and no more is right than was passed. Assumes nothing.
+-- `vectors::rows::right_ones` is safe and ends: no more is right than was passed. Assumes nothing.
 use Prim.Native.Nat.{_≤_, _-_}
-use native.Mathlib.Omega.{arith}
 use borrow.Author.Needs.{needs}
-use lib.ListN.{length}
+use native.Mathlib.Omega.{arith}
 use mathlib.Core.Logic.{⊎-elim}
-use Rattle.vectors.proofs.visual.right_ones.Statement.{statement}
-use Rattle.vectors.proofs.visual.right_ones.Tie as tie
+use Rattle.vectors.proofs.rows.right_ones.Statement.{statement}
+use Rattle.vectors.proofs.rows.right_ones.Tie as tie
 
 abbrev Inv-loop : tie.InvT-loop
-Inv-loop list scores bytes words right₀ i₀ right i = (i ≤ length list) × (right ≤ i)
+Inv-loop family first end right₀ i₀ right i = right ≤ i
 
 abbrev μ-loop : tie.MeasureT-loop
-μ-loop list scores bytes words right₀ i₀ right i = length list - i
+μ-loop family first end right₀ i₀ right i = end - i
 
 loop-holds : tie.Need-loop-holds Inv-loop μ-loop
 loop-holds c = search needs
 
-sub-loop : tie.Need-sub-loop Inv-loop μ-loop
-sub-loop c = search needs
-
-row-at-requires : tie.Need-row-at-requires Inv-loop μ-loop
-row-at-requires c κs = search needs
-
-score-is-requires : tie.Need-score-is-requires Inv-loop μ-loop
-score-is-requires c κs = search needs
+row-is-requires : tie.Need-row-is-requires Inv-loop μ-loop
+row-is-requires c κs = search needs
 
 add-right : tie.Need-add-right Inv-loop μ-loop
 add-right c = search needs
@@ -47,9 +40,7 @@ right-ones-spec =
     Inv-loop
     μ-loop
     loop-holds
-    sub-loop
-    row-at-requires
-    score-is-requires
+    row-is-requires
     add-right
     add-i
     loop-less

@@ -1,0 +1,51 @@
+// The downscale of MS-SSIM run by itself, so that it can be compared with the published one. This is no part of the product's library.
+ghost use mathlib.Core.Path.{_≡_};
+ghost use lib.ListN.{length};
+ghost use Rattle.plane.specs.Plane.{at};
+ghost use Rattle.plane.specs.Tests.{noneAbove};
+ghost use Rattle.window.specs.Columns.{mostSample};
+ghost use Rattle.probe.specs.Downscale.{downscaleRefusal, Later};
+
+// The largest sample that the sums of a scale are made for.
+const MOST_SAMPLE: u32 = 1048576;
+
+// Whether no place is above that.
+fn none_above(room: &[u32]) -> bool
+    ensures { λ r. ⌜ r ≡ noneAbove mostSample (at (now (room .entry))) (length (now (room .entry))) ⌝ }
+{
+    let mut ok = true;
+    for i in 0..room.len() {
+        ok = ok & (room[i] <= MOST_SAMPLE);
+    }
+    ok
+}
+
+// The lowest of 2, 5 and 6 that applies, and 0 where none does.
+fn refusal(room: &[u32], width: usize, height: usize) -> u8
+    ensures { λ r. ⌜ r ≡ downscaleRefusal width height (now (room .entry)) ⌝ }
+{
+    if !plane::sides_suit(width, height) {
+        return refusal::SIDE;
+    }
+    if room.len() < height * width {
+        return refusal::SHORT;
+    }
+    if !none_above(room) {
+        return refusal::SAMPLE;
+    }
+    0
+}
+
+// The scale below, in place; or 2, 5 or 6, and the places are as they were.
+#[no_mangle]
+pub extern "C" fn probe_downscale(room: &mut [u32], width: usize, height: usize) -> u8
+    ensures { λ r. ⌜ r ≡ downscaleRefusal width height (now (room .entry)) ⌝ }
+    ensures { λ _. ⌜ Later (downscaleRefusal width height (now (room .entry))) width height (now (room .entry)) (now (room .exit)) ⌝ }
+{
+    let no = refusal(room, width, height);
+    if no != 0 {
+        return no;
+    }
+    msssim::room::downscale(room, width, height);
+    0
+}
