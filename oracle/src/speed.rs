@@ -3,6 +3,7 @@
 //!
 //! speed [NAME..]
 
+mod five;
 #[allow(dead_code)]
 mod random;
 
@@ -231,21 +232,10 @@ fn run_hvs<T: Sample + Pixel>(scene: &Scene<T>) -> impl FnMut() + '_ {
 
 /// For each sample of the first scale; the published side is its own five pairs, without the power product.
 fn scales<T: Sample + Pixel>(scene: &Scene<T>) {
-    let kernel = ssim::probe_kernel(1.5, 5, 1_024);
-    let [u, v] = scene.wider();
+    let planes = scene.wider();
+    let Shape { width, height, .. } = scene.shape;
     let other = || {
-        let (mut u, mut v, mut w, mut h) = (u.clone(), v.clone(), scene.shape.width, scene.shape.height);
-        let mut max = scene.largest();
-        for scale in 0..5 {
-            if scale > 0 {
-                u = ssim::probe_downscale(&u, w, h);
-                v = ssim::probe_downscale(&v, w, h);
-                w /= 2;
-                h /= 2;
-                max *= 4;
-            }
-            black_box(ssim::probe_pair(black_box(&u), black_box(&v), w, h, max, black_box(&kernel)));
-        }
+        black_box(five::pairs(planes.clone(), width, height, scene.largest()));
     };
     beside(&scene.show(), scene.count(), "published", run_scales(scene), other);
 }
