@@ -1,5 +1,6 @@
 -- Document 01, "What a plane may be": what holds of planes that no test of Tests refuses, as facts. Functions that run after the
 -- tests ask for these. Definitions only.
+use mathlib.Core.Path.{_≡_}
 use mathlib.Core.Bool.{Bool}
 use mathlib.Core.List.{List, [], _∷_}
 use Prim.Native.Nat.{ℕ, _≤_, _<_}
@@ -30,3 +31,7 @@ pub record Accepted (wide : Bool) (planes : List Plane) (width height depth leas
   pub width-reaches : least ≤ width
   pub height-reaches : least ≤ height
   pub each : Each (Lawful width height depth) planes
+
+-- the visible samples of two planes agree, whatever their strides, and whatever stands between and after their rows
+abbrev pub Alike : ℕ → ℕ → Plane → Plane → Type 0
+Alike width height a b = (x y : ℕ) → x < width → y < height → sampleAt a x y ≡ sampleAt b x y

@@ -13,7 +13,7 @@ use lib.Ieee.{binary64, ofInt}
 use Rattle.plane.specs.Limits.{sideLimit, leastDepth, mostDepth}
 use Rattle.plane.specs.Plane.{Plane, maxOf, sampleAt, every}
 use Rattle.plane.specs.Tests.{layoutTests, planeRefusal, longEnough, samplesSuit, strideSuits}
-use Rattle.plane.specs.Lawful.{Accepted}
+use Rattle.plane.specs.Lawful.{Accepted, Alike}
 use Rattle.plane.proofs.Sums.{sum-ext, sum-zero}
 use Rattle.psnr.specs.Limits.{countLimit, totalLimit}
 use Rattle.psnr.specs.Squared.{squareOf, rowError, errorOf, recordOf, squaredErrorOf}
@@ -32,10 +32,6 @@ unfolding squareOf
 square-swap a b = let z : a - b + (b - a) ≡ b - a + (a - b) = omega arith in rw z
 
 -- ---- the planes
--- the visible samples of two planes agree
-abbrev pub Alike : ℕ → ℕ → Plane → Plane → Type 0
-Alike width height a b = (x y : ℕ) → x < width → y < height → sampleAt a x y ≡ sampleAt b x y
-
 -- padding, strides and what comes after the last row do not count
 pub visible-only : (a b a′ b′ : Plane) (width height : ℕ) → Alike width height a a′ → Alike width height b b′
     → errorOf a b width height ≡ errorOf a′ b′ width height

@@ -3,3 +3,4 @@ pub mod Zeros
 pub mod Same
 pub mod Accept
 pub mod Worked
+pub mod Visible

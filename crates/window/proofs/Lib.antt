@@ -7,3 +7,4 @@ pub mod Held
 pub mod Cauchy
 pub mod DemandMoments
 pub mod Demand
+pub mod Visible
