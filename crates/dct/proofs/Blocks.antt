@@ -8,10 +8,10 @@ use lib.IntN.{ℤ, pos}
 use lib.ListN.{length, getD, set, take, drop, length-append, drop-of-length-le}
 use lib.Seq.{take-all, take-suc, take-suc-set, take-at, drop-at, take-length, drop-length, drop-drop}
 use borrow.Rule.Slice.PartMut.{putMid}
-use Rattle.dct.specs.Call.{Small, Within}
+use Rattle.lifting.specs.Small.{Small, Within}
 use Rattle.dct.specs.Block.{rows, spaced, column, row, line, places}
-use Rattle.dct.specs.Steps.{steps}
-use Rattle.dct.proofs.Trip.{length-run}
+use Rattle.lifting.specs.Steps.{steps}
+use Rattle.lifting.proofs.Trip.{length-run}
 
 -- eight stores at the front
 pub eight-set : (l : List ℤ) (a0 a1 a2 a3 a4 a5 a6 a7 : ℤ) → 8 ≤ length l

@@ -2,14 +2,14 @@
 use mathlib.Core.List.{List, [], _∷_, _++_}
 use Prim.Native.Nat.{ℕ, zero, suc, _≤_}
 use native.Mathlib.Nat.{le-refl, le-trans}
-use lib.Dec.{leb→le}
+use lib.Dec.{T, leb, leb→le}
 use lib.IntN.{ℤ}
 use Rattle.dct.specs.Limits.{forwardLimit, inverseLimit, coefficientLimit}
-use Rattle.dct.specs.Operation.{passLimit, undoneLimit}
-use Rattle.dct.specs.Call.{Small}
-use Rattle.dct.specs.Steps.{run, steps, undoAll}
+use Rattle.lifting.specs.Operation.{passLimit, undoneLimit}
+use Rattle.lifting.specs.Small.{Small}
+use Rattle.lifting.specs.Steps.{run, steps, steps1, steps2, steps3, steps4, steps5, undoAll}
 use Rattle.dct.specs.Block.{line, line⁻¹, places, column, row, rows, turn, across, turn⁻¹, transform}
-use Rattle.dct.proofs.Forms.{reach, reached, computed}
+use Rattle.lifting.proofs.Forms.{reach, reached}
 use Rattle.dct.proofs.Blocks.{small-at, small-column, small-row}
 
 -- ---- lists
@@ -54,6 +54,17 @@ module _ (n m : ℕ) (l : reach 8 (undoAll steps) n ≤ m) where
       small-rows m (λ i. column i y) (λ i. small-column m y s i) 8
 
 -- ---- what the calls take
+
+-- what is computed: the sizes after one pass and after two
+record Computed : Type 0 where
+  middle : T (leb (reach 8 steps forwardLimit) passLimit)
+  coefficients : T (leb (reach 8 steps (reach 8 steps forwardLimit)) coefficientLimit)
+  returned : T (leb coefficientLimit inverseLimit)
+  middle-back : T (leb (reach 8 (undoAll steps) inverseLimit) undoneLimit)
+
+computed : Computed
+unfolding reach steps steps1 steps2 steps3 steps4 steps5
+computed = record { middle = tt; coefficients = tt; returned = tt; middle-back = tt }
 
 pub middle-small : (b : List ℤ) → Small forwardLimit b → Small passLimit (turn b)
 middle-small = turn-small forwardLimit passLimit (leb→le _ passLimit (computed .middle))

@@ -12,7 +12,8 @@ use borrow.Author.Tests.{eq-eqb, eqb-true}
 use Rattle.refusal.specs.First.{firstBroken}
 use Rattle.refusal.specs.Numbers.{valueNo}
 use Rattle.dct.specs.Limits.{blockSize, forwardLimit, inverseLimit}
-use Rattle.dct.specs.Call.{Small, inside, takes, answer, later}
+use Rattle.lifting.specs.Small.{Small}
+use Rattle.dct.specs.Call.{inside, takes, answer, later}
 use Rattle.dct.specs.Block.{transform, transform⁻¹}
 use Rattle.dct.proofs.Range.{and-parts, small, is-inside}
 use Rattle.dct.proofs.Round.{undo-transform, transform-undo, length-transform, length-transform⁻¹}

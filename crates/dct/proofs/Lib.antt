@@ -1,7 +1,3 @@
-pub mod Size
-pub mod Ring
-pub mod Forms
-pub mod Trip
 pub mod Blocks
 pub mod Round
 pub mod Bound

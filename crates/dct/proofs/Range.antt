@@ -13,7 +13,8 @@ use lib.Signed.{ltZ, nonNeg}
 use mir.Syntax.{w32}
 use mir.Val.{SFits}
 use borrow.Author.Tests.{ltb-true, ltb-false, le-leb, lt-leb, leb-true}
-use Rattle.dct.specs.Call.{Small, inside}
+use Rattle.lifting.specs.Small.{Small}
+use Rattle.dct.specs.Call.{inside}
 
 -- ---- one number
 

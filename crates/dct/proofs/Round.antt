@@ -6,9 +6,9 @@ use native.Mathlib.Omega.{arith}
 use lib.IntN.{ℤ, pos}
 use lib.ListN.{length, getD, drop}
 use lib.Seq.{drop-cons, drop-length}
-use Rattle.dct.specs.Steps.{run, undoAll, steps}
+use Rattle.lifting.specs.Steps.{run, undoAll, steps}
 use Rattle.dct.specs.Block.{eight, column, row, places, places⁻¹, line, line⁻¹, rows, turn, across, turn⁻¹, transform, transform⁻¹}
-use Rattle.dct.proofs.Trip.{there-and-back, back-and-there, length-run}
+use Rattle.lifting.proofs.Trip.{there-and-back, back-and-there, length-run}
 use Rattle.dct.proofs.Blocks.{length-line, length-rows}
 
 -- the n elements from k on, one by one

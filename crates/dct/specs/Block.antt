@@ -3,7 +3,7 @@ use mathlib.Core.List.{List, [], _∷_, _++_}
 use Prim.Native.Nat.{ℕ, zero, suc, _+_, _*_}
 use lib.IntN.{ℤ, pos}
 use lib.ListN.{getD}
-use Rattle.dct.specs.Steps.{run, steps, undoAll}
+use Rattle.lifting.specs.Steps.{run, steps, undoAll}
 
 abbrev pub eight : (ℕ → ℤ) → List ℤ
 eight g = g 0 ∷ g 1 ∷ g 2 ∷ g 3 ∷ g 4 ∷ g 5 ∷ g 6 ∷ g 7 ∷ []

@@ -1,7 +1,7 @@
 -- Document 01, "When the desk says no", number 12: "transform: not 64 places in or out, or a value out of range". Definitions only.
 use mathlib.Core.Bool.{Bool, true, _&&_, cond}
 use mathlib.Core.List.{List, [], _∷_}
-use Prim.Native.Nat.{ℕ, _≤_}
+use Prim.Native.Nat.{ℕ}
 use lib.Dec.{eqb, leb}
 use lib.IntN.{ℤ, natAbs}
 use lib.ListN.{length}
@@ -9,10 +9,7 @@ use Rattle.refusal.specs.First.{firstBroken}
 use Rattle.refusal.specs.Numbers.{valueNo}
 use Rattle.dct.specs.Limits.{blockSize}
 
-pub record Within (n : ℕ) (a : ℤ) : Type 0 where
-  pub le : natAbs a ≤ n
-
--- every number lies from -n to n
+-- every number lies from -n to n: the test of what `Small` (of `lifting`) states
 abbrev pub inside : ℕ → List ℤ → Bool
 inside n [] = true
 inside n (a ∷ v) = leb (natAbs a) n && inside n v
@@ -28,8 +25,3 @@ answer n given out = firstBroken ((valueNo, takes n given (length out)) ∷ [])
 -- what is in out afterwards: f of what was given, or, refused, what was there
 unfoldable pub later : ℕ → (List ℤ → List ℤ) → List ℤ → List ℤ → List ℤ
 later n f given out = cond (takes n given (length out)) (f given) out
-
--- the same as `inside`, as a fact of each number, for a caller who knows it
-abbrev pub Small : ℕ → List ℤ → Type 0
-Small n [] = Unit {0}
-Small n (a ∷ v) = Within n a × Small n v

@@ -1,5 +1,3 @@
 pub mod Limits
-pub mod Steps
 pub mod Block
 pub mod Call
-pub mod Operation

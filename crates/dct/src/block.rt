@@ -1,15 +1,14 @@
 // Rows and columns of a block, and a pass over each of the eight.
 use crate::BLOCK_SIZE;
-use crate::pass;
-use crate::pass::T8;
+use lifting::T8;
 ghost use mathlib.Core.Path.{_≡_};
 ghost use mathlib.Core.List.{_++_};
 ghost use Prim.Native.Nat.{_+_, _*_, _<_, _≤_};
 ghost use lib.ListN.{length, drop};
 ghost use Rattle.dct.specs.Limits.{blockSize};
 ghost use Rattle.dct.specs.Block as Block;
-ghost use Rattle.dct.specs.Operation.{passLimit, undoneLimit, vals};
-ghost use Rattle.dct.specs.Call.{Small};
+ghost use Rattle.lifting.specs.Operation.{passLimit, undoneLimit, vals};
+ghost use Rattle.lifting.specs.Small.{Small};
 
 // Eight numbers to the front of a part.
 pub fn store(out: &mut [i32], r: T8)
@@ -60,7 +59,7 @@ pub fn line(out: &mut [i32], x: &[i32], i: usize)
     ensures { λ _. ⌜ now (out .exit) ≡ Block.line (Block.column i (now (x .entry))) ++ drop 8 (now (out .entry)) ⌝ }
 {
     let c = gather(x, i, 8);
-    let r = pass::forward(c.t0, c.t7, c.t2, c.t5, c.t1, c.t6, c.t3, c.t4);
+    let r = lifting::forward(c.t0, c.t7, c.t2, c.t5, c.t1, c.t6, c.t3, c.t4);
     store(out, r);
 }
 
@@ -109,7 +108,7 @@ pub fn unline(out: &mut [i32], x: &[i32], i: usize)
 {
     let at = 8 * i;
     let a = gather(x, at, 1);
-    let r = pass::inverse(a.t0, a.t1, a.t2, a.t3, a.t4, a.t5, a.t6, a.t7);
+    let r = lifting::inverse(a.t0, a.t1, a.t2, a.t3, a.t4, a.t5, a.t6, a.t7);
     let s = T8 {
         t0: r.t0,
         t1: r.t4,

@@ -1,7 +1,5 @@
 // The transform of a block of 8 by 8 numbers, and its inverse: document 01, "The transform".
 mod block;
-mod lift;
-mod pass;
 
 use crate::block::back;
 use crate::block::copy;
@@ -12,7 +10,7 @@ ghost use lib.IntN.{natAbs};
 ghost use lib.Signed.{nonNeg};
 ghost use lib.ListN.{length};
 ghost use Rattle.dct.specs.Limits.{blockSize, forwardLimit, inverseLimit};
-ghost use Rattle.dct.specs.Call.{Small};
+ghost use Rattle.lifting.specs.Small.{Small};
 ghost use Rattle.dct.specs.Block as Block;
 ghost use Rattle.dct.specs.Call as Call;
 

@@ -7,7 +7,7 @@ use Rattle.plane.specs.Sums.{sumTo}
 use Rattle.plane.specs.Tests.{depthSuits, sidesSuit, sidesReach, strideSuits, longEnough, noneAbove, rowSuits, samplesSuit}
 use Rattle.plane.specs.Tests.{sizeTests, layoutTests}
 use Rattle.psnr.specs.Squared.{squareOf, rowError, errorOf, squaredErrorOf}
-use Rattle.dct.specs.Steps.{half, part, steps, steps1, steps2, steps3, steps4, steps5}
+use Rattle.lifting.specs.Steps.{half, part, steps, steps1, steps2, steps3, steps4, steps5}
 use Rattle.dct.specs.Block.{line, turn, transform}
 use Rattle.window.specs.Moments.{inside, momentAt}
 use Rattle.psnr_hvs.specs.Fold.{listTo}

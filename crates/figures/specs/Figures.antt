@@ -11,7 +11,7 @@ use Rattle.psnr.specs.Record.{wholeOf}
 use Rattle.psnr.specs.Squared.{squaredErrorOf}
 use Rattle.psnr.specs.declared.SquaredError.{SquaredError}
 use Rattle.psnr.specs.declared.SquaredError.the-variants.{Differs, Identical, Refused}
-use Rattle.dct.specs.Steps.{half}
+use Rattle.lifting.specs.Steps.{half}
 use Rattle.dct.specs.Block.{line, rows, transform}
 use Rattle.window.specs.Columns.{viewOf}
 use Rattle.window.specs.Parts.{momentsAt}

@@ -13,7 +13,7 @@ use Rattle.plane.specs.Plane.{Plane}
 use Rattle.dct.specs.Limits.{forwardLimit}
 use Rattle.dct.specs.Block.{transform, turn, line, column}
 use Rattle.dct.proofs.Blocks.{length-line, length-rows}
-use Rattle.dct.specs.Call.{Small}
+use Rattle.lifting.specs.Small.{Small}
 use Rattle.psnr_hvs.specs.Fold.{listTo}
 use Rattle.psnr_hvs.specs.Block.{withBlock}
 use Rattle.psnr_hvs.specs.Score.{blockSide, step, blocksPerSide, sampleIn, blockAt, alongRow, downRows}

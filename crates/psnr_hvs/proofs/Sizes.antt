@@ -13,10 +13,10 @@ use lib.Signed.{ltZ}
 use mir.Syntax.{w32}
 use mir.Val.{SFits}
 use Rattle.dct.specs.Limits.{coefficientLimit}
-use Rattle.dct.specs.Call.{Within, Small}
-use Rattle.dct.specs.Operation.{rd}
+use Rattle.lifting.specs.Small.{Within, Small}
+use Rattle.lifting.specs.Operation.{rd}
 use Rattle.psnr_hvs.specs.Levels.{Sample}
-use Rattle.dct.proofs.Size.{fits, size-mul, size-diff, whole}
+use Rattle.lifting.proofs.Size.{fits, size-mul, size-diff, whole}
 use Rattle.dct.proofs.Blocks.{small-at}
 
 -- ---- a place of a block, as it is read

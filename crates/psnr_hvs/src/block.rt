@@ -6,7 +6,7 @@ ghost use Prim.Native.Nat.{_+_, _<_, _≤_};
 ghost use lib.ListN.{length};
 ghost use Rattle.plane.specs.Plane.{planeOf, samplesOf};
 ghost use Rattle.dct.specs.Limits.{blockSize, coefficientLimit};
-ghost use Rattle.dct.specs.Call.{Within, Small};
+ghost use Rattle.lifting.specs.Small.{Within, Small};
 ghost use Rattle.psnr_hvs.specs.Block as Block;
 ghost use Rattle.psnr_hvs.specs.Block.{distance};
 ghost use Rattle.psnr_hvs.specs.Score.{blockAt};

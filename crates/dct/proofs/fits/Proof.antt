@@ -5,8 +5,8 @@ use lib.IntN.{pos, _-ℤ_, +ℤ-idl}
 use mir.Facts.{toZ-ofZ}
 use mir.Syntax.{w32}
 use mir.Val.{SFits}
-use Rattle.dct.proofs.Size.{size-diff}
-use Rattle.dct.proofs.Size as Size
+use Rattle.lifting.proofs.Size.{size-diff}
+use Rattle.lifting.proofs.Size as Size
 use Rattle.dct.proofs.Range.{below, low, high, between}
 use Rattle.dct.proofs.fits.Statement.{statement}
 use Rattle.dct.proofs.fits.Tie as tie

@@ -7,9 +7,9 @@ use lib.ListN.{length, drop, getD, drop-of-length-le}
 use mir.Syntax.{w32}
 use mir.Val.{toZ}
 use mir.Facts.{toZ-ofZ}
-use Rattle.dct.specs.Operation.{rd}
+use Rattle.lifting.specs.Operation.{rd}
 use Rattle.dct.specs.Call as Call
-use Rattle.dct.proofs.Size.{whole}
+use Rattle.lifting.proofs.Size.{whole}
 use Rattle.dct.proofs.Range.{stop, next}
 use Rattle.dct.proofs.inside.Statement.{statement}
 use Rattle.dct.proofs.inside.Tie as tie

@@ -4,8 +4,8 @@ use Prim.Native.Nat.{_≤_, _-_}
 use native.Mathlib.Omega.{arith}
 use lib.IntN.{pos}
 use lib.ListN.{length, getD, take, length-set}
-use Rattle.dct.specs.Operation.{rd}
-use Rattle.dct.proofs.Size.{whole}
+use Rattle.lifting.specs.Operation.{rd}
+use Rattle.lifting.proofs.Size.{whole}
 use Rattle.dct.proofs.Blocks.{copied-more, copied-all}
 use Rattle.dct.proofs.block.copy.Statement.{statement}
 use Rattle.dct.proofs.block.copy.Tie as tie

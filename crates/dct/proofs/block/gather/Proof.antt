@@ -1,6 +1,6 @@
 -- `gather` reads eight numbers. Assumes nothing.
 use borrow.Author.Needs.{needs}
-use Rattle.dct.proofs.Size.{whole8}
+use Rattle.lifting.proofs.Size.{whole8}
 use Rattle.dct.proofs.block.gather.Statement.{statement}
 use Rattle.dct.proofs.block.gather.Tie as tie
 

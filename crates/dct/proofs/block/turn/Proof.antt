@@ -8,7 +8,7 @@ use lib.ListN.{length, drop, length-take, length-drop}
 use borrow.Rule.Slice.PartMut.{putMid, same-len-mid}
 use Rattle.dct.proofs.Blocks.{small-column, rows-more, rows-all, length-line}
 use Rattle.dct.specs.Block.{line, column, rows, turn}
-use Rattle.dct.specs.Operation.{passLimit}
+use Rattle.lifting.specs.Operation.{passLimit}
 use Rattle.dct.proofs.block.turn.Statement.{statement}
 use Rattle.dct.proofs.block.turn.Tie as tie
 

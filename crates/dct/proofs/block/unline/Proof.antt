@@ -4,11 +4,11 @@ use mathlib.Core.List.{List, _++_}
 use lib.IntN.{ℤ}
 use lib.ListN.{drop}
 use borrow.Author.Needs.{needs}
-use Rattle.dct.specs.Operation.{undoneLimit}
-use Rattle.dct.specs.Call.{Small}
-use Rattle.dct.specs.Steps.{run, undoAll, steps}
+use Rattle.lifting.specs.Operation.{undoneLimit}
+use Rattle.lifting.specs.Small.{Small}
+use Rattle.lifting.specs.Steps.{run, undoAll, steps}
 use Rattle.dct.specs.Block.{line⁻¹, places⁻¹}
-use Rattle.dct.proofs.Size.{read, whole8}
+use Rattle.lifting.proofs.Size.{read, whole8}
 use Rattle.dct.proofs.block.unline.Statement.{statement}
 use Rattle.dct.proofs.block.unline.Tie as tie
 

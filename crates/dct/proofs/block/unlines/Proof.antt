@@ -9,7 +9,7 @@ use borrow.Rule.Slice.PartMut.{putMid, same-len-mid}
 use Rattle.dct.proofs.Blocks.{small-row, rows-more, rows-all}
 use Rattle.dct.proofs.Round.{length-back}
 use Rattle.dct.specs.Block.{line⁻¹, row, rows}
-use Rattle.dct.specs.Operation.{undoneLimit}
+use Rattle.lifting.specs.Operation.{undoneLimit}
 use Rattle.dct.proofs.block.unlines.Statement.{statement}
 use Rattle.dct.proofs.block.unlines.Tie as tie
 

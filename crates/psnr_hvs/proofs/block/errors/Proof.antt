@@ -3,7 +3,7 @@ use borrow.Author.Needs.{needs}
 use mathlib.Core.Path.{_≡_, sym, _∙_}
 use Prim.Native.Nat.{_-_, _≤_}
 use native.Mathlib.Omega.{arith}
-use Rattle.dct.proofs.Size.{read}
+use Rattle.lifting.proofs.Size.{read}
 use Rattle.dct.proofs.Blocks.{small-at}
 use Rattle.dct.specs.Limits.{coefficientLimit}
 use Rattle.psnr_hvs.specs.Block.{addTerm, errors}

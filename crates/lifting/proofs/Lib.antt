@@ -1,0 +1,4 @@
+pub mod Size
+pub mod Ring
+pub mod Forms
+pub mod Trip
