@@ -10,7 +10,7 @@ use Rattle.psnr.specs.Squared.{squareOf, rowError, errorOf, squaredErrorOf}
 use Rattle.lifting.specs.Steps.{half, part, steps, steps1, steps2, steps3, steps4, steps5}
 use Rattle.dct.specs.Block.{line, turn, transform}
 use Rattle.window.specs.Moments.{inside, momentAt}
-use Rattle.psnr_hvs.specs.Fold.{listTo}
+use Rattle.masking.specs.Fold.{listTo}
 use Rattle.figures.specs.Figures.{Held, figures}
 
 pub figures-held : Held figures

@@ -16,7 +16,7 @@ use Rattle.dct.specs.Block.{line, rows, transform}
 use Rattle.window.specs.Columns.{viewOf}
 use Rattle.window.specs.Parts.{momentsAt}
 use Rattle.window.specs.declared.Moments.{Moments}
-use Rattle.psnr_hvs.specs.Fold.{listTo}
+use Rattle.masking.specs.Fold.{listTo}
 use Rattle.psnr_hvs.specs.Score.{blocksPerSide}
 use Rattle.msssim.specs.Scale.{Scale, belowOf}
 use Rattle.msssim.specs.Answer.{firstScale}

@@ -3,7 +3,7 @@
 ghost use mathlib.Core.Path.{_≡_};
 ghost use mathlib.Core.Bool.{true, false};
 ghost use Rattle.plane.specs.Plane.{planeOf};
-ghost use Rattle.psnr_hvs.specs.declared.Kind.the-variants.{Luma, Cb, Cr};
+ghost use Rattle.masking.specs.declared.Kind.the-variants.{Luma, Cb, Cr};
 ghost use Rattle.psnr_hvs.specs.Score.{hvsOf};
 ghost use Rattle.fuavelino.specs.Visual.{hvsNumber, hvsWritten};
 use psnr_hvs::Hvs;

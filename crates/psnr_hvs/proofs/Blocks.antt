@@ -5,20 +5,16 @@ use mathlib.Core.List.{List, [], _∷_, _++_}
 use Prim.Native.Nat.{ℕ, zero, suc, _+_, _-_, _*_, _/_, _%_, _≤_, _<_}
 use native.Mathlib.Omega.{arith}
 use borrow.Author.Tests.{lt-ltb, le-ltb, ltb-true, ltb-false}
-use lib.Dec.{ltb, lit≤}
-use lib.IntN.{ℤ, pos}
-use lib.ListN.{length, getD, length-append}
+use lib.Dec.{ltb}
+use lib.IntN.{ℤ}
+use lib.ListN.{length, length-append}
 use lib.Ieee.{Float}
 use Rattle.plane.specs.Plane.{Plane}
-use Rattle.dct.specs.Limits.{forwardLimit}
-use Rattle.dct.specs.Block.{transform, turn, line, column}
-use Rattle.dct.proofs.Blocks.{length-line, length-rows}
-use Rattle.lifting.specs.Small.{Small}
-use Rattle.psnr_hvs.specs.Fold.{listTo}
-use Rattle.psnr_hvs.specs.Block.{withBlock}
+use Rattle.masking.specs.Fold.{listTo}
+use Rattle.masking.specs.Block.{withBlock}
 use Rattle.psnr_hvs.specs.Score.{blockSide, step, blocksPerSide, sampleIn, blockAt, alongRow, downRows}
 use Rattle.psnr_hvs.specs.Legible.{Legible}
-use Rattle.psnr_hvs.specs.Levels.{Sample, Samples}
+use Rattle.masking.specs.Levels.{Sample, Samples}
 use Rattle.number.proofs.Folds.{fold-more}
 
 -- ---- where they begin
@@ -35,15 +31,6 @@ pub ends : {side k : ℕ} → blockSide ≤ side → k < blocksPerSide side → 
 ends l h = omega arith
 
 -- ---- what their numbers are
-pub sample-at : (b : List ℤ) → Samples b → (k : ℕ) → Sample (getD b k (pos 0))
-sample-at [] h k = record { above = tt; small = lit≤ tt }
-sample-at (a ∷ v) h zero = h .0
-sample-at (a ∷ v) h (suc k) = sample-at v (h .1) k
-
-pub samples-small : (b : List ℤ) → Samples b → Small forwardLimit b
-samples-small [] h = tt
-samples-small (a ∷ v) h = (record { le = h .0 .small }, samples-small v (h .1))
-
 samples-more : (v : List ℤ) (a : ℤ) → Samples v → Sample a → Samples (v ++ (a ∷ []))
 samples-more [] a h s = (s, tt)
 samples-more (b ∷ v) a h s = (h .0, samples-more v a (h .1) s)
@@ -68,11 +55,6 @@ unfolding blockAt
 block-samples p x y h lx ly =
     samples-list (sampleIn p x y) 64
     (λ (k : ℕ) (l : k < 64). record { above = tt; small = h .small (x + k % 8) (y + k / 8) (omega arith) (omega arith) })
-
--- ---- what the transform leaves of a block
-pub coefficients-length : (b : List ℤ) → length (transform b) ≡ 64
-unfolding transform turn
-coefficients-length b = length-rows (λ (i : ℕ). line (column i (turn b))) (λ (i : ℕ). length-line (column i (turn b))) 8
 
 -- ---- one more block, and one more row of them
 pub row-more : (csf mask : List (List Float)) (p q : Plane) (y : ℕ) (a : Float) (x : ℕ)

@@ -1,9 +1,2 @@
-pub mod Folds
-pub mod Sizes
-pub mod Walks
 pub mod Blocks
 pub mod Taken
-pub mod Fractions
-pub mod Variance
-pub mod Quarters
-pub mod Levels

@@ -10,11 +10,11 @@ use Rattle.refusal.specs.First.{byRefusal}
 use Rattle.plane.specs.Plane.{Plane, sampleAt, maxOf}
 use Rattle.plane.specs.Tests.{planeRefusal}
 use Rattle.number.specs.Steps.{foldTo, _⊘_, double}
-use Rattle.psnr_hvs.specs.Fold.{listTo}
-use Rattle.psnr_hvs.specs.Rounded.{zero64}
-use Rattle.psnr_hvs.specs.Tables.{csfOf, masksOf}
-use Rattle.psnr_hvs.specs.Block.{withBlock}
-use Rattle.psnr_hvs.specs.declared.Kind.{Kind}
+use Rattle.masking.specs.Fold.{listTo}
+use Rattle.masking.specs.Rounded.{zero64}
+use Rattle.masking.specs.Tables.{csfOf, masksOf}
+use Rattle.masking.specs.Block.{withBlock}
+use Rattle.masking.specs.declared.Kind.{Kind}
 use Rattle.psnr_hvs.specs.declared.Hvs.{Hvs}
 use Rattle.psnr_hvs.specs.declared.Hvs.the-variants.{Score, Refused}
 

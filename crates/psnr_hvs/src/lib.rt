@@ -1,8 +1,8 @@
 // PSNR-HVS of two planes, after `calculate_plane_psnr_hvs`: document 01, "HVS, SSIM and scales".
 mod block;
-mod spread;
-mod tables;
 
+// A caller names the kind of a plane as `psnr_hvs::Kind`.
+pub use masking::Kind;
 ghost use mathlib.Core.Path.{_≡_};
 ghost use mathlib.Core.Bool.{true, false};
 ghost use mathlib.Core.List.{[], _∷_};
@@ -16,13 +16,6 @@ ghost use Rattle.psnr_hvs.specs.Score.{blockSide, blocksPerSide, alongRo
 const BLOCK_SIDE: usize = 8;
 
 const STEP: usize = 7;
-
-// Which plane of a picture: y, u or v. Each has a table of its own.
-pub enum Kind {
-    Luma,
-    Cb,
-    Cr,
-}
 
 // What asking for a score answers.
 pub enum Hvs {
@@ -146,8 +139,8 @@ fn score(
     ensures { λ r. ⌜ r ≡ hvsScore kind (planeOf (samplesOf wide (now (a8 .entry)) (now (a16 .entry))) «stride_a»)
         (planeOf (samplesOf wide (now (b8 .entry)) (now (b16 .entry))) «stride_b») width height depth ⌝ }
 {
-    let csf = tables::csf_of(kind);
-    let mask = tables::masks(csf);
+    let csf = masking::tables::csf_of(kind);
+    let mask = masking::tables::masks(csf);
     let sum = down_rows(
         a8,
         a16,

@@ -13,7 +13,7 @@ use Rattle.plane.specs.Plane.{planeOf, samplesOf}
 use Rattle.plane.proofs.Rows.{inside, count-fits}
 use Rattle.lifting.proofs.Size.{fits}
 use Rattle.psnr_hvs.specs.Score.{sampleIn, blockAt}
-use Rattle.psnr_hvs.proofs.Folds.{Filled, filled-none, filled-more, filled-all}
+use Rattle.masking.proofs.Folds.{Filled, filled-none, filled-more, filled-all}
 use Rattle.psnr_hvs.proofs.block.loaded.Statement.{statement}
 use Rattle.psnr_hvs.proofs.block.loaded.Tie as tie
 
