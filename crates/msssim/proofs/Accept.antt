@@ -11,7 +11,7 @@ use lib.Dec.{leb, lit<, lit≤}
 use lib.ListN.{length, List·getD-eq-default}
 use Rattle.refusal.specs.Numbers.{scratchNo}
 use Rattle.refusal.proofs.Chain.{and-left, and-right, passed}
-use Rattle.plane.specs.Limits.{sideLimit, mostDepth}
+use Rattle.plane.specs.Limits.{mostDepth}
 use Rattle.plane.specs.Plane.{Plane, at, maxOf, sampleAt}
 use Rattle.plane.specs.Tests.{planeTests, planeRefusal}
 use Rattle.plane.specs.Lawful.{Accepted}
@@ -20,17 +20,11 @@ use Rattle.plane.proofs.Several.{planes-pass}
 use Rattle.window.specs.Columns.{viewOf, mostSample}
 use Rattle.window.proofs.Demand.{scales, scaleMax, scale-small}
 use Rattle.ssim.proofs.Accept.{halves}
-use Rattle.msssim.specs.Rooms.{Filled, Held}
+use Rattle.downscale.specs.Rooms.{Filled, Held}
+use Rattle.downscale.proofs.Rooms.{rows-all}
 use Rattle.msssim.specs.Answer.{leastSide, placesOf, roomOf, lentEnough, msssimRefusal}
-use Rattle.msssim.proofs.Rooms.{rows-all}
 
 -- ---- 8, after the planes
-
--- as many places as a plane has samples can be counted
-pub area-room : sideLimit * sideLimit < 2 ^ 64
-unfolding sideLimit
-area-room = lit< tt
-
 module _ {n : ℕ} (wide : Bool) (planes : List Plane) (width height depth places room-a room-b : ℕ)
     (e : n ≡ planeRefusal wide planes width height depth leastSide) where
   pub lent-refuses : n ≡ 0 → lentEnough width height places room-a room-b ≡ false

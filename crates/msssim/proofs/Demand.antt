@@ -14,7 +14,8 @@ use Rattle.plane.specs.Plane.{Plane}
 use Rattle.plane.specs.Lawful.{Accepted}
 use Rattle.window.specs.Kernel.{fixedKernel, fixedTotal}
 use Rattle.window.proofs.Demand.{Bounded, Demanded, scales, scaleMax, fixed-sums}
-use Rattle.msssim.specs.Scale.{Scale, scaleCount, summedOf, belowOf, scaleAt, sumsOf, ssimOf, csOf, pairsFrom}
+use Rattle.downscale.specs.Summed.{summedOf}
+use Rattle.msssim.specs.Scale.{Scale, scaleCount, belowOf, scaleAt, sumsOf, ssimOf, csOf, pairsFrom}
 use Rattle.msssim.specs.Answer.{leastSide, firstScale}
 
 -- ---- one scale

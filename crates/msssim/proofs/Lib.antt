@@ -1,4 +1,3 @@
-pub mod Rooms
 pub mod Scales
 pub mod Accept
 pub mod Demand

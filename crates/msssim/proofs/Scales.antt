@@ -3,8 +3,7 @@
 use mathlib.Core.Path.{_≡_, refl, sym, ap, _∙_}
 use mathlib.Core.List.{List, [], _∷_, _++_, append-nil}
 use Prim.Native.Nat.{ℕ, zero, suc, _+_, _-_, _*_, _/_, _^_, _≤_, _<_}
-use native.Mathlib.Nat.{pow-suc, one-le-pow, mul-le-mul, mul-le-mul-left, le-refl}
-use native.Mathlib.Decide.{decLt}
+use native.Mathlib.Nat.{pow-suc, one-le-pow, mul-le-mul-left, le-refl}
 use native.Mathlib.Numerals.{sub-one}
 use native.Mathlib.Omega.{arith}
 use borrow.Rule.Slice.PartAt.{part-to-end}
@@ -13,7 +12,7 @@ use lib.Dec.{lit<}
 use lib.Ieee.{Float}
 use lib.ListN.{length, set, take, drop, length-drop, drop-of-length-le}
 use Rattle.number.proofs.Folds.{fold-ext}
-use Rattle.plane.specs.Plane.{at, planeOf}
+use Rattle.plane.specs.Plane.{planeOf}
 use Rattle.plane.proofs.Sums.{sum-ext}
 use Rattle.window.specs.Kernel.{tap}
 use Rattle.window.specs.Moments.{inside, momentAt}
@@ -21,9 +20,9 @@ use Rattle.window.specs.Parts.{momentsAt}
 use Rattle.window.specs.Columns.{viewOf, mostSample}
 use Rattle.window.proofs.Windows.{inside-both}
 use Rattle.ssim.specs.Score.{stepOf, totalsOf}
-use Rattle.msssim.specs.Scale.{Scale, scaleOf, summedOf, belowOf, sumsOf, ssimOf, csOf, pairsFrom}
-use Rattle.msssim.specs.Rooms.{Filled, Held}
-use Rattle.msssim.proofs.Rooms.{rows-all}
+use Rattle.downscale.specs.Summed.{summedOf}
+use Rattle.downscale.specs.Rooms.{Filled}
+use Rattle.msssim.specs.Scale.{Scale, scaleOf, belowOf, sumsOf, ssimOf, csOf, pairsFrom}
 
 -- ---- views that show the same inside the plane
 abbrev pub Same : ℕ → ℕ → (ℕ → ℕ → ℕ) → (ℕ → ℕ → ℕ) → Type 0
@@ -76,27 +75,7 @@ pairs-ext (suc left) max width height a a′ b b′ p q =
           (summed-ext width height a a′ p) (summed-ext width height b b′ q),
     )
 
--- ---- the scale below, in place
-pub held-below : (max width height : ℕ) (old new : List ℕ) → Held max width height old
-    → Filled old new (width / 2) (summedOf (viewOf (planeOf old width))) (height / 2) → length new ≡ length old
-    → Held (4 * max) (width / 2) (height / 2) new
-held-below max width height old new h f e =
-    record { long = omega (arith, h .long, e, mul-le-mul (half height) (half width)); small = λ i. go i (decLt i (height / 2 * (width / 2))) }
-  where
-    half : (w : ℕ) → w / 2 ≤ w
-    half w = omega arith
-
-    go : (i : ℕ) → Dec (i < height / 2 * (width / 2)) → at new i ≤ 4 * max
-    go i (yes l) =
-        rows-all (λ (v : ℕ). v ≤ 4 * max) old new (width / 2) _ (height / 2) f
-        (λ r c k m. omega (
-          arith,
-          h .small (2 * r * width + 2 * c),
-          h .small (2 * r * width + (2 * c + 1)),
-          h .small ((2 * r + 1) * width + 2 * c),
-          h .small ((2 * r + 1) * width + (2 * c + 1)),
-        )) i l
-    go i (no l) = omega (arith, f .rest i (omega arith), h .small i)
+-- ---- the scales that are left
 
 -- where scales are left, their samples fit, and so do those of the scales below
 pub left-room : (left max : ℕ) → 0 < left → max * 4 ^ left ≤ 4 * mostSample

@@ -1,3 +1,2 @@
 pub mod Scale
-pub mod Rooms
 pub mod Answer

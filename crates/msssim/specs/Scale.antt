@@ -1,10 +1,11 @@
 -- Document 01, "HVS, SSIM and scales": "each scale is made from the one above by summing 2×2 samples, sides halved downward; sample_max
 -- is multiplied by 4. Answer: five pairs, no power product." Definitions only.
 use mathlib.Core.List.{List, [], _∷_}
-use Prim.Native.Nat.{ℕ, zero, suc, _+_, _*_, _/_}
+use Prim.Native.Nat.{ℕ, zero, suc, _*_, _/_}
 use lib.Ieee.{Float}
 use Rattle.number.specs.Steps.{_⊘_, double}
 use Rattle.window.specs.Kernel.{fixedKernel}
+use Rattle.downscale.specs.Summed.{summedOf}
 use Rattle.ssim.specs.Score.{totalsOf}
 use Rattle.ssim.specs.declared.Totals.{Totals}
 
@@ -22,10 +23,6 @@ pub record Scale : Type 0 where
 
 abbrev pub scaleOf : ℕ → ℕ → ℕ → (ℕ → ℕ → ℕ) → (ℕ → ℕ → ℕ) → Scale
 scaleOf max width height a b = record { max = max; width = width; height = height; a = a; b = b }
-
--- "summing 2×2 samples"
-abbrev pub summedOf : (ℕ → ℕ → ℕ) → ℕ → ℕ → ℕ
-summedOf v r c = v (2 * r) (2 * c) + v (2 * r) (2 * c + 1) + v (2 * r + 1) (2 * c) + v (2 * r + 1) (2 * c + 1)
 
 -- the scale below
 abbrev pub belowOf : Scale → Scale

@@ -13,7 +13,6 @@ ghost use Rattle.msssim.specs.Answer.{leastSide, placesOf, roomOf, lentE
 ghost use Rattle.msssim.specs.Answer.{lentOf, refusalOf, msssimOf, lentAfter};
 
 pub mod gather;
-pub mod room;
 pub mod scale;
 pub mod whole;
 

@@ -10,9 +10,8 @@ ghost use Rattle.window.specs.Kernel.{tap, fixedKernel};
 ghost use Rattle.window.specs.Parts.{Kernel};
 ghost use Rattle.window.specs.Columns.{viewOf, mostSample, columnsOf, Margins};
 ghost use Rattle.ssim.specs.Score.{totalsOf};
+ghost use Rattle.downscale.specs.Rooms.{Held};
 ghost use Rattle.msssim.specs.Scale.{scaleOf, sumsOf, ssimOf, csOf, pairsFrom};
-ghost use Rattle.msssim.specs.Rooms.{Held};
-use crate::room;
 use ssim::Totals;
 
 // What the taps of the fixed kernel sum to.
@@ -108,8 +107,8 @@ pub fn scales(
     if 0 < left {
         let t = sums(cols, a, b, max, width, height);
         put_pair(pairs, t);
-        room::downscale(a, width, height);
-        room::downscale(b, width, height);
+        downscale::downscale(a, width, height);
+        downscale::downscale(b, width, height);
         scales(
             &mut pairs[2..],
             cols,

@@ -12,7 +12,6 @@ ghost use Rattle.msssim.specs.Scale.{scaleCount, pairsFrom};
 ghost use Rattle.msssim.specs.Answer.{leastSide, roomOf, firstScale, scoreOf};
 use crate::MsSsim;
 use crate::gather;
-use crate::room;
 use crate::scale;
 
 // How many scales there are.
@@ -43,8 +42,8 @@ fn numbers(
         (firstScale (planeOf (samplesOf wide (now (a8 .entry)) (now (a16 .entry))) «stride_a»)
         (planeOf (samplesOf wide (now (b8 .entry)) (now (b16 .entry))) «stride_b») width height depth) ⌝ }
 {
-    room::widen(room_a, a8, a16, wide, width, height, stride_a);
-    room::widen(room_b, b8, b16, wide, width, height, stride_b);
+    downscale::widen(room_a, a8, a16, wide, width, height, stride_a);
+    downscale::widen(room_b, b8, b16, wide, width, height, stride_b);
     let max = plane::sample_max(depth);
     scale::scales(pairs, cols, room_a, room_b, SCALES, max, width, height);
 }
@@ -93,7 +92,7 @@ pub fn answer(
         depth,
     );
     ssim::walk::clear(cols);
-    room::clear(room_a);
-    room::clear(room_b);
+    downscale::clear(room_a);
+    downscale::clear(room_b);
     gather::gathered(&pairs)
 }

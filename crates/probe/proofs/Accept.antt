@@ -17,7 +17,7 @@ use Rattle.plane.specs.Tests.{sidesSuit, noneAbove}
 use Rattle.plane.proofs.Accept.{sides-say}
 use Rattle.plane.proofs.All.{none-at}
 use Rattle.window.specs.Columns.{mostSample}
-use Rattle.msssim.proofs.Accept.{area-room}
+use Rattle.downscale.proofs.Rooms.{area-room}
 use Rattle.probe.specs.Downscale.{downscaleRefusal, Later}
 
 -- the samples of sides that suit can be counted

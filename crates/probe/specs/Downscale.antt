@@ -9,8 +9,8 @@ use Rattle.refusal.specs.First.{firstBroken}
 use Rattle.plane.specs.Plane.{planeOf, at}
 use Rattle.plane.specs.Tests.{sidesSuit, noneAbove}
 use Rattle.window.specs.Columns.{viewOf, mostSample}
-use Rattle.msssim.specs.Scale.{summedOf}
-use Rattle.msssim.specs.Rooms.{Filled}
+use Rattle.downscale.specs.Summed.{summedOf}
+use Rattle.downscale.specs.Rooms.{Filled}
 
 -- the lowest that applies of: 2, a side is 0 or above the limit; 5, fewer places than samples; 6, a place above the largest sample that the
 -- sums of a scale are made for

@@ -46,6 +46,6 @@ pub extern "C" fn probe_downscale(room: &mut [u32], width: usize, height: usize)
     if no != 0 {
         return no;
     }
-    msssim::room::downscale(room, width, height);
+    downscale::downscale(room, width, height);
     0
 }

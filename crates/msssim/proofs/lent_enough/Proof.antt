@@ -4,7 +4,7 @@ use native.Mathlib.Nat.{mul-le-mul, lt-of-le-of-lt}
 use native.Mathlib.Omega.{arith}
 use Rattle.plane.proofs.Limits.{side-small}
 use Rattle.msssim.specs.Answer.{lentEnough}
-use Rattle.msssim.proofs.Accept.{area-room}
+use Rattle.downscale.proofs.Rooms.{area-room}
 use Rattle.msssim.proofs.lent_enough.Statement.{statement}
 use Rattle.msssim.proofs.lent_enough.Tie as tie
 

@@ -6,14 +6,14 @@ use native.Mathlib.Nat.{le-refl, le-trans}
 use native.Mathlib.Omega.{arith}
 use denote.Ref.{now}
 use lib.ListN.{length}
-use Rattle.msssim.proofs.Rooms.{four-room}
-use Rattle.msssim.proofs.Scales.{left-room, held-below, rest-length, pairs-step, pairs-none}
+use Rattle.downscale.proofs.Rooms.{four-room, held-below}
+use Rattle.msssim.proofs.Scales.{left-room, rest-length, pairs-step, pairs-none}
 use borrow.Fn.Kinds.{In}
 use borrow.Fn.PlainCycle.{Measures, is, falls, and}
 use Rattle.msssim.proofs.scale.scales.Reads as scales
 use Rattle.msssim.proofs.scale.scales.Kinds as scales-kinds
 use Rattle.msssim.proofs.scale.+scales.Lts-scales as scales-lts
-use Rattle.msssim.proofs.room.downscale.Reads as downscale-reads
+use Rattle.downscale.proofs.downscale.Reads as downscale-reads
 use Rattle.msssim.proofs.scale.put_pair.Reads as put-pair-reads
 use Rattle.msssim.proofs.scale.sums.Reads as sums-reads
 use Rattle.msssim.proofs.scale.+scales.{statement}

@@ -12,7 +12,7 @@ use Rattle.window.specs.Columns.{viewOf, Margins}
 use Rattle.window.proofs.Windows.{weight-le, taps-room}
 use Rattle.window.proofs.Held.{part-length, all-small, margins-kept}
 use Rattle.ssim.specs.Score.{totalsOf}
-use Rattle.msssim.proofs.Rooms.{readable}
+use Rattle.downscale.proofs.Rooms.{readable}
 use Rattle.ssim.proofs.Same.{totals-none, totals-more}
 use Rattle.msssim.proofs.scale.rows.Statement.{statement}
 use Rattle.msssim.proofs.scale.rows.Tie as tie

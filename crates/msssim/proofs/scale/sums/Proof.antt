@@ -8,7 +8,7 @@ use lib.ListN.{length}
 use Rattle.window.specs.Kernel.{fixedKernel, fixedTotal}
 use Rattle.window.proofs.Held.{margins-zero}
 use Rattle.window.proofs.KernelSays.{kernel-says, kernel-serves, fixed-lawful}
-use Rattle.msssim.proofs.Rooms.{held-small}
+use Rattle.downscale.proofs.Rooms.{held-small}
 use Rattle.msssim.proofs.scale.sums.Statement.{statement}
 use Rattle.msssim.proofs.scale.sums.Tie as tie
 

@@ -1,4 +1,4 @@
--- `msssim::room::downscale` meets its contract: the rows above j stand there, and all from row j on is as it was. Assumes nothing.
+-- `downscale::downscale` meets its contract: the rows above j stand there, and all from row j on is as it was. Assumes nothing.
 use mathlib.Core.Path.{_≡_, refl, _∙_}
 use Prim.Native.Nat.{_+_, _-_, _*_, _/_, _≤_}
 use native.Mathlib.Nat.{mul-le-mul-right}
@@ -7,12 +7,12 @@ use borrow.Author.Needs.{needs}
 use denote.Ref.{now}
 use lib.ListN.{length}
 use Rattle.window.specs.Columns.{viewOf}
-use Rattle.msssim.specs.Rooms.{Filled}
+use Rattle.downscale.specs.Rooms.{Filled}
 use Rattle.plane.specs.Plane.{planeOf}
-use Rattle.msssim.specs.Scale.{summedOf}
-use Rattle.msssim.proofs.Rooms.{filled-none, filled-more, sum-still}
-use Rattle.msssim.proofs.room.downscale.Statement.{statement}
-use Rattle.msssim.proofs.room.downscale.Tie as tie
+use Rattle.downscale.specs.Summed.{summedOf}
+use Rattle.downscale.proofs.Rooms.{filled-none, filled-more, sum-still}
+use Rattle.downscale.proofs.downscale.Statement.{statement}
+use Rattle.downscale.proofs.downscale.Tie as tie
 
 abbrev Inv-loop : tie.InvT-loop
 Inv-loop room₀ width height j₀ j-end room j =

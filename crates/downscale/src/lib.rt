@@ -5,8 +5,8 @@ ghost use lib.ListN.{length, replicate};
 ghost use Rattle.plane.specs.Limits.{sideLimit};
 ghost use Rattle.plane.specs.Plane.{at, planeOf, samplesOf, needed};
 ghost use Rattle.window.specs.Columns.{viewOf, mostSample};
-ghost use Rattle.msssim.specs.Scale.{summedOf};
-ghost use Rattle.msssim.specs.Rooms.{Put, Filled};
+ghost use Rattle.downscale.specs.Summed.{summedOf};
+ghost use Rattle.downscale.specs.Rooms.{Put, Filled};
 
 // One row of samples, which begins at `start`, to the places from `to` on.
 fn widen_row(

@@ -1,14 +1,14 @@
--- `msssim::room::clear` meets its contract. Assumes nothing.
+-- `downscale::clear` meets its contract. Assumes nothing.
 use mathlib.Core.Path.{_≡_, refl}
 use mathlib.Core.List.{_++_, append-nil}
 use Prim.Native.Nat.{_≤_, _-_}
 use native.Mathlib.Nat.{le-refl}
 use native.Mathlib.Omega.{arith}
+use borrow.Author.Fill.{fill-more}
 use borrow.Author.Needs.{needs}
 use lib.ListN.{length, replicate, drop, length-set, drop-of-length-le}
-use Rattle.ssim.proofs.Zeros.{fill-more}
-use Rattle.msssim.proofs.room.clear.Statement.{statement}
-use Rattle.msssim.proofs.room.clear.Tie as tie
+use Rattle.downscale.proofs.clear.Statement.{statement}
+use Rattle.downscale.proofs.clear.Tie as tie
 
 abbrev Inv-loop : tie.InvT-loop
 Inv-loop room₀ i₀ i-end room i = (i ≤ length room₀) × (length room ≡ length room₀) × (room ≡ replicate i 0 ++ drop i room₀)
@@ -35,7 +35,7 @@ loop-again : tie.Need-loop-again Inv-loop μ-loop
 loop-again c = (
   search needs,
   simp length-set (c .before .loop .inv .1),
-  rw (c .before .loop .inv .2) (fill-more 0 _ _ (c .loop-test .taken)),
+  rw (c .before .loop .inv .2) (fill-more _ 0 _ (c .loop-test .taken)),
 )
 
 same-length : tie.Need-same-length Inv-loop μ-loop

@@ -1,4 +1,4 @@
--- `msssim::room::widen_row` meets its contract. Assumes nothing.
+-- `downscale::widen_row` meets its contract. Assumes nothing.
 use Rattle.plane.proofs.Rows.{count-fits}
 use borrow.Author.Needs.{needs}
 use Prim.Native.Nat.{ℕ, _+_, _-_, _≤_}
@@ -7,10 +7,10 @@ use mathlib.Core.Path.{_≡_, refl}
 use denote.Ref.{now}
 use lib.ListN.{length, length-set}
 use Rattle.plane.specs.Plane.{at, samplesOf}
-use Rattle.msssim.specs.Rooms.{Put}
-use Rattle.msssim.proofs.Rooms.{put-none, put-more}
-use Rattle.msssim.proofs.room.widen_row.Statement.{statement}
-use Rattle.msssim.proofs.room.widen_row.Tie as tie
+use Rattle.downscale.specs.Rooms.{Put}
+use Rattle.downscale.proofs.Rooms.{put-none, put-more}
+use Rattle.downscale.proofs.widen_row.Statement.{statement}
+use Rattle.downscale.proofs.widen_row.Tie as tie
 
 abbrev Inv-loop : tie.InvT-loop
 Inv-loop room₀ bytes words wide start to width x₀ room x = (x ≤ width) × (length room ≡ length room₀) × Put room₀ room to x (λ (i : ℕ). at (samplesOf wide bytes words) (start + i))

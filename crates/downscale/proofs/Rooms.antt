@@ -2,17 +2,23 @@
 use mathlib.Core.Path.{_≡_, refl, _∙_}
 use mathlib.Core.List.{List}
 use Prim.Native.Nat.{ℕ, zero, suc, _+_, _-_, _*_, _/_, _≤_, _<_, _^_}
-use native.Mathlib.Nat.{ne-of-lt, add-mul, one-mul, mul-le-mul-left, mul-le-mul-right, mul-sub, le-refl, le-trans}
+use native.Mathlib.Nat.{ne-of-lt, add-mul, one-mul, mul-le-mul, mul-le-mul-left, mul-le-mul-right, mul-sub, le-refl, le-trans}
 use native.Mathlib.Decide.{decLt}
 use native.Mathlib.Omega.{arith}
 use borrow.Author.Count.{below-more, below-none}
 use lib.Dec.{lit<}
 use lib.ListN.{length, set}
 use lib.Seq.{getD-set-same, getD-set-other}
+use Rattle.plane.specs.Limits.{sideLimit}
 use Rattle.plane.specs.Plane.{at, planeOf}
 use Rattle.window.specs.Columns.{viewOf, mostSample, Readable}
-use Rattle.msssim.specs.Scale.{summedOf}
-use Rattle.msssim.specs.Rooms.{Put, Filled, Held}
+use Rattle.downscale.specs.Summed.{summedOf}
+use Rattle.downscale.specs.Rooms.{Put, Filled, Held}
+
+-- as many places as a plane has samples can be counted
+pub area-room : sideLimit * sideLimit < 2 ^ 64
+unfolding sideLimit
+area-room = lit< tt
 
 -- ---- a row
 pub put-none : (l : List ℕ) (from : ℕ) (g : ℕ → ℕ) → Put l l from 0 g
@@ -64,13 +70,12 @@ rows-all P old l width v y f h = go y (le-refl y)
             rw e at (rw (← (f .rows n c (omega arith) s)) at (h n c (omega arith) s))
 
 -- ---- summing in place
+half : (w : ℕ) → w / 2 ≤ w
+half w = omega arith
 
 -- row j of half as many places begins no later than row j
 pub half-le : (j width : ℕ) → j * (width / 2) ≤ j * width
 half-le j width = mul-le-mul-left j (half width)
-  where
-    half : (w : ℕ) → w / 2 ≤ w
-    half w = omega arith
 
 -- where row j has c places, a place further on is still as it was
 module _ (old l : List ℕ) (width j c : ℕ) (g : ℕ → ℕ) (p : Put old l (j * (width / 2)) c g) where
@@ -124,3 +129,22 @@ readable {width} {height} h some =
 
 pub held-small : {max width height : ℕ} {room : List ℕ} → max ≤ mostSample → Held max width height room → Held mostSample width height room
 held-small m h = record { long = h .long; small = λ i. le-trans (h .small i) m }
+
+-- the scale below, in place
+pub held-below : (max width height : ℕ) (old new : List ℕ) → Held max width height old
+    → Filled old new (width / 2) (summedOf (viewOf (planeOf old width))) (height / 2) → length new ≡ length old
+    → Held (4 * max) (width / 2) (height / 2) new
+held-below max width height old new h f e =
+    record { long = omega (arith, h .long, e, mul-le-mul (half height) (half width)); small = λ i. go i (decLt i (height / 2 * (width / 2))) }
+  where
+    go : (i : ℕ) → Dec (i < height / 2 * (width / 2)) → at new i ≤ 4 * max
+    go i (yes l) =
+        rows-all (λ (v : ℕ). v ≤ 4 * max) old new (width / 2) _ (height / 2) f
+        (λ r c k m. omega (
+          arith,
+          h .small (2 * r * width + 2 * c),
+          h .small (2 * r * width + (2 * c + 1)),
+          h .small ((2 * r + 1) * width + 2 * c),
+          h .small ((2 * r + 1) * width + (2 * c + 1)),
+        )) i l
+    go i (no l) = omega (arith, f .rest i (omega arith), h .small i)

@@ -1,4 +1,4 @@
--- `msssim::room::sum_row` meets its contract. Assumes nothing.
+-- `downscale::sum_row` meets its contract. Assumes nothing.
 use Rattle.plane.proofs.Limits.{side-small}
 use borrow.Author.Needs.{needs}
 use Prim.Native.Nat.{_-_, _*_, _/_, _≤_}
@@ -8,11 +8,11 @@ use denote.Ref.{now}
 use lib.ListN.{length, length-set}
 use Rattle.plane.specs.Plane.{planeOf}
 use Rattle.window.specs.Columns.{viewOf}
-use Rattle.msssim.specs.Scale.{summedOf}
-use Rattle.msssim.specs.Rooms.{Put}
-use Rattle.msssim.proofs.Rooms.{put-none, put-more, half-le, sum-same, sum-small}
-use Rattle.msssim.proofs.room.sum_row.Statement.{statement}
-use Rattle.msssim.proofs.room.sum_row.Tie as tie
+use Rattle.downscale.specs.Summed.{summedOf}
+use Rattle.downscale.specs.Rooms.{Put}
+use Rattle.downscale.proofs.Rooms.{put-none, put-more, half-le, sum-same, sum-small}
+use Rattle.downscale.proofs.sum_row.Statement.{statement}
+use Rattle.downscale.proofs.sum_row.Tie as tie
 
 abbrev Inv-loop : tie.InvT-loop
 Inv-loop room₀ width j half to top c₀ room c = (c ≤ width / 2) × (length room ≡ length room₀) × Put room₀ room (j * (width / 2)) c (summedOf (viewOf (planeOf room₀ width)) j)

@@ -1,10 +1,10 @@
--- `msssim::room::four` meets its contract. Assumes nothing.
+-- `downscale::four` meets its contract. Assumes nothing.
 use native.Mathlib.Omega.{arith}
 use Prim.Native.Nat.{_+_}
-use Rattle.msssim.proofs.Rooms.{four-room}
+use Rattle.downscale.proofs.Rooms.{four-room}
 use borrow.Author.Needs.{needs}
-use Rattle.msssim.proofs.room.four.Statement.{statement}
-use Rattle.msssim.proofs.room.four.Tie as tie
+use Rattle.downscale.proofs.four.Statement.{statement}
+use Rattle.downscale.proofs.four.Tie as tie
 
 mul-result : tie.Need-mul-result
 mul-result c = search needs

@@ -1,4 +1,4 @@
--- `msssim::room::widen` meets its contract: the rows above y stand there. Assumes nothing.
+-- `downscale::widen` meets its contract: the rows above y stand there. Assumes nothing.
 use mathlib.Core.Path.{_≡_, refl, _∙_}
 use Prim.Native.Nat.{_-_, _≤_}
 use native.Mathlib.Nat.{mul-le-mul-right}
@@ -7,12 +7,12 @@ use borrow.Author.Needs.{needs}
 use denote.Ref.{now}
 use lib.ListN.{length}
 use Rattle.window.specs.Columns.{viewOf}
-use Rattle.msssim.specs.Rooms.{Filled}
+use Rattle.downscale.specs.Rooms.{Filled}
 use Rattle.plane.specs.Plane.{planeOf, samplesOf}
 use Rattle.plane.proofs.Rows.{row-inside, count-fits}
-use Rattle.msssim.proofs.Rooms.{filled-none, filled-more}
-use Rattle.msssim.proofs.room.widen.Statement.{statement}
-use Rattle.msssim.proofs.room.widen.Tie as tie
+use Rattle.downscale.proofs.Rooms.{filled-none, filled-more}
+use Rattle.downscale.proofs.widen.Statement.{statement}
+use Rattle.downscale.proofs.widen.Tie as tie
 
 abbrev Inv-loop : tie.InvT-loop
 Inv-loop room₀ bytes words wide width height stride y₀ room y =
