@@ -11,50 +11,17 @@ use borrow.Rule.Slice.PartMut.{putMid}
 use lib.Dec.{lit<}
 use lib.Ieee.{Float}
 use lib.ListN.{length, set, take, drop, length-drop, drop-of-length-le}
-use Rattle.number.proofs.Folds.{fold-ext}
-use Rattle.plane.specs.Plane.{planeOf}
-use Rattle.plane.proofs.Sums.{sum-ext}
-use Rattle.window.specs.Kernel.{tap}
-use Rattle.window.specs.Moments.{inside, momentAt}
-use Rattle.window.specs.Parts.{momentsAt}
+use Rattle.plane.specs.Plane.{Plane, planeOf, maxOf}
+use Rattle.plane.specs.Lawful.{Alike}
 use Rattle.window.specs.Columns.{viewOf, mostSample}
-use Rattle.window.proofs.Windows.{inside-both}
-use Rattle.ssim.specs.Score.{stepOf, totalsOf}
+use Rattle.window.proofs.Visible.{Same, planes-same}
+use Rattle.ssim.proofs.Visible.{totals-ext}
 use Rattle.downscale.specs.Summed.{summedOf}
 use Rattle.downscale.specs.Rooms.{Filled}
-use Rattle.msssim.specs.Scale.{Scale, scaleOf, belowOf, sumsOf, ssimOf, csOf, pairsFrom}
+use Rattle.msssim.specs.Scale.{Scale, scaleCount, scaleOf, belowOf, sumsOf, ssimOf, csOf, pairsFrom}
+use Rattle.msssim.specs.Answer.{gatheredOf, scoreOf}
 
 -- ---- views that show the same inside the plane
-abbrev pub Same : ℕ → ℕ → (ℕ → ℕ → ℕ) → (ℕ → ℕ → ℕ) → Type 0
-Same width height v w = (r c : ℕ) → r < height → c < width → v r c ≡ w r c
-
-module _ (ker : List ℕ) (width height : ℕ) where
-  moment-ext : (v w : ℕ → ℕ → ℕ) (x y : ℕ) → Same width height v w → momentAt ker width height v x y ≡ momentAt ker width height w x y
-  unfolding momentAt
-  moment-ext v w x y h =
-      sum-ext _ _ (length ker) (λ i k.
-      sum-ext _ _ (length ker) (λ j l.
-      ap (λ (u : ℕ). tap ker i * tap ker j * u)
-      (inside-both (λ (p q : ℕ). p ≡ q) (length ker / 2) height (λ (r : ℕ). inside (length ker / 2) width (v r) (x + j))
-      (λ (r : ℕ). inside (length ker / 2) width (w r) (x + j)) (y + i) refl (λ e f.
-      inside-both (λ (p q : ℕ). p ≡ q) (length ker / 2) width (v (y + i - length ker / 2)) (w (y + i - length ker / 2)) (x + j) refl (λ g m.
-      h (y + i - length ker / 2) (x + j - length ker / 2) (omega arith) (omega arith))))))
-
-  module _ (a a′ b b′ : ℕ → ℕ → ℕ) (p : Same width height a a′) (q : Same width height b b′) where
-    moments-ext : (x y : ℕ) → momentsAt ker width height a b x y ≡ momentsAt ker width height a′ b′ x y
-    moments-ext x y =
-        simp (
-          moment-ext a a′ x y p,
-          moment-ext b b′ x y q,
-          moment-ext (λ (r c : ℕ). a r c * a r c) (λ (r c : ℕ). a′ r c * a′ r c) x y (λ r c k l. rw (p r c k l)),
-          moment-ext (λ (r c : ℕ). a r c * b r c) (λ (r c : ℕ). a′ r c * b′ r c) x y (λ r c k l. rw (p r c k l, q r c k l)),
-          moment-ext (λ (r c : ℕ). b r c * b r c) (λ (r c : ℕ). b′ r c * b′ r c) x y (λ r c k l. rw (q r c k l)),
-        )
-
-    totals-ext : (max2 : Float) (n : ℕ) → totalsOf max2 ker width height a b n ≡ totalsOf max2 ker width height a′ b′ n
-    unfolding totalsOf
-    totals-ext max2 n = fold-ext _ _ _ n (λ t y k. fold-ext _ _ _ width (λ s x l. ap (stepOf max2 s) (moments-ext x y)))
-
 summed-ext : (width height : ℕ) (v w : ℕ → ℕ → ℕ) → Same width height v w → Same (width / 2) (height / 2) (summedOf v) (summedOf w)
 summed-ext width height v w h r c k l =
     rw (
@@ -74,6 +41,14 @@ pairs-ext (suc left) max width height a a′ b b′ p q =
       pairs-ext left (4 * max) (width / 2) (height / 2) (summedOf a) (summedOf a′) (summedOf b) (summedOf b′)
           (summed-ext width height a a′ p) (summed-ext width height b b′ q),
     )
+
+-- "Padding is never read": the answer is the same for planes whose visible samples agree
+pub visible-only : (a b a′ b′ : Plane) (width height depth : ℕ) → Alike width height a a′ → Alike width height b b′
+    → scoreOf a b width height depth ≡ scoreOf a′ b′ width height depth
+visible-only a b a′ b′ width height depth p q =
+    ap (λ (l : List Float). gatheredOf l)
+    (pairs-ext scaleCount (maxOf depth) width height (viewOf a) (viewOf a′) (viewOf b) (viewOf b′)
+    (planes-same a a′ width height p) (planes-same b b′ width height q))
 
 -- ---- the scales that are left
 

@@ -1,9 +1,6 @@
 -- `vectors::series::repeated` is safe and ends: the count stays within `times`. Assumes nothing.
 use Prim.Native.Nat.{_≤_, _-_}
-use native.Mathlib.Omega.{arith}
 use borrow.Author.Needs.{needs}
-use lib.ListN.{length}
-use mathlib.Core.Logic.{⊎-elim}
 use Rattle.vectors.proofs.series.repeated.Statement.{statement}
 use Rattle.vectors.proofs.series.repeated.Tie as tie
 
