@@ -1,15 +1,13 @@
 -- What it means that a call takes what it is given, and what the calls give one after the other: document 01's demand of the transform.
 -- Assumes nothing.
-use mathlib.Core.Path.{_≡_, refl, _∙_}
-use mathlib.Core.Bool.{Bool, true, false, _&&_}
-use mathlib.Core.List.{List, [], _∷_}
+use mathlib.Core.Path.{_≡_, _∙_}
+use mathlib.Core.Bool.{true, false, _&&_}
+use mathlib.Core.List.{List}
 use Prim.Native.Nat.{ℕ}
-use native.Mathlib.Omega.{arith}
 use lib.Dec.{eqb}
 use lib.IntN.{ℤ}
 use lib.ListN.{length}
 use borrow.Author.Tests.{eq-eqb, eqb-true}
-use Rattle.refusal.specs.First.{firstBroken}
 use Rattle.refusal.specs.Numbers.{valueNo}
 use Rattle.dct.specs.Limits.{blockSize, forwardLimit, inverseLimit}
 use Rattle.lifting.specs.Small.{Small}
@@ -47,14 +45,6 @@ module _ (n : ℕ) (f : List ℤ → List ℤ) (given out : List ℤ) where
   pub refused : takes n given (length out) ≡ false → (answer n given out ≡ valueNo) × (later n f given out ≡ out)
   unfolding answer later
   refused h = (rw h, rw h)
-
-  pub accepted-only : answer n given out ≡ 0 → takes n given (length out) ≡ true
-  unfolding answer
-  accepted-only h = pick (takes n given (length out)) h
-    where
-      pick : (b : Bool) → firstBroken ((valueNo, b) ∷ []) ≡ 0 → b ≡ true
-      pick true e = refl
-      pick false e = absurd (omega arith)
 
 -- ---- the calls one after the other
 

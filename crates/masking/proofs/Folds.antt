@@ -49,9 +49,6 @@ module _ {A : Type 0} where
 pub place : (k : ℕ) → 8 * (k / 8) + k % 8 ≡ k
 place k = omega arith
 
-pub place-from-0 : (k : ℕ) → 8 * (0 + k / 8) + (0 + k % 8) ≡ k
-place-from-0 k = omega arith
-
 pub first-is : (k : ℕ) → first (k / 8) (k % 8) ≡ eqb k 0
 first-is k = go (eqb k 0) refl
   where

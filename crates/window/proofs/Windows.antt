@@ -1,5 +1,5 @@
 -- Laws of `inside` and of a window along one side. Assumes nothing.
-use mathlib.Core.Path.{_≡_, refl, sym, ap, _∙_}
+use mathlib.Core.Path.{_≡_, sym, _∙_}
 use mathlib.Core.List.{List}
 use Prim.Native.Nat.{ℕ, _+_, _-_, _*_, _≤_, _<_, _/_, _^_}
 use native.Mathlib.Nat.{mul-zero, mul-one, mul-le-mul-left, mul-comm, le-trans, le-refl}
@@ -93,16 +93,6 @@ module _ (ker : List ℕ) (side : ℕ) (f : ℕ → ℕ) (x : ℕ) where
       → s ≡ partOf ker side f x k → k < length ker → length ker / 2 ≤ x + k → x + k < length ker / 2 + side
       → s + tap ker k * f (x + k - length ker / 2) ≤ B * fixedTotal
   part-room B s k r h e l m n = rw (e, ← part-more k m n) (part-le B r h (k + 1) (omega arith))
-
--- two windows over what is equal where it counts
-pub window-ext : (ker : List ℕ) (side : ℕ) (f g : ℕ → ℕ) (x : ℕ)
-    → ((k : ℕ) → k < length ker → length ker / 2 ≤ x + k → x + k < length ker / 2 + side
-    → f (x + k - length ker / 2) ≡ g (x + k - length ker / 2))
-    → windowOf ker side f x ≡ windowOf ker side g x
-unfolding partOf
-window-ext ker side f g x h =
-    sum-ext _ _ (length ker) (λ k l.
-    ap (λ (v : ℕ). tap ker k * v) (inside-both (λ (u v : ℕ). u ≡ v) (length ker / 2) side f g (x + k) refl (h k l)))
 
 -- ---- weights
 module _ (ker : List ℕ) (side x : ℕ) where
