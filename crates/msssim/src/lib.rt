@@ -12,9 +12,9 @@ ghost use Rattle.ssim.specs.Scratch.{cleared};
 ghost use Rattle.msssim.specs.Answer.{leastSide, placesOf, roomOf, lentEnough, msssimRefusal, scoreOf, roomCleared};
 ghost use Rattle.msssim.specs.Answer.{lentOf, refusalOf, msssimOf, lentAfter};
 
-pub mod gather;
-pub mod scale;
-pub mod whole;
+mod gather;
+mod scale;
+mod whole;
 
 // The least side.
 const LEAST_SIDE: usize = 16;
