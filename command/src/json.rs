@@ -1,140 +1,125 @@
-//! The report as JSON: one object, written as the frames are scored and closed whatever ends the run.
+//! The report as one JSON object, written as the frames are scored.
 
 use crate::report::{metric_of, values, End, Job, Place, Report, Value, FIELDS};
 use crate::score::{FrameScores, Metrics, Scores};
 use crate::stop::PASSED;
 use crate::thresholds::Broken;
+use crate::writer::{self, Writer};
 use std::io::{self, Write};
 
 #[derive(Default)]
 pub struct Json {
     asked: [bool; 4],
-    frames: u64,
+    json: Writer,
 }
 
 impl Report for Json {
     fn begin(&mut self, out: &mut dyn Write, job: &Job<'_>) -> io::Result<()> {
         self.asked = job.metrics.asked();
-        let names = Metrics::NAMES.iter().zip(self.asked).filter(|named| named.1).map(|named| text(named.0));
-        let limit = |option: &str, limit: f64| format!("{{\"option\":{},\"limit\":{:?}}}", text(option), limit);
-        let limits = job.thresholds.iter().map(|t| limit(t.kind.option, t.limit));
+        let json = &mut self.json;
+        json.object().lines();
+        json.field("fuavelino", env!("CARGO_PKG_VERSION"));
+        json.field("original", job.original).field("decoded", job.decoded);
         let f = &job.format;
-        writeln!(out, "{{\"fuavelino\":{},", text(env!("CARGO_PKG_VERSION")))?;
-        writeln!(out, "\"original\":{},\n\"decoded\":{},", text(job.original), text(job.decoded))?;
-        write!(out, "\"format\":{{\"width\":{},\"height\":{},", f.width, f.height)?;
-        writeln!(out, "\"bit_depth\":{},\"chroma\":{}}},", f.depth, text(f.chroma_name()))?;
-        writeln!(out, "\"metrics\":{},\n\"thresholds\":{},", list(names), list(limits))?;
-        write!(out, "\"frames\":[")
+        json.name("format").object().field("width", f.width as u64).field("height", f.height as u64);
+        json.field("bit_depth", u64::from(f.depth)).field("chroma", f.chroma_name()).close();
+        json.name("metrics").list();
+        for (name, _) in Metrics::NAMES.iter().zip(self.asked).filter(|named| named.1) {
+            json.value(*name);
+        }
+        json.close().name("thresholds").list();
+        for threshold in job.thresholds {
+            json.object().field("option", threshold.kind.option).field("limit", threshold.limit).close();
+        }
+        json.close().name("frames").list().lines();
+        self.out(out)
     }
 
     fn frame(&mut self, out: &mut dyn Write, number: u64, scores: &FrameScores, broken: &[Broken]) -> io::Result<()> {
-        let comma = if self.frames > 0 { "," } else { "" };
-        self.frames += 1;
-        write!(out, "{}\n{{\"frame\":{},", comma, number)?;
-        self.scores(out, scores)?;
-        write!(out, ",\"broken\":{}}}", list(broken.iter().map(breach)))
+        self.json.object().field("frame", number);
+        self.scores(scores);
+        self.json.name("broken").list();
+        broken.iter().for_each(|one| breach(&mut self.json, one));
+        self.json.close().close();
+        self.out(out)
     }
 
     fn end(&mut self, out: &mut dyn Write, end: &End<'_>) -> io::Result<()> {
-        write!(out, "\n],\n\"run\":")?;
+        self.json.close().name("run");
         match end.run {
             Some(run) => {
-                write!(out, "{{\"frames\":{},", end.frames)?;
-                self.scores(out, run)?;
-                write!(out, "}}")?;
+                self.json.object().field("frames", end.frames);
+                self.scores(run);
+                self.json.close();
             }
-            None => write!(out, "null")?,
+            None => {
+                self.json.null();
+            }
         }
-        writeln!(out, ",\n\"worst\":{},", list(end.worst.places().map(worst)))?;
-        writeln!(out, "\"broken\":{},", end.broken)?;
+        let json = &mut self.json;
+        json.name("worst").list();
+        end.worst.places().for_each(|place| worst(json, place));
+        json.close().field("broken", end.broken).name("error");
         match end.fault {
             Some(fault) => {
-                let refusal = fault.refusal.map_or("null".to_string(), |refusal| refusal.number().to_string());
-                writeln!(out, "\"error\":{{\"message\":{},\"refusal\":{}}},", text(&fault.message), refusal)?;
+                let refusal = fault.refusal.map(|refusal| u64::from(refusal.number()));
+                json.object().field("message", &fault.message[..]).field("refusal", refusal).close();
             }
-            None => writeln!(out, "\"error\":null,")?,
+            None => {
+                json.null();
+            }
         }
-        writeln!(out, "\"status\":{},\n\"passed\":{}}}", end.status, end.status == PASSED)
+        json.field("status", u64::from(end.status)).field("passed", end.status == PASSED).close();
+        self.out(out)?;
+        writeln!(out)
     }
 }
 
 impl Json {
-    fn scores(&self, out: &mut dyn Write, scores: &FrameScores) -> io::Result<()> {
-        let planes = scores.named().take(scores.planes.len());
-        let named = |plane: (&str, &Scores)| format!("{{\"plane\":{}{}}}", text(plane.0), self.fields(plane.1));
-        let combined = self.fields(&scores.combined);
-        let combined = combined.strip_prefix(',').unwrap_or(&combined);
-        write!(out, "\"planes\":{},\"combined\":{{{}}}", list(planes.map(named)), combined)
+    /// Lets out what was written.
+    fn out(&mut self, out: &mut dyn Write) -> io::Result<()> {
+        out.write_all(self.json.take().as_bytes())
     }
 
-    /// Each asked figure, with a comma before it.
-    fn fields(&self, scores: &Scores) -> String {
-        let mut all = String::new();
+    fn scores(&mut self, scores: &FrameScores) {
+        self.json.name("planes").list();
+        for (plane, scores) in scores.named().take(scores.planes.len()) {
+            self.json.object().field("plane", plane);
+            self.figures(scores);
+            self.json.close();
+        }
+        self.json.close().name("combined").object();
+        self.figures(&scores.combined);
+        self.json.close();
+    }
+
+    /// Each asked figure.
+    fn figures(&mut self, scores: &Scores) {
         for (number, value) in values(scores).iter().enumerate() {
             if self.asked[metric_of(number)] {
-                all.push_str(&format!(",\"{}\":{}", FIELDS[number], shown(value)));
+                self.json.field(FIELDS[number], value);
             }
         }
-        all
     }
 }
 
-fn shown(value: &Value) -> String {
-    match value {
-        // the shortest decimal that reads back to the same bits
-        Value::Double(value) => format!("{:?}", value),
-        Value::Whole(value) => value.to_string(),
-        Value::Truth(value) => value.to_string(),
-        Value::None => "null".to_string(),
-    }
-}
-
-fn breach(broken: &Broken) -> String {
-    let value = broken.value.map_or("null".to_string(), |value| format!("{:?}", value));
-    let (option, limit, plane) = (text(broken.option), broken.limit, text(broken.plane));
-    let rest = format!("\"plane\":{},\"field\":{},\"value\":{}", plane, text(broken.field), value);
-    format!("{{\"option\":{},\"limit\":{:?},{}}}", option, limit, rest)
-}
-
-fn worst(place: &Place) -> String {
-    let (field, plane) = (text(place.field), text(place.plane));
-    format!("{{\"field\":{},\"frame\":{},\"plane\":{},\"value\":{:?}}}", field, place.frame, plane, place.value)
-}
-
-fn list(items: impl Iterator<Item = String>) -> String {
-    format!("[{}]", items.collect::<Vec<String>>().join(","))
-}
-
-/// A text in quotes, of printable ASCII and other letters; the rest is escaped.
-fn text(given: &str) -> String {
-    let mut quoted = String::from("\"");
-    for c in given.chars() {
-        match c {
-            '"' | '\\' => quoted.extend(['\\', c]),
-            c if c.is_control() => c.encode_utf16(&mut [0; 2]).iter().for_each(|unit| {
-                quoted.push_str(&format!("\\u{:04x}", unit));
-            }),
-            c => quoted.push(c),
+impl writer::Value for Value {
+    fn put(&self, text: &mut String) {
+        match self {
+            Value::Double(value) => value.put(text),
+            Value::Whole(value) => value.put(text),
+            Value::Truth(value) => value.put(text),
+            Value::None => None::<u64>.put(text),
         }
     }
-    quoted.push('"');
-    quoted
 }
 
-#[cfg(test)]
-mod tests {
-    use super::*;
+fn breach(json: &mut Writer, broken: &Broken) {
+    json.object().field("option", broken.option).field("limit", broken.limit);
+    json.field("plane", broken.plane).field("field", broken.field).field("value", broken.value).close();
+}
 
-    #[test]
-    fn texts_are_escaped() {
-        assert_eq!(text("a\"b\\c\n\u{7f}é"), "\"a\\\"b\\\\c\\u000a\\u007fé\"");
-    }
-
-    #[test]
-    fn doubles_read_back_to_the_same_bits() {
-        for value in [1.0 + f64::EPSILON, 5e-324, f64::MAX, 1e-8, 0.1, 2f64.powi(53), -0.0] {
-            let bits = shown(&Value::Double(value)).parse::<f64>().map(f64::to_bits);
-            assert_eq!(bits, Ok(value.to_bits()));
-        }
-    }
+fn worst(json: &mut Writer, place: &Place) {
+    json.object().field("field", place.field).field("frame", place.frame);
+    json.field("plane", place.plane).field("value", place.value).close();
 }

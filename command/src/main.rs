@@ -17,6 +17,7 @@ mod stop;
 mod table;
 mod thresholds;
 mod totals;
+mod writer;
 mod y4m;
 
 use args::Asked;
