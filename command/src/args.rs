@@ -5,7 +5,7 @@ use crate::format::{decimal, Chroma, Format, CHROMAS};
 use crate::score::Metrics;
 use crate::stop::Stop;
 use crate::thresholds::{Threshold, KINDS};
-use std::ffi::OsString;
+use std::ffi::{OsStr, OsString};
 use std::path::PathBuf;
 
 pub const HELP: &str = "\
@@ -67,6 +67,7 @@ pub fn parse(words: impl Iterator<Item = OsString>) -> Result<Asked, Stop> {
     }
     let first = words.remove(0);
     match first.to_str() {
+        Some("--help" | "-h" | "help" | "--version" | "-V") if !words.is_empty() => Err(stands_alone(&first)),
         Some("--help" | "-h" | "help") => Ok(Asked::Help),
         Some("--version" | "-V") => Ok(Asked::Version),
         Some("compare") => compare(Words::of(words, &COMPARE)?),
@@ -77,6 +78,11 @@ pub fn parse(words: impl Iterator<Item = OsString>) -> Result<Asked, Stop> {
 
 fn usage(message: &str) -> Stop {
     Stop::Usage(message.to_string())
+}
+
+/// What asks for a text compares nothing: beside other words it could be taken for a comparison that passed.
+fn stands_alone(word: &OsStr) -> Stop {
+    usage(&format!("{:?} is given beside other words, and nothing was done about those", word))
 }
 
 /// An option's name, and whether a value follows it.
@@ -162,8 +168,13 @@ impl Words {
         }
     }
 
-    fn wants_help(&self) -> bool {
-        self.has("--help") || self.has("-h")
+    /// Whether help is asked for, and nothing else.
+    fn wants_help(&self) -> Result<bool, Stop> {
+        match (["--help", "-h"].iter().find(|name| self.has(name)), self.options.len() + self.others.len()) {
+            (None, _) => Ok(false),
+            (Some(_), 1) => Ok(true),
+            (Some(name), _) => Err(stands_alone(OsStr::new(name))),
+        }
     }
 
     fn size(&self) -> Result<Option<(usize, usize)>, Stop> {
@@ -187,7 +198,7 @@ impl Words {
 }
 
 fn compare(words: Words) -> Result<Asked, Stop> {
-    if words.wants_help() {
+    if words.wants_help()? {
         return Ok(Asked::Help);
     }
     let [original, decoded] = match &words.others[..] {
@@ -249,7 +260,7 @@ fn thresholds(words: &Words, metrics: &Metrics) -> Result<Vec<Threshold>, Stop> 
 }
 
 fn clip(words: Words) -> Result<Asked, Stop> {
-    if words.wants_help() {
+    if words.wants_help()? {
         return Ok(Asked::Help);
     }
     let (picture, path) = match &words.others[..] {

@@ -29,7 +29,7 @@ pub fn write(clip: &Clip) -> Result<(), Stop> {
         .ok_or_else(|| Stop::Usage(format!("Y4M has no name for depth {}; it has 8, 9, 10 and 12", format.depth)))?;
     format.judge().map_err(|refusal| Stop::Usage(format!("--size: {}", refusal)))?;
     let mut out = match clip.path.as_os_str() == "-" {
-        true => Output::standard(),
+        true => Output::standard()?,
         false => Output::create(&clip.path)?,
     };
     out.write(|to| writeln!(to, "YUV4MPEG2 W{} H{} F25:1 Ip A1:1 C{}", format.width, format.height, space))?;

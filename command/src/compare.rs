@@ -4,7 +4,7 @@ use crate::args::{Compare, Form};
 use crate::csv::Csv;
 use crate::format::Format;
 use crate::frames::{Frame, Source};
-use crate::input::Stored;
+use crate::input::{named, shown, Stored};
 use crate::json::Json;
 use crate::output::Output;
 use crate::progress::{is_terminal, say, Progress, STANDARD_OUTPUT};
@@ -15,27 +15,14 @@ use crate::table::Table;
 use crate::thresholds;
 use crate::totals::Run;
 use std::fs;
+use std::io::{self, Write};
 use std::os::unix::fs::MetadataExt;
 use std::path::PathBuf;
 
 /// Compares, and gives the status that the command ends with.
 pub fn compare(asked: &Compare) -> Result<u8, Stop> {
-    if let Some(format) = asked.raw {
-        format.judge().map_err(|refusal| Fault::refused(&format.show(), refusal))?;
-    }
-    let mut sources = [Source::open(&asked.original, asked.raw)?, Source::open(&asked.decoded, asked.raw)?];
-    alike(&sources[0], &sources[1])?;
     let mut out = output(asked)?;
-    let names = [sources[0].name().to_string(), sources[1].name().to_string()];
-    let format = sources[0].format;
-    let [original, decoded] = [&names[0], &names[1]];
-    let job = Job { original, decoded, format, metrics: asked.metrics, thresholds: &asked.thresholds };
-    let mut report: Box<dyn Report> = match asked.form {
-        Form::Table => Box::new(Table::default()),
-        Form::Json => Box::new(Json::default()),
-        Form::Csv => Box::new(Csv),
-    };
-    out.write(|to| report.begin(to, &job))?;
+    let mut report = report(asked.form);
     let rows_are_seen = asked.output.is_none() && is_terminal(STANDARD_OUTPUT);
     let mut walk = Walk {
         asked,
@@ -46,9 +33,45 @@ pub fn compare(asked: &Compare) -> Result<u8, Stop> {
         frames: 0,
         broken: 0,
     };
-    let status = walk.whole(&mut sources, &format)?;
+    let walked = walk.whole();
+    let status = walk.end(walked)?;
     out.close()?;
     Ok(status)
+}
+
+fn report(form: Form) -> Box<dyn Report> {
+    match form {
+        Form::Table => Box::new(Table::default()),
+        Form::Json => Box::new(Json::default()),
+        Form::Csv => Box::new(Csv),
+    }
+}
+
+/// Begins a report, with the files' format where that is known.
+fn begin(report: &mut dyn Report, to: &mut dyn Write, asked: &Compare, format: Option<Format>) -> io::Result<()> {
+    let (original, decoded) = (&named(&asked.original)[..], &named(&asked.decoded)[..]);
+    report.begin(to, &Job { original, decoded, format, metrics: asked.metrics, thresholds: &asked.thresholds })
+}
+
+/// What stands in the report's file until the run has ended: a whole report of a run that did not pass.
+fn unfinished(asked: &Compare) -> io::Result<Vec<u8>> {
+    let mut text = Vec::new();
+    let mut report = report(asked.form);
+    begin(&mut *report, &mut text, asked, None)?;
+    let fault = Fault::new("the comparison has not ended, or was ended from outside".to_string());
+    let (worst, fault) = (&Worst::default(), Some(&fault));
+    report.end(&mut text, &End { frames: 0, run: None, worst, broken: 0, fault, status: FAULT })?;
+    Ok(text)
+}
+
+/// Opens both files, which must be alike.
+fn open(asked: &Compare) -> Result<[Source; 2], Fault> {
+    if let Some(format) = asked.raw {
+        format.judge().map_err(|refusal| Fault::refused(&format.show(), refusal))?;
+    }
+    let sources = [Source::open(&asked.original, asked.raw)?, Source::open(&asked.decoded, asked.raw)?];
+    alike(&sources[0], &sources[1])?;
+    Ok(sources)
 }
 
 /// Rate, aspect and the rest of a header are not compared: they do not bear on the scores.
@@ -76,7 +99,7 @@ fn alike(a: &Source, b: &Source) -> Result<(), Fault> {
 fn output(asked: &Compare) -> Result<Output, Stop> {
     let path = match &asked.output {
         Some(path) => path,
-        None => return Ok(Output::standard()),
+        None => return Output::standard(),
     };
     if let Ok(target) = fs::metadata(path) {
         let same = |other: fs::Metadata| (other.dev(), other.ino()) == (target.dev(), target.ino());
@@ -86,7 +109,8 @@ fn output(asked: &Compare) -> Result<Output, Stop> {
             return Err(Stop::Usage("--output names a file that is to be compared".to_string()));
         }
     }
-    Output::create(path)
+    let first = unfinished(asked).map_err(|error| Stop::unwritten(&shown(path), &error))?;
+    Output::replace(path, &first)
 }
 
 /// The walk over all frames.
@@ -101,10 +125,21 @@ struct Walk<'a> {
 }
 
 impl Walk<'_> {
-    /// Walks and closes the report, whatever ended the walk, unless it could not be written.
-    fn whole(&mut self, sources: &mut [Source; 2], format: &Format) -> Result<u8, Stop> {
-        let walked = if format.wide() { self.walk::<u16>(sources) } else { self.walk::<u8>(sources) };
+    /// Begins the report, and walks where there is something to walk over.
+    fn whole(&mut self) -> Result<FrameScores, Stop> {
+        let opened = open(self.asked);
+        let format = opened.as_ref().ok().map(|sources| sources[0].format);
+        let (report, asked) = (&mut *self.report, self.asked);
+        self.out.write(|to| begin(report, to, asked, format))?;
+        let mut sources = opened?;
+        let walked =
+            if sources[0].format.wide() { self.walk::<u16>(&mut sources) } else { self.walk::<u8>(&mut sources) };
         self.progress.clear();
+        walked
+    }
+
+    /// Closes the report, whatever ended the walk, unless it could not be written.
+    fn end(&mut self, walked: Result<FrameScores, Stop>) -> Result<u8, Stop> {
         let (run, fault) = match walked {
             Ok(run) => (Some(run), None),
             Err(Stop::Fault(fault)) => (None, Some(fault)),

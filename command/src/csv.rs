@@ -1,8 +1,9 @@
-//! The report as CSV: a row for each plane of each frame and for their combination, then the run's rows. Every column is
-//! always there; what was not asked for is empty.
+//! The report as CSV: a row for each plane of each frame and for their combination, then the run's rows, then one that says
+//! whether it passed. Every column is always there; what was not asked for is empty.
 
 use crate::report::{values, End, Job, Report, Value, FIELDS};
 use crate::score::FrameScores;
+use crate::stop::PASSED;
 use crate::thresholds::Broken;
 use std::io::{self, Write};
 
@@ -18,10 +19,11 @@ impl Report for Csv {
     }
 
     fn end(&mut self, out: &mut dyn Write, end: &End<'_>) -> io::Result<()> {
-        match end.run {
-            Some(run) => rows(out, "run,", run),
-            None => Ok(()),
+        if let Some(run) = end.run {
+            rows(out, "run,", run)?;
         }
+        let scope = if end.status == PASSED { "passed" } else { "not passed" };
+        writeln!(out, "{},,{}", scope, ",".repeat(FIELDS.len()))
     }
 }
 

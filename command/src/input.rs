@@ -54,13 +54,22 @@ pub fn shown(path: &Path) -> String {
     path.to_string_lossy().chars().map(|c| if c.is_control() { '?' } else { c }).collect()
 }
 
+/// A file that is compared, as messages and reports name it.
+pub fn named(path: &Path) -> String {
+    if path.as_os_str() == "-" {
+        "standard input".to_string()
+    } else {
+        shown(path)
+    }
+}
+
 impl Input {
     /// `-` is standard input.
     pub fn open(path: &Path) -> Result<Input, Fault> {
+        let name = named(path);
         if path.as_os_str() == "-" {
-            return Ok(Input::of("standard input".to_string(), Box::new(io::stdin())));
+            return Ok(Input::of(name, Box::new(io::stdin())));
         }
-        let name = shown(path);
         match File::open(path) {
             Ok(file) => Ok(Input::of(name, Box::new(file))),
             Err(error) => Err(Fault::new(format!("{}: cannot open: {}", name, error))),

@@ -1,5 +1,6 @@
 //! The report as one JSON object, written as the frames are scored.
 
+use crate::format::Format;
 use crate::report::{metric_of, values, End, Job, Place, Report, Value, FIELDS};
 use crate::score::{FrameScores, Metrics, Scores};
 use crate::stop::PASSED;
@@ -20,9 +21,7 @@ impl Report for Json {
         json.object().lines();
         json.field("fuavelino", env!("CARGO_PKG_VERSION"));
         json.field("original", job.original).field("decoded", job.decoded);
-        let f = &job.format;
-        json.name("format").object().field("width", f.width as u64).field("height", f.height as u64);
-        json.field("bit_depth", u64::from(f.depth)).field("chroma", f.chroma_name()).close();
+        format(json.name("format"), job.format);
         json.name("metrics").list();
         for (name, _) in Metrics::NAMES.iter().zip(self.asked).filter(|named| named.1) {
             json.value(*name);
@@ -110,6 +109,18 @@ impl writer::Value for Value {
             Value::Whole(value) => value.put(text),
             Value::Truth(value) => value.put(text),
             Value::None => None::<u64>.put(text),
+        }
+    }
+}
+
+fn format(json: &mut Writer, told: Option<Format>) {
+    match told {
+        Some(f) => {
+            json.object().field("width", f.width as u64).field("height", f.height as u64);
+            json.field("bit_depth", u64::from(f.depth)).field("chroma", f.chroma_name()).close();
+        }
+        None => {
+            json.null();
         }
     }
 }

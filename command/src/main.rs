@@ -5,11 +5,13 @@ mod clip;
 mod compare;
 mod csv;
 mod decibels;
+mod descriptor;
 mod format;
 mod frames;
 mod input;
 mod json;
 mod output;
+mod part;
 mod progress;
 mod report;
 mod score;
@@ -35,8 +37,8 @@ fn main() -> ExitCode {
 
 fn done() -> Result<u8, Stop> {
     match args::parse(std::env::args_os().skip(1))? {
-        Asked::Help => Output::standard().write(|to| to.write_all(args::HELP.as_bytes()))?,
-        Asked::Version => Output::standard().write(|to| writeln!(to, "fuavelino {}", env!("CARGO_PKG_VERSION")))?,
+        Asked::Help => Output::standard()?.write(|to| to.write_all(args::HELP.as_bytes()))?,
+        Asked::Version => Output::standard()?.write(|to| writeln!(to, "fuavelino {}", env!("CARGO_PKG_VERSION")))?,
         Asked::Compare(asked) => return compare::compare(&asked),
         Asked::Clip(clip) => clip::write(&clip)?,
     }

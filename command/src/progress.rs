@@ -8,7 +8,7 @@ use std::time::{Duration, Instant};
 const PATIENCE: Duration = Duration::from_secs(2);
 const BETWEEN: Duration = Duration::from_millis(500);
 
-pub const STANDARD_OUTPUT: c_int = 1;
+pub use crate::descriptor::STANDARD_OUTPUT;
 pub const STANDARD_ERROR: c_int = 2;
 
 extern "C" {

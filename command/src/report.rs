@@ -11,7 +11,8 @@ use std::io::{self, Write};
 pub struct Job<'a> {
     pub original: &'a str,
     pub decoded: &'a str,
-    pub format: Format,
+    /// What the files are, once both are known to be alike.
+    pub format: Option<Format>,
     pub metrics: Metrics,
     pub thresholds: &'a [Threshold],
 }

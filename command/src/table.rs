@@ -23,7 +23,8 @@ impl Report for Table {
     fn begin(&mut self, out: &mut dyn Write, job: &Job<'_>) -> io::Result<()> {
         self.asked = job.metrics.asked();
         self.thresholds = job.thresholds.len();
-        writeln!(out, "original: {}\ndecoded:  {}\nformat:   {}\n", job.original, job.decoded, job.format.show())?;
+        let format = job.format.map_or("not known".to_string(), |format| format.show());
+        writeln!(out, "original: {}\ndecoded:  {}\nformat:   {}\n", job.original, job.decoded, format)?;
         writeln!(out, "{}", self.heads())
     }
 

@@ -1,5 +1,6 @@
 //! The command from end to end: files in, reports, messages and statuses out.
 
+mod closed;
 mod documented;
 mod files;
 mod hostile;

@@ -45,6 +45,7 @@ fn json_and_csv_say_the_same() {
             }
         }
     }
+    assert_eq!(lines.next(), Some(&format!("passed{}", ",".repeat(names.len() - 1))[..]));
     assert_eq!(lines.next(), None);
 }
 

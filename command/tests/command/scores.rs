@@ -201,7 +201,7 @@ fn a_run_may_be_longer_than_a_series() {
     let a = room.file("a.yuv", &vec![7; count * frame]);
     let b = room.file("b.yuv", &vec![9; count * frame]);
     let script =
-        "ulimit -v 200000; exec \"$0\" \"$@\" --size=8x8 --depth=8 --chroma=400 --metrics=error --csv | tail -n 2";
+        "ulimit -v 200000; exec \"$0\" \"$@\" --size=8x8 --depth=8 --chroma=400 --metrics=error --csv | tail -n 3";
     let ended = run_in(script, &words!["compare", a, b]);
     let n = count * frame;
     let figures = format!("{:?},{},255,false,4.0,", (4 * n) as f64, n);
@@ -224,7 +224,7 @@ fn raw_files_and_a_pipe_give_what_y4m_gives() {
         let raw = run(&[&words!["compare", &a, &b][..], &told].concat());
         let fed = run_fed(&[&words!["compare", "-", &b][..], &told].concat(), &original.raw());
         assert_eq!(raw.passes(), fed.passes());
-        assert_eq!(raw.out.lines().count(), 1 + 4 * (original.frames[0].len() + 1));
+        assert_eq!(raw.out.lines().count(), 1 + 4 * (original.frames[0].len() + 1) + 1);
         if depth >= 8 {
             let (c, d) = (room.file("a.y4m", &original.y4m()), room.file("b.y4m", &decoded.y4m()));
             assert_eq!(run(&words!["compare", &c, &d, "--csv"]).passes(), raw.out);
