@@ -35,6 +35,14 @@ fn says_not_passed(form: &str, report: &str) {
     }
 }
 
+/// What stands in the room.
+fn names(room: &Room) -> Vec<OsString> {
+    let entries = fs::read_dir(room.path("")).unwrap();
+    let mut names: Vec<OsString> = entries.map(|entry| entry.unwrap().file_name()).collect();
+    names.sort();
+    names
+}
+
 fn form_words(form: &str) -> Vec<OsString> {
     if form.is_empty() {
         Vec::new()
@@ -113,22 +121,29 @@ fn a_whole_report_takes_the_place_with_its_rights_and_leaves_nothing_beside() {
     fs::set_permissions(&report, fs::Permissions::from_mode(0o640)).unwrap();
     let link = room.path("link");
     symlink("report", &link).unwrap();
-    let names = || {
-        let mut names: Vec<OsString> =
-            fs::read_dir(room.path("")).unwrap().map(|entry| entry.unwrap().file_name()).collect();
-        names.sort();
-        names
-    };
-    let before = names();
+    let before = names(&room);
     for (other, status) in [(a.clone(), 0), (missing.into_os_string(), 3), (a.clone(), 0)] {
         let ended = run(&words!["compare", &a, &other, "--json", "--output", &link]);
         assert_eq!(ended.status, status, "{}", ended.err);
         let told = Json::read(&fs::read_to_string(&report).unwrap());
         assert_eq!(told.at("passed"), &Json::Truth(status == 0));
-        assert_eq!(names(), before);
+        assert_eq!(names(&room), before);
     }
     assert_eq!(fs::metadata(&report).unwrap().permissions().mode() & 0o777, 0o640);
     assert!(fs::symlink_metadata(&link).unwrap().file_type().is_symlink());
+}
+
+#[test]
+fn a_report_that_grows_too_large_is_not_passed_and_leaves_nothing_beside() {
+    let room = Room::new("large");
+    let a = room.file("a.y4m", &Video::new(32, 32, 8, "420", 60, 62).y4m());
+    let report = room.file("report", OLD.as_bytes());
+    let before = names(&room);
+    // files of this run may have 8 KiB, which the first version has not
+    let script = "trap '' XFSZ; ulimit -f 8; exec \"$0\" compare \"$1\" \"$1\" --json --output \"$2\"";
+    run_in(script, &[&a, &report]).says(3, &["report: cannot write: "]);
+    says_not_passed("--json", &fs::read_to_string(&report).unwrap());
+    assert_eq!(names(&room), before);
 }
 
 /// A name of the system that leads to a file: nothing can be put beside it, so that the file itself is written over.
@@ -141,6 +156,14 @@ fn a_report_is_written_over_where_nothing_can_take_its_place() {
     run_in(script, &[&a, &report]).passes();
     let direct = run(&words!["compare", &a, &a, "--json", "--max-error=0"]);
     assert_eq!(fs::read_to_string(&report).unwrap(), direct.passes());
+    // a report that is shorter than what stood there until then
+    room.file("x", b"");
+    let script = "cd \"$1\"; exec 5<>report; exec \"$0\" compare x x --csv --output /dev/fd/5";
+    run_in(script, &[room.path("")]).says(3, &["x: byte 0: the file is empty"]);
+    says_not_passed("--csv", &fs::read_to_string(&report).unwrap());
+    let script = "cd \"$1\"; exec 5<>report; exec \"$0\" compare x x --json --output /dev/fd/5";
+    run_in(script, &[room.path("")]).says(3, &["x: byte 0: the file is empty"]);
+    says_not_passed("--json", &fs::read_to_string(&report).unwrap());
     fs::write(&report, OLD).unwrap();
     let ended = killed(&room, "--csv", &room.path("report"), "/dev/fd/5 5<>\"$4\"");
     // what was reported of the first frame may stand there already, but nothing that says that it passed
