@@ -2,6 +2,7 @@
 
 use crate::clip::{Clip, Picture};
 use crate::format::{decimal, Chroma, Format, CHROMAS};
+use crate::jobs;
 use crate::score::Metrics;
 use crate::stop::Stop;
 use crate::thresholds::{Threshold, KINDS};
@@ -17,6 +18,7 @@ fuavelino: compares a decoded video with its original, and passes only what is s
                          both files are raw, of this format; words (depths 9 to 12) have their low byte first
       --metrics LIST     of error,ssim,scales,hvs (default: all)
       --json, --csv      all digits, for programs; without them a table for people
+      --jobs N           on so many threads (default: as many as there are cores); the report is the same
       --output FILE      where the report goes; without it, or with -, to standard output
     Thresholds, each held for every plane of every frame and for every frame's combination:
       --max-error X      squared error per sample, at most X
@@ -48,6 +50,7 @@ pub struct Compare {
     /// The told format of raw files.
     pub raw: Option<Format>,
     pub metrics: Metrics,
+    pub jobs: usize,
     pub thresholds: Vec<Threshold>,
     pub form: Form,
     pub output: Option<PathBuf>,
@@ -88,7 +91,7 @@ fn stands_alone(word: &OsStr) -> Stop {
 /// An option's name, and whether a value follows it.
 type Known = (&'static str, bool);
 
-const COMPARE: [Known; 15] = [
+const COMPARE: [Known; 16] = [
     ("--help", false),
     ("--json", false),
     ("--csv", false),
@@ -96,6 +99,7 @@ const COMPARE: [Known; 15] = [
     ("--depth", true),
     ("--chroma", true),
     ("--metrics", true),
+    ("--jobs", true),
     ("--output", true),
     ("--max-error", true),
     ("--min-psnr", true),
@@ -190,6 +194,11 @@ impl Words {
         })
     }
 
+    fn jobs(&self) -> Result<usize, Stop> {
+        let count = |text: &str| decimal(text.as_bytes()).filter(|count| (1..=jobs::MOST).contains(count));
+        Ok(self.value("--jobs", "a number from 1 to 1024", count)?.unwrap_or_else(jobs::cores))
+    }
+
     fn chroma(&self) -> Result<Option<Chroma>, Stop> {
         self.value("--chroma", "420, 422, 444 or 400", |text| {
             CHROMAS.iter().find(|known| known.1 == text).map(|known| known.0)
@@ -216,8 +225,18 @@ fn compare(words: Words) -> Result<Asked, Stop> {
     };
     let metrics = words.value("--metrics", "a list of error,ssim,scales,hvs", metrics)?.unwrap_or(Metrics::ALL);
     let thresholds = thresholds(&words, &metrics)?;
+    let jobs = words.jobs()?;
     let output = words.get("--output").filter(|path| *path != "-").map(PathBuf::from);
-    Ok(Asked::Compare(Box::new(Compare { original, decoded, raw: raw(&words)?, metrics, thresholds, form, output })))
+    Ok(Asked::Compare(Box::new(Compare {
+        original,
+        decoded,
+        raw: raw(&words)?,
+        metrics,
+        jobs,
+        thresholds,
+        form,
+        output,
+    })))
 }
 
 /// All three make both files raw; one without the others is no format.

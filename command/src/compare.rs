@@ -3,13 +3,14 @@
 use crate::args::{Compare, Form};
 use crate::csv::Csv;
 use crate::format::Format;
-use crate::frames::{Frame, Source};
+use crate::frames::Source;
 use crate::input::{named, shown, Stored};
+use crate::jobs;
 use crate::json::Json;
 use crate::output::Output;
 use crate::progress::{is_terminal, say, Progress, STANDARD_OUTPUT};
 use crate::report::{End, Job, Report, Worst};
-use crate::score::{FrameScores, Scorer};
+use crate::score::FrameScores;
 use crate::stop::{Fault, Stop, BROKEN, FAULT, PASSED};
 use crate::table::Table;
 use crate::thresholds;
@@ -131,9 +132,8 @@ impl Walk<'_> {
         let format = opened.as_ref().ok().map(|sources| sources[0].format);
         let (report, asked) = (&mut *self.report, self.asked);
         self.out.write(|to| begin(report, to, asked, format))?;
-        let mut sources = opened?;
-        let walked =
-            if sources[0].format.wide() { self.walk::<u16>(&mut sources) } else { self.walk::<u8>(&mut sources) };
+        let sources = opened?;
+        let walked = if sources[0].format.wide() { self.walk::<u16>(sources) } else { self.walk::<u8>(sources) };
         self.progress.clear();
         walked
     }
@@ -161,20 +161,18 @@ impl Walk<'_> {
         Ok(status)
     }
 
-    fn walk<T: Stored>(&mut self, sources: &mut [Source; 2]) -> Result<FrameScores, Stop> {
+    fn walk<T: Stored>(&mut self, sources: [Source; 2]) -> Result<FrameScores, Stop> {
         let format = sources[0].format;
-        let [a, b] = sources;
-        let mut scorer = Scorer::new(&format, self.asked.metrics);
+        let none = format!("{} and {} have no frames", sources[0].name(), sources[1].name());
         let mut run = Run::new(format.shapes().len(), format.chroma.get_chroma_weight());
-        let mut frames = [Frame::<T>::new(&format), Frame::<T>::new(&format)];
-        while another(a, b, &mut frames)? {
+        jobs::each::<T>(sources, self.asked.metrics, self.asked.jobs, |scored| {
             let place = format!("frame {}", self.frames);
-            let scores = scorer.frame(&frames[0], &frames[1]).map_err(|refused| refused.at(&place))?;
+            let scores = scored.map_err(|refused| refused.at(&place))?;
             run.add(&scores).map_err(|refused| refused.at("the run"))?;
-            self.tell(&scores)?;
-        }
+            self.tell(&scores)
+        })?;
         if self.frames == 0 {
-            return Err(Fault::new(format!("{} and {} have no frames", a.name(), b.name())).into());
+            return Err(Fault::new(none).into());
         }
         Ok(run.end().map_err(|refused| refused.at("the run"))?)
     }
@@ -193,20 +191,5 @@ impl Walk<'_> {
         self.frames += 1;
         self.progress.at(self.frames);
         Ok(())
-    }
-}
-
-/// Reads the next frame of both. Both must end together.
-fn another<T: Stored>(a: &mut Source, b: &mut Source, frames: &mut [Frame<T>; 2]) -> Result<bool, Fault> {
-    let number = a.read;
-    let (first, second) = (a.next(&mut frames[0])?, b.next(&mut frames[1])?);
-    let unlike = |short: &Source, long: &Source| {
-        Fault::new(format!("{} ends after {} frames, {} has more", short.name(), number, long.name()))
-    };
-    match (first, second) {
-        (true, true) => Ok(true),
-        (false, false) => Ok(false),
-        (false, true) => Err(unlike(a, b)),
-        (true, false) => Err(unlike(b, a)),
     }
 }

@@ -71,3 +71,19 @@ impl Source {
         }
     }
 }
+
+/// Reads the next frame of both. Both must end together.
+pub fn both<T: Stored>(sources: &mut [Source; 2], frames: &mut [Frame<T>; 2]) -> Result<bool, Fault> {
+    let [a, b] = sources;
+    let number = a.read;
+    let (first, second) = (a.next(&mut frames[0])?, b.next(&mut frames[1])?);
+    let unlike = |short: &Source, long: &Source| {
+        Fault::new(format!("{} ends after {} frames, {} has more", short.name(), number, long.name()))
+    };
+    match (first, second) {
+        (true, true) => Ok(true),
+        (false, false) => Ok(false),
+        (false, true) => Err(unlike(a, b)),
+        (true, false) => Err(unlike(b, a)),
+    }
+}

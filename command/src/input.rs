@@ -14,7 +14,7 @@ pub struct Input {
     pub name: String,
     /// How many bytes have been read.
     pub at: u64,
-    from: BufReader<Box<dyn Read>>,
+    from: BufReader<Box<dyn Read + Send>>,
     part: Vec<u8>,
 }
 
@@ -27,7 +27,7 @@ pub enum Line {
 }
 
 /// A sample as files hold it.
-pub trait Stored: fuavelino::Sample {
+pub trait Stored: fuavelino::Sample + Send + 'static {
     const BYTES: usize;
     /// Appends the samples of whole bytes; words have their low byte first.
     fn take(bytes: &[u8], out: &mut Vec<Self>);
@@ -76,7 +76,7 @@ impl Input {
         }
     }
 
-    fn of(name: String, from: Box<dyn Read>) -> Input {
+    fn of(name: String, from: Box<dyn Read + Send>) -> Input {
         Input { name, at: 0, from: BufReader::with_capacity(PART, from), part: vec![0; PART] }
     }
 

@@ -9,6 +9,7 @@ mod descriptor;
 mod format;
 mod frames;
 mod input;
+mod jobs;
 mod json;
 mod output;
 mod part;

@@ -4,6 +4,7 @@ mod closed;
 mod documented;
 mod files;
 mod hostile;
+mod jobs;
 mod json;
 mod limits;
 mod published;

@@ -42,22 +42,29 @@ pub fn run<S: AsRef<OsStr>>(words: &[S]) -> Ended {
 pub fn run_fed<S: AsRef<OsStr>>(words: &[S], fed: &[u8]) -> Ended {
     let mut command = Command::new(env!("CARGO_BIN_EXE_fuavelino"));
     command.args(words);
-    ended(command, fed)
+    ended(command, fed, false)
+}
+
+/// The same, with standard input left open: after the bytes nothing comes, and no end either.
+pub fn run_stalled<S: AsRef<OsStr>>(words: &[S], fed: &[u8]) -> Ended {
+    let mut command = Command::new(env!("CARGO_BIN_EXE_fuavelino"));
+    command.args(words);
+    ended(command, fed, true)
 }
 
 /// Runs it under a shell's script, in which `"$0"` is the command and `"$1"` on are the words.
 pub fn run_in<S: AsRef<OsStr>>(script: &str, words: &[S]) -> Ended {
     let mut command = Command::new("bash");
     command.arg("-c").arg(script).arg(env!("CARGO_BIN_EXE_fuavelino")).args(words);
-    ended(command, &[])
+    ended(command, &[], false)
 }
 
-fn ended(mut command: Command, fed: &[u8]) -> Ended {
+fn ended(mut command: Command, fed: &[u8], stalled: bool) -> Ended {
     command.stdin(Stdio::piped()).stdout(Stdio::piped()).stderr(Stdio::piped());
     let mut child = command.spawn().expect("the command starts");
     let (mut input, fed) = (child.stdin.take().unwrap(), fed.to_vec());
     // the command may end before it has read everything
-    let feeding = thread::spawn(move || drop(input.write_all(&fed)));
+    let feeding = thread::spawn(move || input.write_all(&fed).ok().filter(|()| stalled).map(|()| input));
     let out = gather(child.stdout.take().unwrap());
     let err = gather(child.stderr.take().unwrap());
     let began = Instant::now();
@@ -71,7 +78,7 @@ fn ended(mut command: Command, fed: &[u8]) -> Ended {
             None => thread::sleep(Duration::from_millis(1)),
         }
     };
-    feeding.join().unwrap();
+    drop(feeding.join().unwrap());
     Ended { status: status.code().unwrap_or(-1), out: out.join().unwrap(), err: err.join().unwrap() }
 }
 

@@ -1,0 +1,221 @@
+//! Frames scored on several threads, and handed on in their order: what is told is what one job tells.
+//!
+//! One thread reads, as many as asked score, and the caller's gathers. A pair of frames is lent to the reader, goes through a
+//! scorer to the gatherer, and back only once its scores are told: so many pairs as there are bound all that waits.
+
+use crate::format::Format;
+use crate::frames::{both, Frame, Source};
+use crate::input::Stored;
+use crate::score::{FrameScores, Metrics, Refused, Scorer};
+use crate::stop::{Fault, Stop};
+use std::collections::BTreeMap;
+use std::io;
+use std::num::NonZeroUsize;
+use std::panic::{catch_unwind, resume_unwind, AssertUnwindSafe};
+use std::sync::mpsc::{channel, Receiver, Sender};
+use std::sync::{Arc, Mutex};
+use std::thread;
+
+/// The most that can be asked for.
+pub const MOST: usize = 1_024;
+
+/// The pairs of frames that each job may hold: one that it scores, one that waits.
+const PAIRS: usize = 2;
+
+/// As many jobs as there are cores.
+pub fn cores() -> usize {
+    thread::available_parallelism().map_or(1, NonZeroUsize::get).min(MOST)
+}
+
+type Pair<T> = [Frame<T>; 2];
+type Scored = Result<FrameScores, Refused>;
+
+/// What stands in a frame's place.
+enum Outcome<T> {
+    /// Its scores or its refusal, or a panic on the way to them.
+    Scored(thread::Result<Scored>, Pair<T>),
+    /// There is no such frame: both files ended, or something is wrong.
+    Ended(Result<(), Fault>),
+}
+
+/// A frame's number with something of it.
+type Numbered<V> = (u64, V);
+
+/// Reads and scores every frame, and tells each outcome in order, until the files end or something is wrong.
+pub fn each<T: Stored>(
+    sources: [Source; 2],
+    metrics: Metrics,
+    jobs: usize,
+    tell: impl FnMut(Scored) -> Result<(), Stop>,
+) -> Result<(), Stop> {
+    if jobs == 1 {
+        alone::<T>(sources, metrics, tell)
+    } else {
+        spread::<T>(sources, metrics, jobs, tell)
+    }
+}
+
+/// With no thread but the caller's.
+fn alone<T: Stored>(
+    mut sources: [Source; 2],
+    metrics: Metrics,
+    mut tell: impl FnMut(Scored) -> Result<(), Stop>,
+) -> Result<(), Stop> {
+    let format = sources[0].format;
+    let (mut pair, mut scorer) = (pair::<T>(&format), Scorer::new(&format, metrics));
+    while both(&mut sources, &mut pair)? {
+        tell(scorer.frame(&pair[0], &pair[1]))?;
+    }
+    Ok(())
+}
+
+fn spread<T: Stored>(
+    sources: [Source; 2],
+    metrics: Metrics,
+    jobs: usize,
+    tell: impl FnMut(Scored) -> Result<(), Stop>,
+) -> Result<(), Stop> {
+    let format = sources[0].format;
+    let (lend, lent) = channel();
+    let (ask, asked) = channel();
+    let (hand, outcomes) = channel();
+    let asked = Arc::new(Mutex::new(asked));
+    for number in 0..jobs {
+        let (asked, hand, scorer) = (asked.clone(), hand.clone(), Scorer::new(&format, metrics));
+        match started(move || score(&asked, &hand, scorer)) {
+            // fewer threads give the same report
+            Err(error) if number == 0 => return Err(no_thread(&error)),
+            Err(_) => break,
+            Ok(()) => (0..PAIRS).for_each(|_| drop(lend.send(pair::<T>(&format)))),
+        }
+    }
+    started(move || read(sources, &lent, &ask, &hand)).map_err(|error| no_thread(&error))?;
+    drop(asked);
+    gather(&outcomes, &lend, tell)
+}
+
+fn pair<T>(format: &Format) -> Pair<T> {
+    [Frame::new(format), Frame::new(format)]
+}
+
+/// Threads are not waited for: each ends when what it waits for is gone, and a reader may wait for a pipe without end.
+fn started(work: impl FnOnce() + Send + 'static) -> io::Result<()> {
+    thread::Builder::new().spawn(work).map(drop)
+}
+
+fn no_thread(error: &io::Error) -> Stop {
+    Fault::new(format!("cannot start a thread: {} (--jobs 1 needs none)", error)).into()
+}
+
+/// The reader: fills each pair that it is lent, and ends with what ended the files.
+fn read<T: Stored>(
+    mut sources: [Source; 2],
+    lent: &Receiver<Pair<T>>,
+    ask: &Sender<Numbered<Pair<T>>>,
+    hand: &Sender<Numbered<Outcome<T>>>,
+) {
+    for (number, mut pair) in (0..).zip(lent.iter()) {
+        let ended = match both(&mut sources, &mut pair) {
+            Ok(true) if ask.send((number, pair)).is_ok() => continue,
+            Ok(_) => Ok(()),
+            Err(fault) => Err(fault),
+        };
+        let _ = hand.send((number, Outcome::Ended(ended)));
+        break;
+    }
+}
+
+/// A job: scores what is asked, until nothing more is or nobody wants it.
+fn score<T: Stored>(
+    asked: &Mutex<Receiver<Numbered<Pair<T>>>>,
+    hand: &Sender<Numbered<Outcome<T>>>,
+    mut scorer: Scorer,
+) {
+    let next = || asked.lock().ok().and_then(|asked| asked.recv().ok());
+    while let Some((number, pair)) = next() {
+        // a panic goes on where the frame is told, so that the command ends as with one job
+        let scored = catch_unwind(AssertUnwindSafe(|| scorer.frame(&pair[0], &pair[1])));
+        if hand.send((number, Outcome::Scored(scored, pair))).is_err() {
+            break;
+        }
+    }
+}
+
+/// Tells the outcomes in their frames' order; those that come early wait.
+fn gather<T>(
+    outcomes: &Receiver<Numbered<Outcome<T>>>,
+    lend: &Sender<Pair<T>>,
+    mut tell: impl FnMut(Scored) -> Result<(), Stop>,
+) -> Result<(), Stop> {
+    let mut early = BTreeMap::new();
+    let mut number = 0;
+    loop {
+        match early.remove(&number) {
+            Some(Outcome::Ended(ended)) => return Ok(ended?),
+            Some(Outcome::Scored(scored, pair)) => {
+                tell(scored.unwrap_or_else(|panic| resume_unwind(panic)))?;
+                number += 1;
+                // a reader that is gone wants no more
+                let _ = lend.send(pair);
+            }
+            None => {
+                let lost = |_| Fault::new(format!("frame {}: the threads ended before it was scored", number));
+                let (at, outcome) = outcomes.recv().map_err(lost)?;
+                early.insert(at, outcome);
+            }
+        }
+    }
+}
+
+#[cfg(test)]
+mod tests {
+    use super::*;
+
+    fn none() -> Pair<u8> {
+        [Frame { planes: vec![] }, Frame { planes: vec![] }]
+    }
+
+    fn scored(planes: usize) -> Outcome<u8> {
+        let planes = vec![Default::default(); planes];
+        Outcome::Scored(Ok(Ok(FrameScores { planes, combined: Default::default() })), none())
+    }
+
+    /// What is told of outcomes that come in this order, each frame known by its count of planes.
+    fn told(list: Vec<Numbered<Outcome<u8>>>) -> (Vec<usize>, Result<(), Stop>) {
+        let ((hand, outcomes), (lend, _lent)) = (channel(), channel());
+        list.into_iter().for_each(|one| hand.send(one).unwrap());
+        drop(hand);
+        let mut told = Vec::new();
+        let ended = gather(&outcomes, &lend, |scored| {
+            told.push(scored.unwrap().planes.len());
+            Ok(())
+        });
+        (told, ended)
+    }
+
+    #[test]
+    fn outcomes_are_told_in_their_frames_order() {
+        let ended = Outcome::Ended(Ok(()));
+        let (told, ended) = told(vec![(3, ended), (2, scored(2)), (0, scored(0)), (1, scored(1))]);
+        assert!(told == [0, 1, 2] && ended.is_ok());
+    }
+
+    #[test]
+    fn a_fault_waits_for_the_frames_before_it() {
+        let fault = Outcome::Ended(Err(Fault::new("cut".to_string())));
+        let (told, ended) = told(vec![(1, fault), (0, scored(0))]);
+        assert!(told == [0] && ended.unwrap_err().message() == "cut");
+    }
+
+    #[test]
+    fn threads_that_are_gone_are_a_fault() {
+        let (told, ended) = told(vec![(0, scored(0)), (2, scored(2))]);
+        assert!(told == [0] && ended.unwrap_err().message().starts_with("frame 1: the threads ended"));
+    }
+
+    #[test]
+    #[should_panic(expected = "of a job")]
+    fn a_panic_of_a_job_is_the_callers() {
+        let _ = told(vec![(0, Outcome::Scored(Err(Box::new("of a job")), none()))]);
+    }
+}
