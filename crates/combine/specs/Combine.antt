@@ -1,4 +1,4 @@
--- Document 01, "HVS, SSIM and scales": "Combining, weight c: SSIM gives y + c × (u + v) and 1 + 2c. HVS gives (1 + 2c) × (y + c × (u + v))",
+-- SCOPE, "HVS, SSIM and scales": "Combining, weight c: SSIM gives y + c × (u + v) and 1 + 2c. HVS gives (1 + 2c) × (y + c × (u + v))",
 -- each operation rounded once; and the two refusals of "When the desk says no" that belong to it. Definitions only.
 use mathlib.Core.Bool.{Bool, _&&_}
 use mathlib.Core.List.{[], _∷_}

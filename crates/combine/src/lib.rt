@@ -1,5 +1,5 @@
 // The scores of three planes in one figure, the two chroma planes weighted by c; after `calculate_frame_ssim` and
-// `calculate_frame_psnr_hvs`. Document 01, "HVS, SSIM and scales", Combining.
+// `calculate_frame_psnr_hvs`. SCOPE, "HVS, SSIM and scales", Combining.
 ghost use mathlib.Core.Path.{_≡_};
 ghost use Rattle.combine.specs.Combine.{sumOf, weightOf, scoreOf, combinable, ssimOf, hvsOf};
 

@@ -1,4 +1,4 @@
--- What it means that a call takes what it is given, and what the calls give one after the other: document 01's demand of the transform.
+-- What it means that a call takes what it is given, and what the calls give one after the other: SCOPE's demand of the transform.
 -- Assumes nothing.
 use mathlib.Core.Path.{_≡_, _∙_}
 use mathlib.Core.Bool.{true, false, _&&_}

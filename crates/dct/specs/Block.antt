@@ -1,4 +1,4 @@
--- Document 01, "The transform": one pass over eight numbers, and two passes over a block of 64, row by row. Definitions only.
+-- SCOPE, "The transform": one pass over eight numbers, and two passes over a block of 64, row by row. Definitions only.
 use mathlib.Core.List.{List, [], _∷_, _++_}
 use Prim.Native.Nat.{ℕ, zero, suc, _+_, _*_}
 use lib.IntN.{ℤ, pos}

@@ -1,4 +1,4 @@
--- Document 01, "When the desk says no", number 12: "transform: not 64 places in or out, or a value out of range". Definitions only.
+-- SCOPE, "When the desk says no", number 12: "transform: not 64 places in or out, or a value out of range". Definitions only.
 use mathlib.Core.Bool.{Bool, true, _&&_, cond}
 use mathlib.Core.List.{List, [], _∷_}
 use Prim.Native.Nat.{ℕ}

@@ -1,4 +1,4 @@
--- Document 01, "The transform", its last lines: what the two calls take. Definitions only.
+-- SCOPE, "The transform", its last lines: what the two calls take. Definitions only.
 use Prim.Native.Nat.{ℕ}
 
 -- places of a block, row by row

@@ -1,4 +1,4 @@
-// The transform of a block of 8 by 8 numbers, and its inverse: document 01, "The transform".
+// The transform of a block of 8 by 8 numbers, and its inverse: SCOPE, "The transform".
 mod block;
 
 use crate::block::back;

@@ -10,8 +10,8 @@ use lib.Dec.{lit<}
 use lib.ListN.{length, set}
 use lib.Seq.{getD-set-same, getD-set-other}
 use Rattle.plane.specs.Limits.{sideLimit}
-use Rattle.plane.specs.Plane.{at, planeOf}
-use Rattle.window.specs.Columns.{viewOf, mostSample, Readable}
+use Rattle.plane.specs.Plane.{at, planeOf, sampleAt}
+use Rattle.window.specs.Columns.{mostSample, Readable}
 use Rattle.downscale.specs.Summed.{summedOf}
 use Rattle.downscale.specs.Rooms.{Put, Filled, Held}
 
@@ -84,7 +84,7 @@ module _ (old l : List ℕ) (width j c : ℕ) (g : ℕ → ℕ) (p : Put old l (
 
   -- so the 2×2 samples there are those of the scale above
   pub sum-same : (s : ℕ) → s ≡ at l (2 * j * width + 2 * c) + at l (2 * j * width + 2 * c + 1) + at l (2 * j * width + 2 * c + width)
-      + at l (2 * j * width + 2 * c + width + 1) → s ≡ summedOf (viewOf (planeOf old width)) j c
+      + at l (2 * j * width + 2 * c + width + 1) → s ≡ summedOf (sampleAt (planeOf old width)) j c
   sum-same s e =
       let right : 2 * j * width + 2 * c + 1 ≡ 2 * j * width + (2 * c + 1) = omega arith in
       let under : 2 * j * width + 2 * c + width ≡ (2 * j + 1) * width + 2 * c = omega arith in
@@ -105,7 +105,7 @@ module _ (old l : List ℕ) (width j c : ℕ) (g : ℕ → ℕ) (p : Put old l (
 
 -- where the places from row j on are as they were, so is what row j of the scale below is made of
 pub sum-still : (old l : List ℕ) (width j : ℕ) → ((i : ℕ) → j * (width / 2) ≤ i → at l i ≡ at old i) → (c : ℕ)
-    → summedOf (viewOf (planeOf l width)) j c ≡ summedOf (viewOf (planeOf old width)) j c
+    → summedOf (sampleAt (planeOf l width)) j c ≡ summedOf (sampleAt (planeOf old width)) j c
 sum-still old l width j h c =
     let from = half-le j width in
     rw (
@@ -132,7 +132,7 @@ held-small m h = record { long = h .long; small = λ i. le-trans (h .small i) m 
 
 -- the scale below, in place
 pub held-below : (max width height : ℕ) (old new : List ℕ) → Held max width height old
-    → Filled old new (width / 2) (summedOf (viewOf (planeOf old width))) (height / 2) → length new ≡ length old
+    → Filled old new (width / 2) (summedOf (sampleAt (planeOf old width))) (height / 2) → length new ≡ length old
     → Held (4 * max) (width / 2) (height / 2) new
 held-below max width height old new h f e =
     record { long = omega (arith, h .long, e, mul-le-mul (half height) (half width)); small = λ i. go i (decLt i (height / 2 * (width / 2))) }

@@ -3,10 +3,11 @@ ghost use mathlib.Core.Path.{_≡_};
 ghost use Prim.Native.Nat.{ℕ, _+_, _*_, _/_, _<_, _≤_};
 ghost use lib.ListN.{length, replicate};
 ghost use Rattle.plane.specs.Limits.{sideLimit};
-ghost use Rattle.plane.specs.Plane.{at, planeOf, samplesOf, needed};
-ghost use Rattle.window.specs.Columns.{viewOf, mostSample};
+ghost use Rattle.plane.specs.Plane.{at, planeOf, samplesOf, Long, lent, sampleAt};
+ghost use Rattle.window.specs.Columns.{mostSample};
 ghost use Rattle.downscale.specs.Summed.{summedOf};
 ghost use Rattle.downscale.specs.Rooms.{Put, Filled};
+use plane::Size;
 
 // One row of samples, which begins at `start`, to the places from `to` on.
 fn widen_row(
@@ -28,22 +29,15 @@ fn widen_row(
 }
 
 // A plane of either width to the places, row after row with no padding.
-pub fn widen(
-    room: &mut [u32],
-    bytes: &[u8],
-    words: &[u16],
-    wide: bool,
-    width: usize,
-    height: usize,
-    stride: usize,
-)
-    requires { ⌜ height * width ≤ length (now room) ⌝ }
-    requires { ⌜ needed width height stride ≤ length (samplesOf wide (now bytes) (now words)) ⌝ }
-    ensures { λ _. ⌜ Filled (now (room .entry)) (now (room .exit)) width
-        (viewOf (planeOf (samplesOf wide (now (bytes .entry)) (now (words .entry))) stride)) height ⌝ }
+pub fn widen(room: &mut [u32], bytes: &[u8], words: &[u16], size: Size, stride: usize)
+    requires { ⌜ size .height * size .width ≤ length (now room) ⌝ }
+    requires { ⌜ Long size (lent size bytes words stride) ⌝ }
+    ensures { λ _. ⌜ Filled (now (room .entry)) (now (room .exit)) (size .width)
+        (sampleAt (lent size (bytes .entry) (words .entry) stride)) (size .height) ⌝ }
 {
-    for y in 0..height {
-        widen_row(room, bytes, words, wide, y * stride, y * width, width);
+    let width = size.width;
+    for y in 0..size.height {
+        widen_row(room, bytes, words, size.wide, y * stride, y * width, width);
     }
 }
 
@@ -63,7 +57,7 @@ fn sum_row(room: &mut [u32], width: usize, j: usize)
     requires { ⌜ (2 * j + 2 ≤ sideLimit) × ((2 * j + 2) * width ≤ length (now room)) ⌝ }
     requires { ⌜ ((k : ℕ) → j * (width / 2) ≤ k → at (now room) k ≤ mostSample) ⌝ }
     ensures { λ _. ⌜ Put (now (room .entry)) (now (room .exit)) (j * (width / 2)) (width / 2)
-        (summedOf (viewOf (planeOf (now (room .entry)) width)) j) ⌝ }
+        (summedOf (sampleAt (planeOf (now (room .entry)) width)) j) ⌝ }
 {
     let half = width / 2;
     let to = j * half;
@@ -78,7 +72,7 @@ pub fn downscale(room: &mut [u32], width: usize, height: usize)
     requires { ⌜ (height ≤ sideLimit) × (height * width ≤ length (now room)) ⌝ }
     requires { ⌜ ((k : ℕ) → at (now room) k ≤ mostSample) ⌝ }
     ensures { λ _. ⌜ Filled (now (room .entry)) (now (room .exit)) (width / 2)
-        (summedOf (viewOf (planeOf (now (room .entry)) width))) (height / 2) ⌝ }
+        (summedOf (sampleAt (planeOf (now (room .entry)) width))) (height / 2) ⌝ }
 {
     for j in 0..height / 2 {
         sum_row(room, width, j);

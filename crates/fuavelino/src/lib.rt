@@ -2,10 +2,9 @@
 // places that the caller lends. Nothing is asked of the caller but that what it lends is there.
 ghost use mathlib.Core.Path.{_≡_};
 ghost use mathlib.Core.Bool.{true, false};
-ghost use mathlib.Core.List.{[], _∷_};
 ghost use Rattle.number.specs.Root.{rootOf};
-ghost use Rattle.plane.specs.Plane.{planeOf};
-ghost use Rattle.plane.specs.Tests.{planeRefusal};
+ghost use Rattle.plane.specs.Plane.{called};
+ghost use Rattle.plane.specs.Tests.{pairRefusal};
 ghost use Rattle.fuavelino.specs.Root.{rootNumber, rootWritten};
 
 pub mod planar;
@@ -44,8 +43,7 @@ pub extern "C" fn fuavelino_check8(
     depth: u32,
     least: usize,
 ) -> u8
-    ensures { λ r. ⌜ r ≡ planeRefusal false (planeOf (now (a .entry)) «stride_a» ∷ planeOf (now (b .entry)) «stride_b» ∷ [])
-        width height depth least ⌝ }
+    ensures { λ r. ⌜ r ≡ pairRefusal (called false (a .entry) (b .entry) width height «stride_a» «stride_b» depth) least ⌝ }
 {
     plane::check8(a, b, width, height, stride_a, stride_b, depth, least)
 }
@@ -62,8 +60,7 @@ pub extern "C" fn fuavelino_check16(
     depth: u32,
     least: usize,
 ) -> u8
-    ensures { λ r. ⌜ r ≡ planeRefusal true (planeOf (now (a .entry)) «stride_a» ∷ planeOf (now (b .entry)) «stride_b» ∷ [])
-        width height depth least ⌝ }
+    ensures { λ r. ⌜ r ≡ pairRefusal (called true (a .entry) (b .entry) width height «stride_a» «stride_b» depth) least ⌝ }
 {
     plane::check16(a, b, width, height, stride_a, stride_b, depth, least)
 }

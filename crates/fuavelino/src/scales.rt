@@ -2,7 +2,7 @@
 // is the planes themselves, then of the second, and so on.
 ghost use mathlib.Core.Path.{_≡_};
 ghost use mathlib.Core.Bool.{true, false};
-ghost use Rattle.plane.specs.Plane.{planeOf};
+ghost use Rattle.plane.specs.Plane.{called};
 ghost use Rattle.msssim.specs.Answer.{lentOf, refusalOf, msssimOf, lentAfter};
 ghost use Rattle.fuavelino.specs.Scales.{scalesNumber, scalesWritten};
 use msssim::MsSsim;
@@ -47,15 +47,13 @@ pub extern "C" fn fuavelino_msssim8(
     room_b: &mut [u32],
     pairs: &mut [f64; 10],
 ) -> u8
-    ensures { λ r. ⌜ r ≡ scalesNumber (msssimOf false (planeOf (now (a .entry)) «stride_a»)
-        (planeOf (now (b .entry)) «stride_b») width height depth
+    ensures { λ r. ⌜ r ≡ scalesNumber (msssimOf (called false (a .entry) (b .entry) width height «stride_a» «stride_b» depth)
         (lentOf (now (scratch .entry)) (now («room_a» .entry)) (now («room_b» .entry)))) ⌝ }
     ensures { λ _. ⌜ lentOf (now (scratch .exit)) (now («room_a» .exit)) (now («room_b» .exit)) ≡ lentAfter
-        (refusalOf false (planeOf (now (a .entry)) «stride_a») (planeOf (now (b .entry)) «stride_b») width height depth
+        (refusalOf (called false (a .entry) (b .entry) width height «stride_a» «stride_b» depth)
         (lentOf (now (scratch .entry)) (now («room_a» .entry)) (now («room_b» .entry))))
         width height (lentOf (now (scratch .entry)) (now («room_a» .entry)) (now («room_b» .entry))) ⌝ }
-    ensures { λ _. ⌜ now (pairs .exit) ≡ scalesWritten (msssimOf false (planeOf (now (a .entry)) «stride_a»)
-        (planeOf (now (b .entry)) «stride_b») width height depth
+    ensures { λ _. ⌜ now (pairs .exit) ≡ scalesWritten (msssimOf (called false (a .entry) (b .entry) width height «stride_a» «stride_b» depth)
         (lentOf (now (scratch .entry)) (now («room_a» .entry)) (now («room_b» .entry)))) (now (pairs .entry)) ⌝ }
 {
     let answer = msssim::msssim8(
@@ -88,15 +86,13 @@ pub extern "C" fn fuavelino_msssim16(
     room_b: &mut [u32],
     pairs: &mut [f64; 10],
 ) -> u8
-    ensures { λ r. ⌜ r ≡ scalesNumber (msssimOf true (planeOf (now (a .entry)) «stride_a»)
-        (planeOf (now (b .entry)) «stride_b») width height depth
+    ensures { λ r. ⌜ r ≡ scalesNumber (msssimOf (called true (a .entry) (b .entry) width height «stride_a» «stride_b» depth)
         (lentOf (now (scratch .entry)) (now («room_a» .entry)) (now («room_b» .entry)))) ⌝ }
     ensures { λ _. ⌜ lentOf (now (scratch .exit)) (now («room_a» .exit)) (now («room_b» .exit)) ≡ lentAfter
-        (refusalOf true (planeOf (now (a .entry)) «stride_a») (planeOf (now (b .entry)) «stride_b») width height depth
+        (refusalOf (called true (a .entry) (b .entry) width height «stride_a» «stride_b» depth)
         (lentOf (now (scratch .entry)) (now («room_a» .entry)) (now («room_b» .entry))))
         width height (lentOf (now (scratch .entry)) (now («room_a» .entry)) (now («room_b» .entry))) ⌝ }
-    ensures { λ _. ⌜ now (pairs .exit) ≡ scalesWritten (msssimOf true (planeOf (now (a .entry)) «stride_a»)
-        (planeOf (now (b .entry)) «stride_b») width height depth
+    ensures { λ _. ⌜ now (pairs .exit) ≡ scalesWritten (msssimOf (called true (a .entry) (b .entry) width height «stride_a» «stride_b» depth)
         (lentOf (now (scratch .entry)) (now («room_a» .entry)) (now («room_b» .entry)))) (now (pairs .entry)) ⌝ }
 {
     let answer = msssim::msssim16(

@@ -1,9 +1,8 @@
 // SSIM for other languages. `ssim` and `cs` are written where the answer is 0, and as they were otherwise.
 ghost use mathlib.Core.Path.{_≡_};
 ghost use mathlib.Core.Bool.{true, false};
-ghost use mathlib.Core.List.{[], _∷_};
 ghost use lib.ListN.{length};
-ghost use Rattle.plane.specs.Plane.{planeOf};
+ghost use Rattle.plane.specs.Plane.{called};
 ghost use Rattle.ssim.specs.Scratch.{placesOf, scratchAfter};
 ghost use Rattle.ssim.specs.Answer.{ssimRefusal, ssimOf};
 ghost use Rattle.fuavelino.specs.Ssim.{ssimNumber, ssimWritten, csWritten};
@@ -24,18 +23,18 @@ pub extern "C" fn fuavelino_ssim8(
     ssim: &mut f64,
     cs: &mut f64,
 ) -> u8
-    ensures { λ r. ⌜ r ≡ ssimNumber (ssimOf false (planeOf (now (a .entry)) «stride_a») (planeOf (now (b .entry)) «stride_b»)
-        width height depth (now (kernel .entry)) (length (now (scratch .entry)))) ⌝ }
+    ensures { λ r. ⌜ r ≡ ssimNumber (ssimOf (called false (a .entry) (b .entry) width height «stride_a» «stride_b» depth)
+        (now (kernel .entry)) (length (now (scratch .entry)))) ⌝ }
     ensures { λ _. ⌜ now (scratch .exit) ≡ scratchAfter
-        (ssimRefusal false (planeOf (now (a .entry)) «stride_a» ∷ planeOf (now (b .entry)) «stride_b» ∷ [])
-        width height depth (now (kernel .entry)) (length (now (scratch .entry))))
+        (ssimRefusal (called false (a .entry) (b .entry) width height «stride_a» «stride_b» depth)
+        (now (kernel .entry)) (length (now (scratch .entry))))
         (placesOf width (length (now (kernel .entry)))) (now (scratch .entry)) ⌝ }
     ensures { λ _. ⌜ now (ssim .exit) ≡ ssimWritten
-        (ssimOf false (planeOf (now (a .entry)) «stride_a») (planeOf (now (b .entry)) «stride_b»)
-        width height depth (now (kernel .entry)) (length (now (scratch .entry)))) (now (ssim .entry)) ⌝ }
+        (ssimOf (called false (a .entry) (b .entry) width height «stride_a» «stride_b» depth)
+        (now (kernel .entry)) (length (now (scratch .entry)))) (now (ssim .entry)) ⌝ }
     ensures { λ _. ⌜ now (cs .exit) ≡ csWritten
-        (ssimOf false (planeOf (now (a .entry)) «stride_a») (planeOf (now (b .entry)) «stride_b»)
-        width height depth (now (kernel .entry)) (length (now (scratch .entry)))) (now (cs .entry)) ⌝ }
+        (ssimOf (called false (a .entry) (b .entry) width height «stride_a» «stride_b» depth)
+        (now (kernel .entry)) (length (now (scratch .entry)))) (now (cs .entry)) ⌝ }
 {
     match ssim::ssim8(
         a,
@@ -72,18 +71,18 @@ pub extern "C" fn fuavelino_ssim16(
     ssim: &mut f64,
     cs: &mut f64,
 ) -> u8
-    ensures { λ r. ⌜ r ≡ ssimNumber (ssimOf true (planeOf (now (a .entry)) «stride_a») (planeOf (now (b .entry)) «stride_b»)
-        width height depth (now (kernel .entry)) (length (now (scratch .entry)))) ⌝ }
+    ensures { λ r. ⌜ r ≡ ssimNumber (ssimOf (called true (a .entry) (b .entry) width height «stride_a» «stride_b» depth)
+        (now (kernel .entry)) (length (now (scratch .entry)))) ⌝ }
     ensures { λ _. ⌜ now (scratch .exit) ≡ scratchAfter
-        (ssimRefusal true (planeOf (now (a .entry)) «stride_a» ∷ planeOf (now (b .entry)) «stride_b» ∷ [])
-        width height depth (now (kernel .entry)) (length (now (scratch .entry))))
+        (ssimRefusal (called true (a .entry) (b .entry) width height «stride_a» «stride_b» depth)
+        (now (kernel .entry)) (length (now (scratch .entry))))
         (placesOf width (length (now (kernel .entry)))) (now (scratch .entry)) ⌝ }
     ensures { λ _. ⌜ now (ssim .exit) ≡ ssimWritten
-        (ssimOf true (planeOf (now (a .entry)) «stride_a») (planeOf (now (b .entry)) «stride_b»)
-        width height depth (now (kernel .entry)) (length (now (scratch .entry)))) (now (ssim .entry)) ⌝ }
+        (ssimOf (called true (a .entry) (b .entry) width height «stride_a» «stride_b» depth)
+        (now (kernel .entry)) (length (now (scratch .entry)))) (now (ssim .entry)) ⌝ }
     ensures { λ _. ⌜ now (cs .exit) ≡ csWritten
-        (ssimOf true (planeOf (now (a .entry)) «stride_a») (planeOf (now (b .entry)) «stride_b»)
-        width height depth (now (kernel .entry)) (length (now (scratch .entry)))) (now (cs .entry)) ⌝ }
+        (ssimOf (called true (a .entry) (b .entry) width height «stride_a» «stride_b» depth)
+        (now (kernel .entry)) (length (now (scratch .entry)))) (now (cs .entry)) ⌝ }
 {
     match ssim::ssim16(
         a,

@@ -1,7 +1,7 @@
 // Squared error and series of records. An accepted answer whose error is 0 says "identical, 100".
 ghost use mathlib.Core.Path.{_≡_};
 ghost use mathlib.Core.Bool.{true, false};
-ghost use Rattle.plane.specs.Plane.{planeOf};
+ghost use Rattle.plane.specs.Plane.{called};
 ghost use Rattle.psnr.specs.Squared.{squaredErrorOf};
 ghost use Rattle.psnr.specs.Series.{seriesOf};
 ghost use Rattle.fuavelino.specs.Squared.{errorNumber, errorWritten, seriesNumber, seriesWritten};
@@ -47,11 +47,10 @@ pub extern "C" fn fuavelino_squared_error8(
     n: &mut u64,
     sample_max: &mut u32,
 ) -> u8
-    ensures { λ r. ⌜ r ≡ errorNumber (squaredErrorOf false (planeOf (now (a .entry)) «stride_a») (planeOf (now (b .entry)) «stride_b»)
-        width height depth) ⌝ }
+    ensures { λ r. ⌜ r ≡ errorNumber (squaredErrorOf (called false (a .entry) (b .entry) width height «stride_a» «stride_b» depth)) ⌝ }
     ensures { λ _. ⌜ record { «sq_err» = now («sq_err» .exit); n = now (n .exit); «sample_max» = now («sample_max» .exit) }
-        ≡ errorWritten (squaredErrorOf false (planeOf (now (a .entry)) «stride_a») (planeOf (now (b .entry)) «stride_b»)
-        width height depth) (record { «sq_err» = now («sq_err» .entry); n = now (n .entry); «sample_max» = now («sample_max» .entry) }) ⌝ }
+        ≡ errorWritten (squaredErrorOf (called false (a .entry) (b .entry) width height «stride_a» «stride_b» depth))
+        (record { «sq_err» = now («sq_err» .entry); n = now (n .entry); «sample_max» = now («sample_max» .entry) }) ⌝ }
 {
     let answer = psnr::squared_error8(a, b, width, height, stride_a, stride_b, depth);
     put_record(answer, sq_err, n, sample_max)
@@ -71,11 +70,10 @@ pub extern "C" fn fuavelino_squared_error16(
     n: &mut u64,
     sample_max: &mut u32,
 ) -> u8
-    ensures { λ r. ⌜ r ≡ errorNumber (squaredErrorOf true (planeOf (now (a .entry)) «stride_a») (planeOf (now (b .entry)) «stride_b»)
-        width height depth) ⌝ }
+    ensures { λ r. ⌜ r ≡ errorNumber (squaredErrorOf (called true (a .entry) (b .entry) width height «stride_a» «stride_b» depth)) ⌝ }
     ensures { λ _. ⌜ record { «sq_err» = now («sq_err» .exit); n = now (n .exit); «sample_max» = now («sample_max» .exit) }
-        ≡ errorWritten (squaredErrorOf true (planeOf (now (a .entry)) «stride_a») (planeOf (now (b .entry)) «stride_b»)
-        width height depth) (record { «sq_err» = now («sq_err» .entry); n = now (n .entry); «sample_max» = now («sample_max» .entry) }) ⌝ }
+        ≡ errorWritten (squaredErrorOf (called true (a .entry) (b .entry) width height «stride_a» «stride_b» depth))
+        (record { «sq_err» = now («sq_err» .entry); n = now (n .entry); «sample_max» = now («sample_max» .entry) }) ⌝ }
 {
     let answer = psnr::squared_error16(a, b, width, height, stride_a, stride_b, depth);
     put_record(answer, sq_err, n, sample_max)

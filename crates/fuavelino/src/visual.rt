@@ -2,8 +2,8 @@
 // written where the answer is 0, and as it was otherwise.
 ghost use mathlib.Core.Path.{_≡_};
 ghost use mathlib.Core.Bool.{true, false};
-ghost use Rattle.plane.specs.Plane.{planeOf};
-ghost use Rattle.masking.specs.declared.Kind.the-variants.{Luma, Cb, Cr};
+ghost use Rattle.plane.specs.Plane.{called};
+ghost use Rattle.hvs_block.specs.declared.Kind.the-variants.{Luma, Cb, Cr};
 ghost use Rattle.psnr_hvs.specs.Score.{hvsOf};
 ghost use Rattle.fuavelino.specs.Visual.{hvsNumber, hvsWritten};
 use psnr_hvs::Hvs;
@@ -21,10 +21,9 @@ fn told8(
     kind: Kind,
     score: &mut f64,
 ) -> u8
-    ensures { λ r. ⌜ r ≡ hvsNumber (hvsOf false kind
-        (planeOf (now (a .entry)) «stride_a») (planeOf (now (b .entry)) «stride_b») width height depth) ⌝ }
-    ensures { λ _. ⌜ now (score .exit) ≡ hvsWritten (hvsOf false kind
-        (planeOf (now (a .entry)) «stride_a») (planeOf (now (b .entry)) «stride_b») width height depth) (now (score .entry)) ⌝ }
+    ensures { λ r. ⌜ r ≡ hvsNumber (hvsOf kind (called false (a .entry) (b .entry) width height «stride_a» «stride_b» depth)) ⌝ }
+    ensures { λ _. ⌜ now (score .exit) ≡ hvsWritten (hvsOf kind
+        (called false (a .entry) (b .entry) width height «stride_a» «stride_b» depth)) (now (score .entry)) ⌝ }
 {
     match psnr_hvs::psnr_hvs8(a, b, width, height, stride_a, stride_b, depth, kind) {
         Hvs::Score(s) => {
@@ -47,10 +46,9 @@ fn told16(
     kind: Kind,
     score: &mut f64,
 ) -> u8
-    ensures { λ r. ⌜ r ≡ hvsNumber (hvsOf true kind
-        (planeOf (now (a .entry)) «stride_a») (planeOf (now (b .entry)) «stride_b») width height depth) ⌝ }
-    ensures { λ _. ⌜ now (score .exit) ≡ hvsWritten (hvsOf true kind
-        (planeOf (now (a .entry)) «stride_a») (planeOf (now (b .entry)) «stride_b») width height depth) (now (score .entry)) ⌝ }
+    ensures { λ r. ⌜ r ≡ hvsNumber (hvsOf kind (called true (a .entry) (b .entry) width height «stride_a» «stride_b» depth)) ⌝ }
+    ensures { λ _. ⌜ now (score .exit) ≡ hvsWritten (hvsOf kind
+        (called true (a .entry) (b .entry) width height «stride_a» «stride_b» depth)) (now (score .entry)) ⌝ }
 {
     match psnr_hvs::psnr_hvs16(a, b, width, height, stride_a, stride_b, depth, kind) {
         Hvs::Score(s) => {
@@ -73,10 +71,9 @@ pub extern "C" fn fuavelino_psnr_hvs_y_8(
     depth: u32,
     score: &mut f64,
 ) -> u8
-    ensures { λ r. ⌜ r ≡ hvsNumber (hvsOf false Luma
-        (planeOf (now (a .entry)) «stride_a») (planeOf (now (b .entry)) «stride_b») width height depth) ⌝ }
-    ensures { λ _. ⌜ now (score .exit) ≡ hvsWritten (hvsOf false Luma
-        (planeOf (now (a .entry)) «stride_a») (planeOf (now (b .entry)) «stride_b») width height depth) (now (score .entry)) ⌝ }
+    ensures { λ r. ⌜ r ≡ hvsNumber (hvsOf Luma (called false (a .entry) (b .entry) width height «stride_a» «stride_b» depth)) ⌝ }
+    ensures { λ _. ⌜ now (score .exit) ≡ hvsWritten (hvsOf Luma
+        (called false (a .entry) (b .entry) width height «stride_a» «stride_b» depth)) (now (score .entry)) ⌝ }
 {
     told8(
         a,
@@ -103,10 +100,9 @@ pub extern "C" fn fuavelino_psnr_hvs_u_8(
     depth: u32,
     score: &mut f64,
 ) -> u8
-    ensures { λ r. ⌜ r ≡ hvsNumber (hvsOf false Cb
-        (planeOf (now (a .entry)) «stride_a») (planeOf (now (b .entry)) «stride_b») width height depth) ⌝ }
-    ensures { λ _. ⌜ now (score .exit) ≡ hvsWritten (hvsOf false Cb
-        (planeOf (now (a .entry)) «stride_a») (planeOf (now (b .entry)) «stride_b») width height depth) (now (score .entry)) ⌝ }
+    ensures { λ r. ⌜ r ≡ hvsNumber (hvsOf Cb (called false (a .entry) (b .entry) width height «stride_a» «stride_b» depth)) ⌝ }
+    ensures { λ _. ⌜ now (score .exit) ≡ hvsWritten (hvsOf Cb
+        (called false (a .entry) (b .entry) width height «stride_a» «stride_b» depth)) (now (score .entry)) ⌝ }
 {
     told8(
         a,
@@ -133,10 +129,9 @@ pub extern "C" fn fuavelino_psnr_hvs_v_8(
     depth: u32,
     score: &mut f64,
 ) -> u8
-    ensures { λ r. ⌜ r ≡ hvsNumber (hvsOf false Cr
-        (planeOf (now (a .entry)) «stride_a») (planeOf (now (b .entry)) «stride_b») width height depth) ⌝ }
-    ensures { λ _. ⌜ now (score .exit) ≡ hvsWritten (hvsOf false Cr
-        (planeOf (now (a .entry)) «stride_a») (planeOf (now (b .entry)) «stride_b») width height depth) (now (score .entry)) ⌝ }
+    ensures { λ r. ⌜ r ≡ hvsNumber (hvsOf Cr (called false (a .entry) (b .entry) width height «stride_a» «stride_b» depth)) ⌝ }
+    ensures { λ _. ⌜ now (score .exit) ≡ hvsWritten (hvsOf Cr
+        (called false (a .entry) (b .entry) width height «stride_a» «stride_b» depth)) (now (score .entry)) ⌝ }
 {
     told8(
         a,
@@ -163,10 +158,9 @@ pub extern "C" fn fuavelino_psnr_hvs_y_16(
     depth: u32,
     score: &mut f64,
 ) -> u8
-    ensures { λ r. ⌜ r ≡ hvsNumber (hvsOf true Luma
-        (planeOf (now (a .entry)) «stride_a») (planeOf (now (b .entry)) «stride_b») width height depth) ⌝ }
-    ensures { λ _. ⌜ now (score .exit) ≡ hvsWritten (hvsOf true Luma
-        (planeOf (now (a .entry)) «stride_a») (planeOf (now (b .entry)) «stride_b») width height depth) (now (score .entry)) ⌝ }
+    ensures { λ r. ⌜ r ≡ hvsNumber (hvsOf Luma (called true (a .entry) (b .entry) width height «stride_a» «stride_b» depth)) ⌝ }
+    ensures { λ _. ⌜ now (score .exit) ≡ hvsWritten (hvsOf Luma
+        (called true (a .entry) (b .entry) width height «stride_a» «stride_b» depth)) (now (score .entry)) ⌝ }
 {
     told16(
         a,
@@ -193,10 +187,9 @@ pub extern "C" fn fuavelino_psnr_hvs_u_16(
     depth: u32,
     score: &mut f64,
 ) -> u8
-    ensures { λ r. ⌜ r ≡ hvsNumber (hvsOf true Cb
-        (planeOf (now (a .entry)) «stride_a») (planeOf (now (b .entry)) «stride_b») width height depth) ⌝ }
-    ensures { λ _. ⌜ now (score .exit) ≡ hvsWritten (hvsOf true Cb
-        (planeOf (now (a .entry)) «stride_a») (planeOf (now (b .entry)) «stride_b») width height depth) (now (score .entry)) ⌝ }
+    ensures { λ r. ⌜ r ≡ hvsNumber (hvsOf Cb (called true (a .entry) (b .entry) width height «stride_a» «stride_b» depth)) ⌝ }
+    ensures { λ _. ⌜ now (score .exit) ≡ hvsWritten (hvsOf Cb
+        (called true (a .entry) (b .entry) width height «stride_a» «stride_b» depth)) (now (score .entry)) ⌝ }
 {
     told16(
         a,
@@ -223,10 +216,9 @@ pub extern "C" fn fuavelino_psnr_hvs_v_16(
     depth: u32,
     score: &mut f64,
 ) -> u8
-    ensures { λ r. ⌜ r ≡ hvsNumber (hvsOf true Cr
-        (planeOf (now (a .entry)) «stride_a») (planeOf (now (b .entry)) «stride_b») width height depth) ⌝ }
-    ensures { λ _. ⌜ now (score .exit) ≡ hvsWritten (hvsOf true Cr
-        (planeOf (now (a .entry)) «stride_a») (planeOf (now (b .entry)) «stride_b») width height depth) (now (score .entry)) ⌝ }
+    ensures { λ r. ⌜ r ≡ hvsNumber (hvsOf Cr (called true (a .entry) (b .entry) width height «stride_a» «stride_b» depth)) ⌝ }
+    ensures { λ _. ⌜ now (score .exit) ≡ hvsWritten (hvsOf Cr
+        (called true (a .entry) (b .entry) width height «stride_a» «stride_b» depth)) (now (score .entry)) ⌝ }
 {
     told16(
         a,

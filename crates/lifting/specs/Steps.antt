@@ -1,4 +1,4 @@
--- Document 01, "The transform": the steps over whole numbers of any size. Definitions only.
+-- SCOPE, "The transform": the steps over whole numbers of any size. Definitions only.
 use mathlib.Core.List.{List, [], _∷_, _++_}
 use Prim.Native.Nat.{ℕ, _-_, _^_}
 use lib.IntN.{ℤ, pos, _+ℤ_, _-ℤ_, _*ℤ_}
@@ -39,7 +39,7 @@ abbrev pub run : List Step → List ℤ → List ℤ
 run [] v = v
 run (s ∷ ss) v = run ss (step s v)
 
--- The five paragraphs of 01. Its h1, h4 and h6 are the half of a place that no step has changed since, so they need no place of their own.
+-- The five paragraphs of SCOPE, "The transform". Its h1, h4 and h6 are the half of a place that no step has changed since, so they need no place of their own.
 unfoldable pub steps1 : List Step
 steps1 = from 1 0 whole ∷ less 0 1 halved ∷ plus 4 5 whole ∷ less 5 4 halved ∷ from 3 2 whole ∷ less 2 3 halved ∷ plus 6 7 whole ∷ from 7 6 halved ∷ []
 

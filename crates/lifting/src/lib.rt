@@ -1,4 +1,4 @@
-// One pass over eight numbers, forward and undone: document 01, "The transform".
+// One pass over eight numbers, forward and undone: SCOPE, "The transform".
 mod lift;
 
 use crate::lift::add;
@@ -26,7 +26,7 @@ pub struct T8 {
     pub t7: i32,
 }
 
-// The steps, in the order of document 01.
+// The steps, in the order of SCOPE.
 pub fn forward(t0: i32, t1: i32, t2: i32, t3: i32, t4: i32, t5: i32, t6: i32, t7: i32) -> T8
     requires { ⌜ Small passLimit (t0 ∷ t1 ∷ t2 ∷ t3 ∷ t4 ∷ t5 ∷ t6 ∷ t7 ∷ []) ⌝ }
     ensures { λ r. ⌜ vals r ≡ run steps (t0 ∷ t1 ∷ t2 ∷ t3 ∷ t4 ∷ t5 ∷ t6 ∷ t7 ∷ []) ⌝ }

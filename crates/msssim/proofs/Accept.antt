@@ -12,12 +12,12 @@ use lib.ListN.{length, List·getD-eq-default}
 use Rattle.refusal.specs.Numbers.{scratchNo}
 use Rattle.refusal.proofs.Chain.{and-left, and-right, passed}
 use Rattle.plane.specs.Limits.{mostDepth}
-use Rattle.plane.specs.Plane.{Plane, at, maxOf, sampleAt}
-use Rattle.plane.specs.Tests.{planeTests, planeRefusal}
-use Rattle.plane.specs.Lawful.{Accepted}
+use Rattle.plane.specs.Plane.{Plane, Planes, at, maxOf, sampleAt, both}
+use Rattle.plane.specs.Tests.{pairTests, pairRefusal}
+use Rattle.plane.specs.Inner.Lawful.{AcceptedPair}
 use Rattle.plane.proofs.Accept.{accepted, plane-named}
 use Rattle.plane.proofs.Several.{planes-pass}
-use Rattle.window.specs.Columns.{viewOf, mostSample}
+use Rattle.window.specs.Columns.{mostSample}
 use Rattle.window.proofs.Demand.{scales, scaleMax, scale-small}
 use Rattle.ssim.proofs.Accept.{halves}
 use Rattle.downscale.specs.Rooms.{Filled, Held}
@@ -25,15 +25,15 @@ use Rattle.downscale.proofs.Rooms.{rows-all}
 use Rattle.msssim.specs.Answer.{leastSide, placesOf, roomOf, lentEnough, msssimRefusal}
 
 -- ---- 8, after the planes
-module _ {n : ℕ} (wide : Bool) (planes : List Plane) (width height depth places room-a room-b : ℕ)
-    (e : n ≡ planeRefusal wide planes width height depth leastSide) where
-  pub lent-refuses : n ≡ 0 → lentEnough width height places room-a room-b ≡ false
-      → scratchNo ≡ msssimRefusal wide planes width height depth places room-a room-b
-  lent-refuses z f = planes-pass wide planes width height depth leastSide e _ z (rw f)
+module _ {n : ℕ} (p : Planes) (places room-a room-b : ℕ) (e : n ≡ pairRefusal p leastSide) where
+  abbrev enough : Bool
+  enough = lentEnough (p .size .width) (p .size .height) places room-a room-b
 
-  pub none-refuses : n ≡ 0 → lentEnough width height places room-a room-b ≡ true
-      → 0 ≡ msssimRefusal wide planes width height depth places room-a room-b
-  none-refuses z f = planes-pass wide planes width height depth leastSide e _ z (rw f)
+  pub lent-refuses : n ≡ 0 → enough ≡ false → scratchNo ≡ msssimRefusal p places room-a room-b
+  lent-refuses z f = planes-pass (p .size) (both p) leastSide e _ z (rw f)
+
+  pub none-refuses : n ≡ 0 → enough ≡ true → 0 ≡ msssimRefusal p places room-a room-b
+  none-refuses z f = planes-pass (p .size) (both p) leastSide e _ z (rw f)
 
 -- ---- none of them refuses
 lent-says : (width height places room-a room-b : ℕ) → lentEnough width height places room-a room-b ≡ true
@@ -45,13 +45,15 @@ lent-says width height places room-a room-b e =
       (leb-true _ _ (and-left _ _ rooms), leb-true _ _ (and-right (leb (roomOf width height) room-a) _ rooms)),
     )
 
-pub sound : {n : ℕ} (wide : Bool) (planes : List Plane) (width height depth places room-a room-b : ℕ)
-    → n ≡ msssimRefusal wide planes width height depth places room-a room-b → n ≡ 0
-    → Accepted wide planes width height depth leastSide × ((placesOf width ≤ places) × ((roomOf width height ≤ room-a) × (roomOf width height ≤ room-b)))
-sound wide planes width height depth places room-a room-b e z =
+pub sound : {n : ℕ} (p : Planes) (places room-a room-b : ℕ) → n ≡ msssimRefusal p places room-a room-b → n ≡ 0
+    → let width = p .size .width in let height = p .size .height in
+    AcceptedPair p leastSide × ((placesOf width ≤ places) × ((roomOf width height ≤ room-a) × (roomOf width height ≤ room-b)))
+sound p places room-a room-b e z =
+    let width = p .size .width in
+    let height = p .size .height in
     let tests : List (ℕ × Bool) = (scratchNo, lentEnough width height places room-a room-b) ∷ [] in
-    let h = halves (planeTests wide planes width height depth leastSide) tests (plane-named wide planes width height depth leastSide) (sym e ∙ z) in (
-      accepted wide planes width height depth leastSide (h .0),
+    let h = halves (pairTests p leastSide) tests (plane-named (p .size) (both p) leastSide) (sym e ∙ z) in (
+      accepted (p .size) (both p) leastSide (h .0),
       lent-says width height places room-a room-b (passed tests (lit≤ tt, tt) (h .1) .0),
     )
 
@@ -67,11 +69,11 @@ first-room wide depth d = omega (arith, scale-small depth 4 (le-trans d (least w
     least false = lit≤ tt
 
 -- a plane that was widened into as many places as it has samples
-pub held-widened : (max width height : ℕ) (old new : List ℕ) (p : Plane) → ((x y : ℕ) → x < width → y < height → sampleAt p x y ≤ max)
-    → Filled old new width (viewOf p) height → length new ≡ roomOf width height → Held max width height new
+pub held-widened : (max width height : ℕ) (old new : List ℕ) (p : Plane) → ((r c : ℕ) → r < height → c < width → sampleAt p r c ≤ max)
+    → Filled old new width (sampleAt p) height → length new ≡ roomOf width height → Held max width height new
 held-widened max width height old new p h f e =
     record { long = omega (arith, e); small = λ i. go i (decLt i (height * width)) }
   where
     go : (i : ℕ) → Dec (i < height * width) → at new i ≤ max
-    go i (yes l) = rows-all (λ (v : ℕ). v ≤ max) old new width (viewOf p) height f (λ r c k m. h c r m k) i l
+    go i (yes l) = rows-all (λ (v : ℕ). v ≤ max) old new width (sampleAt p) height f (λ r c k m. h c r m k) i l
     go i (no l) = rw (List·getD-eq-default new 0 {n = i} (omega (arith, e))) (omega arith)

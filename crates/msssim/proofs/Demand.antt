@@ -2,7 +2,6 @@
 -- every centre of every scale. Assumes nothing.
 use mathlib.Core.Path.{_≡_, refl, sym, _∙_}
 use mathlib.Core.Bool.{Bool, true, false}
-use mathlib.Core.List.{[], _∷_}
 use Prim.Native.Nat.{ℕ, zero, suc, _+_, _*_, _/_, _^_, _≤_, _<_}
 use native.Mathlib.Nat.{le-trans, pow-suc, mul-one}
 use native.Mathlib.Omega.{arith}
@@ -10,8 +9,8 @@ use lib.Dec.{lit≤}
 use lib.Ieee.{nan}
 use lib.ListN.{getD}
 use Rattle.plane.specs.Limits.{mostDepth}
-use Rattle.plane.specs.Plane.{Plane}
-use Rattle.plane.specs.Lawful.{Accepted}
+use Rattle.plane.specs.Plane.{Planes}
+use Rattle.plane.specs.Inner.Lawful.{AcceptedPair}
 use Rattle.window.specs.Kernel.{fixedKernel, fixedTotal}
 use Rattle.window.proofs.Demand.{Bounded, Demanded, scales, scaleMax, fixed-sums}
 use Rattle.downscale.specs.Summed.{summedOf}
@@ -59,23 +58,26 @@ pairs-at (suc n) (suc k) s l =
     (rw e (h .0), rw f (h .1))
 
 -- ---- the five scales of two accepted planes
-module _ (wide : Bool) (p q : Plane) (width height depth k : ℕ) (c : Accepted wide (p ∷ q ∷ []) width height depth leastSide) where
+module _ (p : Planes) (k : ℕ) (c : AcceptedPair p leastSide) where
+  abbrev depth : ℕ
+  depth = p .size .depth
+
   abbrev at-scale : Scale
-  at-scale = scaleAt (firstScale p q width height depth) k
+  at-scale = scaleAt (firstScale p) k
 
   -- "The samples at scale k stay below sample_max × 4^(k-1) + 1", where the first scale is k = 0 here
   pub samples-stay : (Bounded (scaleMax depth k) (at-scale .width) (at-scale .height) (at-scale .a))
       × (Bounded (scaleMax depth k) (at-scale .width) (at-scale .height) (at-scale .b))
   unfolding scaleMax
   samples-stay =
-      let first = firstScale p q width height depth in
-      rw (scale-max k first) at (scale-small k first ((λ row col i j. c .each .0 .small col row j i), (λ row col i j. c .each .1 .0 .small col row j i)))
+      let first = firstScale p in
+      rw (scale-max k first) at (scale-small k first (c .each .0 .bounded .small, c .each .1 .0 .bounded .small))
 
   pub scale-sums : k < scaleCount → (x y : ℕ) → x < at-scale .width → y < at-scale .height
       → Demanded fixedKernel (at-scale .width) (at-scale .height) (at-scale .a) (at-scale .b) x y fixedTotal (scaleMax depth k)
   unfolding scaleCount scales mostDepth
   scale-sums n x y l m =
-      fixed-sums depth k (le-trans (c .depth-most) (least wide)) n (at-scale .width) (at-scale .height) (at-scale .a) (at-scale .b) (samples-stay .0)
+      fixed-sums depth k (le-trans (c .sized .depth-most) (least (p .size .wide))) n (at-scale .width) (at-scale .height) (at-scale .a) (at-scale .b) (samples-stay .0)
       (samples-stay .1) x y l m
     where
       least : (w : Bool) → mostDepth w ≤ mostDepth true

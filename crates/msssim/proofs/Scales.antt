@@ -11,10 +11,11 @@ use borrow.Rule.Slice.PartMut.{putMid}
 use lib.Dec.{lit<}
 use lib.Ieee.{Float}
 use lib.ListN.{length, set, take, drop, length-drop, drop-of-length-le}
-use Rattle.plane.specs.Plane.{Plane, planeOf, maxOf}
-use Rattle.plane.specs.Lawful.{Alike}
-use Rattle.window.specs.Columns.{viewOf, mostSample}
-use Rattle.window.proofs.Visible.{Same, planes-same}
+use Rattle.plane.specs.declared.Size.{Size}
+use Rattle.plane.specs.Plane.{Plane, planeOf, planesOf, maxOf, sampleAt}
+use Rattle.plane.specs.Inner.Lawful.{Alike}
+use Rattle.window.specs.Columns.{mostSample}
+use Rattle.window.proofs.Visible.{Same}
 use Rattle.ssim.proofs.Visible.{totals-ext}
 use Rattle.downscale.specs.Summed.{summedOf}
 use Rattle.downscale.specs.Rooms.{Filled}
@@ -43,12 +44,12 @@ pairs-ext (suc left) max width height a a′ b b′ p q =
     )
 
 -- "Padding is never read": the answer is the same for planes whose visible samples agree
-pub visible-only : (a b a′ b′ : Plane) (width height depth : ℕ) → Alike width height a a′ → Alike width height b b′
-    → scoreOf a b width height depth ≡ scoreOf a′ b′ width height depth
-visible-only a b a′ b′ width height depth p q =
+pub visible-only : (size : Size) (a b a′ b′ : Plane) → Alike size a a′ → Alike size b b′
+    → scoreOf (planesOf size a b) ≡ scoreOf (planesOf size a′ b′)
+visible-only size a b a′ b′ p q =
     ap (λ (l : List Float). gatheredOf l)
-    (pairs-ext scaleCount (maxOf depth) width height (viewOf a) (viewOf a′) (viewOf b) (viewOf b′)
-    (planes-same a a′ width height p) (planes-same b b′ width height q))
+    (pairs-ext scaleCount (maxOf (size .depth)) (size .width) (size .height) (sampleAt a) (sampleAt a′) (sampleAt b) (sampleAt b′)
+    p q)
 
 -- ---- the scales that are left
 
@@ -88,18 +89,18 @@ rest-back l last = rw (← (length-drop 2 l), drop-of-length-le (drop 2 l) (le-r
 
 -- a scale scored, and those below it
 pub pairs-step : (left max width height : ℕ) (a a′ b b′ : List ℕ) (l l′ last : List Float) → 0 < left
-    → l′ ≡ ssimOf (sumsOf (scaleOf max width height (viewOf (planeOf a width)) (viewOf (planeOf b width))))
-    ∷ csOf (sumsOf (scaleOf max width height (viewOf (planeOf a width)) (viewOf (planeOf b width)))) ∷ l
-    → last ≡ pairsFrom (left - 1) (scaleOf (4 * max) (width / 2) (height / 2) (viewOf (planeOf a′ (width / 2))) (viewOf (planeOf b′ (width / 2))))
-    → Filled a a′ (width / 2) (summedOf (viewOf (planeOf a width))) (height / 2)
-    → Filled b b′ (width / 2) (summedOf (viewOf (planeOf b width))) (height / 2)
-    → putMid 2 (length l′ - 2) l′ last ≡ pairsFrom left (scaleOf max width height (viewOf (planeOf a width)) (viewOf (planeOf b width)))
+    → l′ ≡ ssimOf (sumsOf (scaleOf max width height (sampleAt (planeOf a width)) (sampleAt (planeOf b width))))
+    ∷ csOf (sumsOf (scaleOf max width height (sampleAt (planeOf a width)) (sampleAt (planeOf b width)))) ∷ l
+    → last ≡ pairsFrom (left - 1) (scaleOf (4 * max) (width / 2) (height / 2) (sampleAt (planeOf a′ (width / 2))) (sampleAt (planeOf b′ (width / 2))))
+    → Filled a a′ (width / 2) (summedOf (sampleAt (planeOf a width))) (height / 2)
+    → Filled b b′ (width / 2) (summedOf (sampleAt (planeOf b width))) (height / 2)
+    → putMid 2 (length l′ - 2) l′ last ≡ pairsFrom left (scaleOf max width height (sampleAt (planeOf a width)) (sampleAt (planeOf b width)))
 pairs-step left max width height a a′ b b′ l l′ last some e f p q =
     rest-back l′ last
     ∙ rw (
       e,
       f,
-      pairs-ext (left - 1) (4 * max) (width / 2) (height / 2) (viewOf (planeOf a′ (width / 2))) (summedOf (viewOf (planeOf a width)))
-          (viewOf (planeOf b′ (width / 2))) (summedOf (viewOf (planeOf b width))) (p .rows) (q .rows),
+      pairs-ext (left - 1) (4 * max) (width / 2) (height / 2) (sampleAt (planeOf a′ (width / 2))) (summedOf (sampleAt (planeOf a width)))
+          (sampleAt (planeOf b′ (width / 2))) (summedOf (sampleAt (planeOf b width))) (p .rows) (q .rows),
     )
-    (sym (pairs-more left (scaleOf max width height (viewOf (planeOf a width)) (viewOf (planeOf b width))) some))
+    (sym (pairs-more left (scaleOf max width height (sampleAt (planeOf a width)) (sampleAt (planeOf b width))) some))

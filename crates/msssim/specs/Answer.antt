@@ -1,4 +1,4 @@
--- Document 01: the answer of MS-SSIM for every case, five pairs or the lowest refusal of 1 2 3 4 5 6 8, then 9, and what stands in the lent
+-- SCOPE: the answer of MS-SSIM for every case, five pairs or the lowest refusal of 1 2 3 4 5 6 8, then 9, and what stands in the lent
 -- places afterwards. Definitions only.
 use mathlib.Core.Bool.{Bool, true, false, _&&_}
 use mathlib.Core.List.{List, [], _∷_, _++_}
@@ -10,9 +10,8 @@ use lib.IntN.{ℤ}
 use lib.ListN.{length, getD, replicate, drop}
 use Rattle.refusal.specs.Numbers.{scratchNo, notFiniteNo}
 use Rattle.refusal.specs.First.{firstBroken, byRefusal}
-use Rattle.plane.specs.Plane.{Plane, maxOf, allTo}
-use Rattle.plane.specs.Tests.{planeTests}
-use Rattle.window.specs.Columns.{viewOf}
+use Rattle.plane.specs.Plane.{Planes, maxOf, allTo, sampleAt}
+use Rattle.plane.specs.Tests.{pairTests}
 use Rattle.ssim.specs.Scratch.{cleared}
 use Rattle.msssim.specs.Scale.{Scale, scaleOf, scaleCount, pairsFrom}
 use Rattle.msssim.specs.declared.Pairs.{Pairs}
@@ -38,9 +37,9 @@ lentEnough width height places room-a room-b =
     leb (placesOf width) places && (leb (roomOf width height) room-a && leb (roomOf width height) room-b)
 
 -- 1 2 3 4 5 6 8 in ascending order: the planes, and how many places are lent
-abbrev pub msssimRefusal : Bool → List Plane → ℕ → ℕ → ℕ → ℕ → ℕ → ℕ → ℕ
-msssimRefusal wide planes width height depth places room-a room-b =
-    firstBroken (planeTests wide planes width height depth leastSide ++ (scratchNo, lentEnough width height places room-a room-b) ∷ [])
+abbrev pub msssimRefusal : Planes → ℕ → ℕ → ℕ → ℕ
+msssimRefusal p places room-a room-b =
+    firstBroken (pairTests p leastSide ++ (scratchNo, lentEnough (p .size .width) (p .size .height) places room-a room-b) ∷ [])
 
 -- ---- the answer
 
@@ -73,12 +72,12 @@ abbrev pub gatheredOf : List Float → MsSsim
 gatheredOf l = fiveOr9 (allFinite l) (pairsOf l)
 
 -- the first scale: the two planes as they are lent
-abbrev pub firstScale : Plane → Plane → ℕ → ℕ → ℕ → Scale
-firstScale a b width height depth = scaleOf (maxOf depth) width height (viewOf a) (viewOf b)
+abbrev pub firstScale : Planes → Scale
+firstScale p = scaleOf (maxOf (p .size .depth)) (p .size .width) (p .size .height) (sampleAt (p .a)) (sampleAt (p .b))
 
 -- the score of two planes that no test refuses
-abbrev pub scoreOf : Plane → Plane → ℕ → ℕ → ℕ → MsSsim
-scoreOf a b width height depth = gatheredOf (pairsFrom scaleCount (firstScale a b width height depth))
+abbrev pub scoreOf : Planes → MsSsim
+scoreOf p = gatheredOf (pairsFrom scaleCount (firstScale p))
 
 -- ---- what is lent beside the planes: the 64-bit places, and the 32-bit places of each plane
 pub record Lent : Type 0 where
@@ -89,15 +88,12 @@ pub record Lent : Type 0 where
 abbrev pub lentOf : List ℤ → List ℕ → List ℕ → Lent
 lentOf scratch room-a room-b = record { scratch = scratch; room-a = room-a; room-b = room-b }
 
-abbrev pub refusalOf : Bool → Plane → Plane → ℕ → ℕ → ℕ → Lent → ℕ
-refusalOf wide a b width height depth l =
-    msssimRefusal wide (a ∷ b ∷ []) width height depth (length (l .scratch)) (length (l .room-a)) (length (l .room-b))
+abbrev pub refusalOf : Planes → Lent → ℕ
+refusalOf p l = msssimRefusal p (length (l .scratch)) (length (l .room-a)) (length (l .room-b))
 
 -- the refusal, where there is one; else the score
-abbrev pub msssimOf : Bool → Plane → Plane → ℕ → ℕ → ℕ → Lent → MsSsim
-msssimOf wide a b width height depth l =
-    let n = refusalOf wide a b width height depth l in
-    byRefusal n (scoreOf a b width height depth) (Refused n)
+abbrev pub msssimOf : Planes → Lent → MsSsim
+msssimOf p l = let n = refusalOf p l in byRefusal n (scoreOf p) (Refused n)
 
 -- "the needed part all zero, the rest unchanged"
 abbrev pub roomCleared : ℕ → List ℕ → List ℕ

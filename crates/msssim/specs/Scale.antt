@@ -1,4 +1,4 @@
--- Document 01, "HVS, SSIM and scales": "each scale is made from the one above by summing 2×2 samples, sides halved downward; sample_max
+-- SCOPE, "HVS, SSIM and scales": "each scale is made from the one above by summing 2×2 samples, sides halved downward; sample_max
 -- is multiplied by 4. Answer: five pairs, no power product." Definitions only.
 use mathlib.Core.List.{List, [], _∷_}
 use Prim.Native.Nat.{ℕ, zero, suc, _*_, _/_}

@@ -2,15 +2,16 @@
 // 2×2 samples, and the pair of SSIM at each, under a kernel of its own.
 ghost use mathlib.Core.Path.{_≡_};
 ghost use mathlib.Core.Bool.{true, false};
-ghost use mathlib.Core.List.{[], _∷_};
 ghost use Prim.Native.Nat.{_*_, _≤_};
 ghost use lib.ListN.{length};
 ghost use Rattle.plane.specs.Limits.{sideLimit};
-ghost use Rattle.plane.specs.Plane.{planeOf, samplesOf};
-ghost use Rattle.plane.specs.Lawful.{Accepted};
+ghost use Rattle.plane.specs.Plane.{planes, called};
+ghost use Rattle.plane.specs.Inner.Lawful.{AcceptedPair};
 ghost use Rattle.ssim.specs.Scratch.{cleared};
 ghost use Rattle.msssim.specs.Answer.{leastSide, placesOf, roomOf, lentEnough, msssimRefusal, scoreOf, roomCleared};
 ghost use Rattle.msssim.specs.Answer.{lentOf, refusalOf, msssimOf, lentAfter};
+use plane::Layout;
+use plane::Size;
 
 mod gather;
 mod scale;
@@ -56,36 +57,18 @@ fn refusal(
     a16: &[u16],
     b8: &[u8],
     b16: &[u16],
-    wide: bool,
-    width: usize,
-    height: usize,
-    stride_a: usize,
-    stride_b: usize,
-    depth: u32,
+    layout: Layout,
     lent: usize,
     lent_a: usize,
     lent_b: usize,
 ) -> u8
-    ensures { λ r. ⌜ r ≡ msssimRefusal wide (planeOf (samplesOf wide (now (a8 .entry)) (now (a16 .entry))) «stride_a»
-        ∷ planeOf (samplesOf wide (now (b8 .entry)) (now (b16 .entry))) «stride_b» ∷ []) width height depth lent «lent_a» «lent_b» ⌝ }
+    ensures { λ r. ⌜ r ≡ msssimRefusal (planes layout (a8 .entry) (a16 .entry) (b8 .entry) (b16 .entry)) lent «lent_a» «lent_b» ⌝ }
 {
-    let no = plane::check(
-        a8,
-        a16,
-        b8,
-        b16,
-        wide,
-        width,
-        height,
-        stride_a,
-        stride_b,
-        depth,
-        LEAST_SIDE,
-    );
+    let no = plane::check(a8, a16, b8, b16, layout, LEAST_SIDE);
     if no != 0 {
         return no;
     }
-    if !lent_enough(width, height, lent, lent_a, lent_b) {
+    if !lent_enough(layout.size.width, layout.size.height, lent, lent_a, lent_b) {
         return refusal::SCRATCH;
     }
     0
@@ -100,23 +83,18 @@ fn scored(
     a16: &[u16],
     b8: &[u8],
     b16: &[u16],
-    wide: bool,
-    width: usize,
-    height: usize,
-    stride_a: usize,
-    stride_b: usize,
-    depth: u32,
+    layout: Layout,
 ) -> MsSsim
-    requires { ⌜ Accepted wide (planeOf (samplesOf wide (now a8) (now a16)) «stride_a»
-        ∷ planeOf (samplesOf wide (now b8) (now b16)) «stride_b» ∷ []) width height depth leastSide ⌝ }
-    requires { ⌜ placesOf width ≤ length (now scratch) ⌝ }
-    requires { ⌜ (roomOf width height ≤ length (now «room_a»)) × (roomOf width height ≤ length (now «room_b»)) ⌝ }
-    ensures { λ r. ⌜ r ≡ scoreOf (planeOf (samplesOf wide (now (a8 .entry)) (now (a16 .entry))) «stride_a»)
-        (planeOf (samplesOf wide (now (b8 .entry)) (now (b16 .entry))) «stride_b») width height depth ⌝ }
-    ensures { λ _. ⌜ now (scratch .exit) ≡ cleared (placesOf width) (now (scratch .entry)) ⌝ }
-    ensures { λ _. ⌜ now («room_a» .exit) ≡ roomCleared (roomOf width height) (now («room_a» .entry)) ⌝ }
-    ensures { λ _. ⌜ now («room_b» .exit) ≡ roomCleared (roomOf width height) (now («room_b» .entry)) ⌝ }
+    requires { ⌜ AcceptedPair (planes layout a8 a16 b8 b16) leastSide ⌝ }
+    requires { ⌜ placesOf (layout .size .width) ≤ length (now scratch) ⌝ }
+    requires { ⌜ (roomOf (layout .size .width) (layout .size .height) ≤ length (now «room_a»)) × (roomOf (layout .size .width) (layout .size .height) ≤ length (now «room_b»)) ⌝ }
+    ensures { λ r. ⌜ r ≡ scoreOf (planes layout (a8 .entry) (a16 .entry) (b8 .entry) (b16 .entry)) ⌝ }
+    ensures { λ _. ⌜ now (scratch .exit) ≡ cleared (placesOf (layout .size .width)) (now (scratch .entry)) ⌝ }
+    ensures { λ _. ⌜ now («room_a» .exit) ≡ roomCleared (roomOf (layout .size .width) (layout .size .height)) (now («room_a» .entry)) ⌝ }
+    ensures { λ _. ⌜ now («room_b» .exit) ≡ roomCleared (roomOf (layout .size .width) (layout .size .height)) (now («room_b» .entry)) ⌝ }
 {
+    let width = layout.size.width;
+    let height = layout.size.height;
     let places = 6 * width * LINES;
     let room = width * height;
     whole::answer(
@@ -127,12 +105,7 @@ fn scored(
         a16,
         b8,
         b16,
-        wide,
-        width,
-        height,
-        stride_a,
-        stride_b,
-        depth,
+        layout,
     )
 }
 
@@ -145,33 +118,21 @@ fn of_either(
     a16: &[u16],
     b8: &[u8],
     b16: &[u16],
-    wide: bool,
-    width: usize,
-    height: usize,
-    stride_a: usize,
-    stride_b: usize,
-    depth: u32,
+    layout: Layout,
 ) -> MsSsim
-    ensures { λ r. ⌜ r ≡ msssimOf wide (planeOf (samplesOf wide (now (a8 .entry)) (now (a16 .entry))) «stride_a»)
-        (planeOf (samplesOf wide (now (b8 .entry)) (now (b16 .entry))) «stride_b») width height depth
+    ensures { λ r. ⌜ r ≡ msssimOf (planes layout (a8 .entry) (a16 .entry) (b8 .entry) (b16 .entry))
         (lentOf (now (scratch .entry)) (now («room_a» .entry)) (now («room_b» .entry))) ⌝ }
     ensures { λ _. ⌜ lentOf (now (scratch .exit)) (now («room_a» .exit)) (now («room_b» .exit)) ≡ lentAfter
-        (refusalOf wide (planeOf (samplesOf wide (now (a8 .entry)) (now (a16 .entry))) «stride_a»)
-        (planeOf (samplesOf wide (now (b8 .entry)) (now (b16 .entry))) «stride_b») width height depth
+        (refusalOf (planes layout (a8 .entry) (a16 .entry) (b8 .entry) (b16 .entry))
         (lentOf (now (scratch .entry)) (now («room_a» .entry)) (now («room_b» .entry))))
-        width height (lentOf (now (scratch .entry)) (now («room_a» .entry)) (now («room_b» .entry))) ⌝ }
+        (layout .size .width) (layout .size .height) (lentOf (now (scratch .entry)) (now («room_a» .entry)) (now («room_b» .entry))) ⌝ }
 {
     let no = refusal(
         a8,
         a16,
         b8,
         b16,
-        wide,
-        width,
-        height,
-        stride_a,
-        stride_b,
-        depth,
+        layout,
         scratch.len(),
         room_a.len(),
         room_b.len(),
@@ -179,21 +140,7 @@ fn of_either(
     if no != 0 {
         return MsSsim::Refused(no);
     }
-    scored(
-        scratch,
-        room_a,
-        room_b,
-        a8,
-        a16,
-        b8,
-        b16,
-        wide,
-        width,
-        height,
-        stride_a,
-        stride_b,
-        depth,
-    )
+    scored(scratch, room_a, room_b, a8, a16, b8, b16, layout)
 }
 
 // MS-SSIM of two planes of bytes. Refused, what is lent is as it was; else, and at 9, its needed part is all zero and the rest as it was.
@@ -209,13 +156,24 @@ pub fn msssim8(
     room_a: &mut [u32],
     room_b: &mut [u32],
 ) -> MsSsim
-    ensures { λ r. ⌜ r ≡ msssimOf false (planeOf (now (a .entry)) «stride_a») (planeOf (now (b .entry)) «stride_b») width height depth
+    ensures { λ r. ⌜ r ≡ msssimOf (called false (a .entry) (b .entry) width height «stride_a» «stride_b» depth)
         (lentOf (now (scratch .entry)) (now («room_a» .entry)) (now («room_b» .entry))) ⌝ }
     ensures { λ _. ⌜ lentOf (now (scratch .exit)) (now («room_a» .exit)) (now («room_b» .exit)) ≡ lentAfter
-        (refusalOf false (planeOf (now (a .entry)) «stride_a») (planeOf (now (b .entry)) «stride_b») width height depth
+        (refusalOf (called false (a .entry) (b .entry) width height «stride_a» «stride_b» depth)
         (lentOf (now (scratch .entry)) (now («room_a» .entry)) (now («room_b» .entry))))
         width height (lentOf (now (scratch .entry)) (now («room_a» .entry)) (now («room_b» .entry))) ⌝ }
 {
+    let size = Size {
+        wide: false,
+        width,
+        height,
+        depth,
+    };
+    let layout = Layout {
+        size,
+        stride_a,
+        stride_b,
+    };
     of_either(
         scratch,
         room_a,
@@ -224,12 +182,7 @@ pub fn msssim8(
         &[0u16; 0],
         b,
         &[0u16; 0],
-        false,
-        width,
-        height,
-        stride_a,
-        stride_b,
-        depth,
+        layout,
     )
 }
 
@@ -246,26 +199,23 @@ pub fn msssim16(
     room_a: &mut [u32],
     room_b: &mut [u32],
 ) -> MsSsim
-    ensures { λ r. ⌜ r ≡ msssimOf true (planeOf (now (a .entry)) «stride_a») (planeOf (now (b .entry)) «stride_b») width height depth
+    ensures { λ r. ⌜ r ≡ msssimOf (called true (a .entry) (b .entry) width height «stride_a» «stride_b» depth)
         (lentOf (now (scratch .entry)) (now («room_a» .entry)) (now («room_b» .entry))) ⌝ }
     ensures { λ _. ⌜ lentOf (now (scratch .exit)) (now («room_a» .exit)) (now («room_b» .exit)) ≡ lentAfter
-        (refusalOf true (planeOf (now (a .entry)) «stride_a») (planeOf (now (b .entry)) «stride_b») width height depth
+        (refusalOf (called true (a .entry) (b .entry) width height «stride_a» «stride_b» depth)
         (lentOf (now (scratch .entry)) (now («room_a» .entry)) (now («room_b» .entry))))
         width height (lentOf (now (scratch .entry)) (now («room_a» .entry)) (now («room_b» .entry))) ⌝ }
 {
-    of_either(
-        scratch,
-        room_a,
-        room_b,
-        &[0u8; 0],
-        a,
-        &[0u8; 0],
-        b,
-        true,
+    let size = Size {
+        wide: true,
         width,
         height,
+        depth,
+    };
+    let layout = Layout {
+        size,
         stride_a,
         stride_b,
-        depth,
-    )
+    };
+    of_either(scratch, room_a, room_b, &[0u8; 0], a, &[0u8; 0], b, layout)
 }

@@ -4,11 +4,11 @@ ghost use mathlib.Core.List.{_∷_};
 ghost use Prim.Native.Nat.{_+_, _*_, _^_, _<_, _≤_};
 ghost use lib.ListN.{length, drop};
 ghost use Rattle.plane.specs.Limits.{sideLimit};
-ghost use Rattle.plane.specs.Plane.{planeOf};
+ghost use Rattle.plane.specs.Plane.{planeOf, sampleAt};
 ghost use Rattle.plane.specs.Sums.{sumTo};
 ghost use Rattle.window.specs.Kernel.{tap, fixedKernel};
 ghost use Rattle.window.specs.Parts.{Kernel};
-ghost use Rattle.window.specs.Columns.{viewOf, mostSample, columnsOf, Margins};
+ghost use Rattle.window.specs.Columns.{mostSample, columnsOf, Margins};
 ghost use Rattle.ssim.specs.Score.{totalsOf};
 ghost use Rattle.downscale.specs.Rooms.{Held};
 ghost use Rattle.msssim.specs.Scale.{scaleOf, sumsOf, ssimOf, csOf, pairsFrom};
@@ -34,8 +34,8 @@ fn rows(
     requires { ⌜ total ≡ sumTo (tap (now kernel)) (length (now kernel)) ⌝ }
     requires { ⌜ Held mostSample width height (now a) ⌝ }
     requires { ⌜ Held mostSample width height (now b) ⌝ }
-    ensures { λ r. ⌜ r ≡ totalsOf max2 (now (kernel .entry)) width height (viewOf (planeOf (now (a .entry)) width))
-        (viewOf (planeOf (now (b .entry)) width)) height ⌝ }
+    ensures { λ r. ⌜ r ≡ totalsOf max2 (now (kernel .entry)) width height (sampleAt (planeOf (now (a .entry)) width))
+        (sampleAt (planeOf (now (b .entry)) width)) height ⌝ }
 {
     let start = 5 * (kernel.len() / 2);
     let end = start + 5 * width;
@@ -67,8 +67,8 @@ fn sums(cols: &mut [i64], a: &[u32], b: &[u32], max: u32, width: usize, height: 
     requires { ⌜ (width ≤ sideLimit) × (height ≤ sideLimit) × (5 * columnsOf fixedKernel width ≤ length (now cols)) × (max ≤ mostSample) ⌝ }
     requires { ⌜ Held max width height (now a) ⌝ }
     requires { ⌜ Held max width height (now b) ⌝ }
-    ensures { λ r. ⌜ r ≡ sumsOf (scaleOf max width height (viewOf (planeOf (now (a .entry)) width))
-        (viewOf (planeOf (now (b .entry)) width))) ⌝ }
+    ensures { λ r. ⌜ r ≡ sumsOf (scaleOf max width height (sampleAt (planeOf (now (a .entry)) width))
+        (sampleAt (planeOf (now (b .entry)) width))) ⌝ }
 {
     let kernel = [8u16, 37, 112, 218, 274, 218, 112, 37, 8];
     let max2 = ssim::score::squared(max);
@@ -101,8 +101,8 @@ pub fn scales(
     requires { ⌜ (length (now pairs) ≡ 2 * left) × (max * 4 ^ left ≤ 4 * mostSample) ⌝ }
     requires { ⌜ Held max width height (now a) ⌝ }
     requires { ⌜ Held max width height (now b) ⌝ }
-    ensures { λ _. ⌜ now (pairs .exit) ≡ pairsFrom left (scaleOf max width height (viewOf (planeOf (now (a .entry)) width))
-        (viewOf (planeOf (now (b .entry)) width))) ⌝ }
+    ensures { λ _. ⌜ now (pairs .exit) ≡ pairsFrom left (scaleOf max width height (sampleAt (planeOf (now (a .entry)) width))
+        (sampleAt (planeOf (now (b .entry)) width))) ⌝ }
 {
     if 0 < left {
         let t = sums(cols, a, b, max, width, height);

@@ -1,4 +1,4 @@
--- Document 01, "Numbers to hold it to": the root of 2 has the bits 0x3FF6A09E667F3BCD. Assumes nothing.
+-- SCOPE, "Numbers to hold it to": the root of 2 has the bits 0x3FF6A09E667F3BCD. Assumes nothing.
 use mathlib.Core.Path.{_≡_, refl}
 use lib.Ieee.{binary64, ofBits}
 use Rattle.number.specs.declared.Rooted.the-variants.{Root}

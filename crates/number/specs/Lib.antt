@@ -1,3 +1,4 @@
 pub mod Wide
 pub mod Root
 pub mod Steps
+pub mod Literals

@@ -1,4 +1,4 @@
--- Document 01: "Doubles: each operation rounded once, in the order written in the Rust". The four operations on doubles, the double
+-- SCOPE: "Doubles: each operation rounded once, in the order written in the Rust". The four operations on doubles, the double
 -- of a whole number, and steps taken in turn. Definitions only.
 use Prim.Native.Nat.{ℕ, zero, suc}
 use lib.IntN.{pos}

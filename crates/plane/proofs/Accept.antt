@@ -5,13 +5,13 @@ use mathlib.Core.List.{List, [], _∷_}
 use Prim.Native.Nat.{ℕ, _≤_, _<_}
 use borrow.Author.Tests.{leb-true}
 use lib.Dec.{leb, lit≤}
-use lib.ListN.{length}
 use Rattle.refusal.proofs.Chain.{and-left, and-right, Named, passed}
 use Rattle.plane.specs.Limits.{sideLimit, strideLimit}
-use Rattle.plane.specs.Plane.{Plane, maxOf, sampleAt, needed, every}
+use Rattle.plane.specs.declared.Size.{Size}
+use Rattle.plane.specs.Plane.{Plane, Long, maxOf, sampleAt, every}
 use Rattle.plane.specs.Tests.{sideSuits, sidesSuit, sidesReach, strideSuits, longEnough, rowSuits, samplesSuit}
-use Rattle.plane.specs.Tests.{sizeTests, layoutTests, planeTests, planeRefusal}
-use Rattle.plane.specs.Lawful.{Lawful, Each, Accepted}
+use Rattle.plane.specs.Tests.{depthSuits, sizeTests, layoutTests, planeTests, planeRefusal}
+use Rattle.plane.specs.Inner.Lawful.{Lawful, Sized, Each, Accepted}
 use Rattle.plane.proofs.All.{all-at, none-at}
 use Rattle.plane.proofs.Depth.{depth-says}
 
@@ -34,49 +34,28 @@ pub stride-says : (width stride : ℕ) → strideSuits width stride ≡ true →
 unfolding strideSuits
 stride-says width stride e = leb-both width stride stride strideLimit e
 
-pub long-says : (width height : ℕ) (p : Plane) → longEnough width height p ≡ true → needed width height (p .stride) ≤ length (p .samples)
-unfolding longEnough
-long-says width height p e = leb-true _ _ e
+module _ (size : Size) (p : Plane) where
+  pub long-says : longEnough size p ≡ true → Long size p
+  unfolding longEnough
+  long-says e = leb-true _ _ e
 
-pub samples-say : (depth width height : ℕ) (p : Plane) → samplesSuit depth width height p ≡ true
-    → (x y : ℕ) → x < width → y < height → sampleAt p x y ≤ maxOf depth
-unfolding samplesSuit rowSuits
-samples-say depth width height p e x y lx ly = none-at _ _ width (all-at _ height e y ly) x lx
+  pub samples-say : samplesSuit size p ≡ true → (r c : ℕ) → r < size .height → c < size .width → sampleAt p r c ≤ maxOf (size .depth)
+  unfolding samplesSuit rowSuits
+  samples-say e r c lr lc = none-at _ _ (size .width) (all-at _ (size .height) e r lr) c lc
 
--- ---- all of them
-each : (width height depth : ℕ) (planes : List Plane) → every (λ (p : Plane). strideSuits width (p .stride)) planes ≡ true
-    → every (longEnough width height) planes ≡ true → every (samplesSuit depth width height) planes ≡ true
-    → Each (Lawful width height depth) planes
-each width height depth [] s l m = tt
-each width height depth (p ∷ more) s l m =
-    let stride = stride-says width (p .stride) (and-left _ _ s) in (
-      record {
-        stride-least = stride .0;
-        stride-most = stride .1;
-        long = long-says width height p (and-left _ _ l);
-        small = samples-say depth width height p (and-left _ _ m);
-      },
-      each width height depth more (and-right (strideSuits width (p .stride)) _ s) (and-right (longEnough width height p) _ l)
-          (and-right (samplesSuit depth width height p) _ m),
-    )
+  -- 4, 5 and 6
+  lawful : strideSuits (size .width) (p .stride) ≡ true → longEnough size p ≡ true → samplesSuit size p ≡ true → Lawful size p
+  lawful s l m =
+      let stride = stride-says (size .width) (p .stride) s in
+      record { stride-least = stride .0; stride-most = stride .1; bounded = record { long = long-says l; small = samples-say m } }
 
--- no test has the number 0
-pub size-named : (wide : Bool) (width height depth least : ℕ) → Named (sizeTests wide width height depth least)
-unfolding sizeTests
-size-named wide width height depth least = (lit≤ tt, (lit≤ tt, (lit≤ tt, tt)))
-
-pub plane-named : (wide : Bool) (planes : List Plane) (width height depth least : ℕ) → Named (planeTests wide planes width height depth least)
-unfolding sizeTests layoutTests
-plane-named wide planes width height depth least = (lit≤ tt, (lit≤ tt, (lit≤ tt, (lit≤ tt, (lit≤ tt, (lit≤ tt, tt))))))
-
-pub accepted : (wide : Bool) (planes : List Plane) (width height depth least : ℕ) → planeRefusal wide planes width height depth least ≡ 0
-    → Accepted wide planes width height depth least
-unfolding sizeTests layoutTests
-accepted wide planes width height depth least e =
-    let t = passed (planeTests wide planes width height depth least) (plane-named wide planes width height depth least) e in
-    let depths = depth-says wide depth (t .0) in
-    let sides = sides-say width height (t .1 .0) in
-    let reach = reach-says least width height (t .1 .1 .0) in
+-- 1, 2 and 3
+sized : (size : Size) (least : ℕ) → depthSuits (size .wide) (size .depth) ≡ true → sidesSuit (size .width) (size .height) ≡ true
+    → sidesReach least (size .width) (size .height) ≡ true → Sized size least
+sized size least d s r =
+    let depths = depth-says (size .wide) (size .depth) d in
+    let sides = sides-say (size .width) (size .height) s in
+    let reach = reach-says least (size .width) (size .height) r in
     record {
       depth-least = depths .0;
       depth-most = depths .1;
@@ -86,5 +65,33 @@ accepted wide planes width height depth least e =
       height-most = sides .1 .1;
       width-reaches = reach .0;
       height-reaches = reach .1;
-      each = each width height depth planes (t .1 .1 .1 .0) (t .1 .1 .1 .1 .0) (t .1 .1 .1 .1 .1 .0);
+    }
+
+-- ---- all of them
+-- where every plane passes each of the three tests, each is lawful
+each-lawful : (size : Size) (planes : List Plane) → every (λ (p : Plane). strideSuits (size .width) (p .stride)) planes ≡ true
+    → every (longEnough size) planes ≡ true → every (samplesSuit size) planes ≡ true → Each (Lawful size) planes
+each-lawful size [] s l m = tt
+each-lawful size (p ∷ more) s l m = (
+  lawful size p (and-left _ _ s) (and-left _ _ l) (and-left _ _ m),
+  each-lawful size more (and-right (strideSuits (size .width) (p .stride)) _ s) (and-right (longEnough size p) _ l)
+      (and-right (samplesSuit size p) _ m),
+)
+
+-- no test has the number 0
+pub size-named : (size : Size) (least : ℕ) → Named (sizeTests size least)
+unfolding sizeTests
+size-named size least = (lit≤ tt, (lit≤ tt, (lit≤ tt, tt)))
+
+pub plane-named : (size : Size) (planes : List Plane) (least : ℕ) → Named (planeTests size planes least)
+unfolding sizeTests layoutTests
+plane-named size planes least = (lit≤ tt, (lit≤ tt, (lit≤ tt, (lit≤ tt, (lit≤ tt, (lit≤ tt, tt))))))
+
+pub accepted : (size : Size) (planes : List Plane) (least : ℕ) → planeRefusal size planes least ≡ 0 → Accepted size planes least
+unfolding sizeTests layoutTests
+accepted size planes least e =
+    let t = passed (planeTests size planes least) (plane-named size planes least) e in
+    record {
+      sized = sized size least (t .0) (t .1 .0) (t .1 .1 .0);
+      each = each-lawful size planes (t .1 .1 .1 .0) (t .1 .1 .1 .1 .0) (t .1 .1 .1 .1 .1 .0);
     }

@@ -9,7 +9,8 @@ use borrow.Author.Tests.{leb-true, leb-false, le-leb, lt-leb}
 use lib.Dec.{leb}
 use lib.ListN.{length, take, drop, length-drop}
 use lib.Seq.{length-take-le, getD-take, getD-drop}
-use Rattle.plane.specs.Plane.{Plane, planeOf, samplesOf, at, sampleAt, needed, maxOf}
+use Rattle.plane.specs.declared.Size.{Size}
+use Rattle.plane.specs.Plane.{Plane, planeOf, planeIn, samplesOf, at, sampleAt, needed, Long, maxOf, allTo}
 use Rattle.plane.specs.Tests.{longEnough, noneAbove, rowSuits, samplesSuit}
 use Rattle.plane.proofs.All.{all-true, none-ext, none-true}
 
@@ -33,7 +34,7 @@ module _ (samples : List ℕ) (stride width y : ℕ) where
       let e : y * stride + width - y * stride ≡ width = omega arith in
       rw e (length-take-le width (drop (y * stride) samples) (simp length-drop (omega arith)))
 
-  pub part-at : (x : ℕ) → x < width → at (part samples stride width y) x ≡ sampleAt (planeOf samples stride) x y
+  pub part-at : (x : ℕ) → x < width → at (part samples stride width y) x ≡ sampleAt (planeOf samples stride) y x
   part-at x l =
       let e : y * stride + width - y * stride ≡ width = omega arith in
       rw (e, getD-take width (drop (y * stride) samples) x 0 l, getD-drop (y * stride) samples x 0)
@@ -53,19 +54,21 @@ same-test a b c d to from = go (leb a b) refl
     go true e = e ∙ sym (le-leb c d (to (leb-true a b e)))
     go false e = e ∙ sym (lt-leb c d (lt-of-not-le (λ l. not-le-of-lt (leb-false a b e) (from l))))
 
-module _ (width height : ℕ) (p : Plane) {n : ℕ} (e : n ≡ length (p .samples)) where
-  pub too-short : n < width → false ≡ longEnough width height p
+module _ (size : Size) (p : Plane) {n : ℕ} (e : n ≡ length (p .samples)) where
+  pub too-short : n < size .width → false ≡ longEnough size p
   unfolding longEnough
   too-short l = sym (lt-leb _ (length (p .samples)) (omega arith))
 
-  pub by-division : 1 ≤ p .stride → width ≤ n → leb height ((n - width) / p .stride + 1) ≡ longEnough width height p
+  pub by-division : 1 ≤ p .stride → size .width ≤ n → leb (size .height) ((n - size .width) / p .stride + 1) ≡ longEnough size p
   unfolding longEnough
   by-division s w =
+      let height = size .height in
+      let rest = n - size .width in
       let m = mul-comm (p .stride) (height - 1) in
-      let rows = le-div-iff-mul-le {k = p .stride} {x = height - 1} {y = n - width} s in
-      same-test height ((n - width) / p .stride + 1) (needed width height (p .stride)) (length (p .samples))
-      (λ (l : height ≤ (n - width) / p .stride + 1). omega (arith, rows .0 (omega arith)))
-      (λ (l : needed width height (p .stride) ≤ length (p .samples)). omega (arith, rows .1 (omega arith)))
+      let rows = le-div-iff-mul-le {k = p .stride} {x = height - 1} {y = rest} s in
+      same-test height (rest / p .stride + 1) (needed (size .width) (size .height) (p .stride)) (length (p .samples))
+      (λ (l : height ≤ rest / p .stride + 1). omega (arith, rows .0 (omega arith)))
+      (λ (l : Long size p). omega (arith, rows .1 (omega arith)))
 
 -- ---- test 6
 pub part-suits : (max width : ℕ) (samples : List ℕ) (stride y : ℕ) → y * stride + width ≤ length samples
@@ -75,11 +78,14 @@ part-suits max width samples stride y h =
     rw (part-length samples stride width y h) (none-ext max _ _ width (part-at samples stride width y))
 
 -- no byte is above a sample_max of 255, so that bytes need not be read
-pub bytes-suit : (depth width height stride : ℕ) (wide : Bool) (bytes words : List ℕ) {max : ℕ} → ((i : ℕ) → at bytes i ≤ 255)
-    → max ≡ maxOf depth → (not wide && leb 255 max) ≡ true
-    → samplesSuit depth width height (planeOf (samplesOf wide bytes words) stride) ≡ true
+pub bytes-suit : (size : Size) (stride : ℕ) (bytes words : List ℕ) {max : ℕ} → ((i : ℕ) → at bytes i ≤ 255)
+    → max ≡ maxOf (size .depth) → (not (size .wide) && leb 255 max) ≡ true → samplesSuit size (planeIn size bytes words stride) ≡ true
 unfolding samplesSuit rowSuits
-bytes-suit depth width height stride true bytes words small e t = cc
-bytes-suit depth width height stride false bytes words {max} small e t =
-    let top : 255 ≤ maxOf depth = omega (arith, leb-true 255 max t) in
-    all-true _ height (λ (y : ℕ). none-true _ _ width (λ (x : ℕ). le-trans (small (y * stride + x)) top))
+bytes-suit size stride bytes words {max} small e t = go (size .wide) t
+  where
+    go : (wide : Bool) → (not wide && leb 255 max) ≡ true
+        → allTo (rowSuits (maxOf (size .depth)) (size .width) (planeOf (samplesOf wide bytes words) stride)) (size .height) ≡ true
+    go true t = cc
+    go false t =
+        let top : 255 ≤ maxOf (size .depth) = omega (arith, leb-true 255 max t) in
+        all-true _ (size .height) (λ (y : ℕ). none-true _ _ (size .width) (λ (x : ℕ). le-trans (small (y * stride + x)) top))

@@ -7,10 +7,11 @@ use Prim.Native.Nat.{ℕ, zero, suc, min, _≤_}
 use Rattle.refusal.specs.Numbers.{strideNo, shortNo, sampleNo}
 use Rattle.refusal.specs.First.{firstBroken}
 use Rattle.refusal.proofs.Chain.{passed, go-on, stop}
+use Rattle.plane.specs.declared.Size.{Size}
 use Rattle.plane.specs.Plane.{Plane}
 use Rattle.plane.specs.Tests.{depthSuits, strideSuits, longEnough, samplesSuit}
 use Rattle.plane.specs.Tests.{sizeTests, layoutTests, planeTests, planeRefusal, lowerOf}
-use Rattle.plane.specs.Lawful.{Accepted}
+use Rattle.plane.specs.Inner.Lawful.{Accepted}
 use Rattle.plane.proofs.Accept.{sides-say, size-named, plane-named, accepted}
 
 -- the lowest of 4, 5 and 6
@@ -35,48 +36,42 @@ both true true false true true false = refl
 both true true false true true true = refl
 both true true true true true n = refl
 
-pub one-more : (p q : Plane) (more : List Plane) (width height depth : ℕ) → firstBroken (layoutTests (p ∷ q ∷ more) width height depth)
-    ≡ lowerOf (firstBroken (layoutTests (p ∷ []) width height depth)) (firstBroken (layoutTests (q ∷ more) width height depth))
+pub one-more : (size : Size) (p q : Plane) (more : List Plane) → firstBroken (layoutTests size (p ∷ q ∷ more))
+    ≡ lowerOf (firstBroken (layoutTests size (p ∷ []))) (firstBroken (layoutTests size (q ∷ more)))
 unfolding layoutTests
-one-more p q more width height depth =
-    simp and-true (both (strideSuits width (p .stride)) (longEnough width height p) (samplesSuit depth width height p) _ _ _)
+one-more size p q more =
+    simp and-true (both (strideSuits (size .width) (p .stride)) (longEnough size p) (samplesSuit size p) _ _ _)
 
 -- ---- after `size_refusal`, which answered n
-module _ {n : ℕ} (wide : Bool) (width height depth least : ℕ) (e : n ≡ firstBroken (sizeTests wide width height depth least)) where
+module _ {n : ℕ} (size : Size) (least : ℕ) (e : n ≡ firstBroken (sizeTests size least)) where
   -- it refused: that is the answer
-  pub sizes-stop : (planes : List Plane) → (n ≡ 0 → ⊥) → n ≡ planeRefusal wide planes width height depth least
-  sizes-stop planes h = stop (sizeTests wide width height depth least) (layoutTests planes width height depth) e h
+  pub sizes-stop : (planes : List Plane) → (n ≡ 0 → ⊥) → n ≡ planeRefusal size planes least
+  sizes-stop planes h = stop (sizeTests size least) (layoutTests size planes) e h
 
   -- it did not: the answer is that of the tests of the planes
-  pub sizes-pass : {m : ℕ} (planes : List Plane) → n ≡ 0 → m ≡ firstBroken (layoutTests planes width height depth)
-      → m ≡ planeRefusal wide planes width height depth least
-  sizes-pass planes z f =
-      let named = size-named wide width height depth least in
-      go-on (sizeTests wide width height depth least) (layoutTests planes width height depth) named e z f
+  pub sizes-pass : {m : ℕ} (planes : List Plane) → n ≡ 0 → m ≡ firstBroken (layoutTests size planes) → m ≡ planeRefusal size planes least
+  sizes-pass planes z f = go-on (sizeTests size least) (layoutTests size planes) (size-named size least) e z f
 
   -- and these may count on so much
-  pub sizes-say : n ≡ 0 → (depthSuits wide depth ≡ true) × (1 ≤ width)
+  pub sizes-say : n ≡ 0 → (depthSuits (size .wide) (size .depth) ≡ true) × (1 ≤ size .width)
   unfolding sizeTests
   sizes-say z =
-      let t = passed (sizeTests wide width height depth least) (size-named wide width height depth least) (sym e ∙ z) in
-      (t .0, sides-say width height (t .1 .0) .0 .0)
+      let t = passed (sizeTests size least) (size-named size least) (sym e ∙ z) in
+      (t .0, sides-say (size .width) (size .height) (t .1 .0) .0 .0)
 
--- ---- after `check`, which answered n: a call whose own tests are `more`
-module _ {n : ℕ} (wide : Bool) (planes : List Plane) (width height depth least : ℕ) (e : n ≡ planeRefusal wide planes width height depth least) where
-  -- it refused: that is the answer
-  pub planes-stop : (more : List (ℕ × Bool)) → (n ≡ 0 → ⊥) → n ≡ firstBroken (planeTests wide planes width height depth least ++ more)
-  planes-stop more h = stop (planeTests wide planes width height depth least) more e h
+-- ---- after the tests of so many planes, which gave n: a call whose own tests are `more`
+module _ {n : ℕ} (size : Size) (planes : List Plane) (least : ℕ) (e : n ≡ planeRefusal size planes least) where
+  -- they refused: that is the answer
+  pub planes-stop : (more : List (ℕ × Bool)) → (n ≡ 0 → ⊥) → n ≡ firstBroken (planeTests size planes least ++ more)
+  planes-stop more h = stop (planeTests size planes least) more e h
 
-  -- it did not: the answer is that of the call's own tests
-  pub planes-pass : {m : ℕ} (more : List (ℕ × Bool)) → n ≡ 0 → m ≡ firstBroken more
-      → m ≡ firstBroken (planeTests wide planes width height depth least ++ more)
-  planes-pass more z f =
-      let named = plane-named wide planes width height depth least in
-      go-on (planeTests wide planes width height depth least) more named e z f
+  -- they did not: the answer is that of the call's own tests
+  pub planes-pass : {m : ℕ} (more : List (ℕ × Bool)) → n ≡ 0 → m ≡ firstBroken more → m ≡ firstBroken (planeTests size planes least ++ more)
+  planes-pass more z f = go-on (planeTests size planes least) more (plane-named size planes least) e z f
 
   -- and the planes are lawful
-  pub planes-say : n ≡ 0 → Accepted wide planes width height depth least
-  planes-say z = accepted wide planes width height depth least (sym e ∙ z)
+  pub planes-say : n ≡ 0 → Accepted size planes least
+  planes-say z = accepted size planes least (sym e ∙ z)
 
 -- ---- the lower of two
 pub lower-left : (a b : ℕ) → (a ≡ 0 → ⊥) → b ≡ 0 → a ≡ lowerOf a b

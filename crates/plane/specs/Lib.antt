@@ -2,4 +2,4 @@ pub mod Limits
 pub mod Plane
 pub mod Sums
 pub mod Tests
-pub mod Lawful
+pub mod Inner

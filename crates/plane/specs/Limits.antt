@@ -1,4 +1,4 @@
--- Document 01, "What a plane may be" and "When the desk says no": the limits, each number once, under a name. Samples are bytes, or
+-- SCOPE, "What a plane may be" and "When the desk says no": the limits, each number once, under a name. Samples are bytes, or
 -- words of 16 bits: `wide` is true of words. Definitions only.
 use mathlib.Core.Bool.{Bool, true, false}
 use Prim.Native.Nat.{ℕ}

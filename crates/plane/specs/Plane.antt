@@ -1,8 +1,11 @@
--- Document 01, "What a plane may be". Definitions only.
+-- SCOPE, "What a plane may be". Definitions only.
 use mathlib.Core.Bool.{Bool, true, false, _&&_}
 use mathlib.Core.List.{List, [], _∷_}
-use Prim.Native.Nat.{ℕ, zero, suc, _+_, _*_, _-_, _^_}
-use lib.ListN.{getD}
+use Prim.Native.Nat.{ℕ, zero, suc, _+_, _*_, _-_, _^_, _≤_}
+use lib.ListN.{length, getD}
+use denote.Ref.{RefT, now}
+use Rattle.plane.specs.declared.Size.{Size}
+use Rattle.plane.specs.declared.Layout.{Layout}
 
 -- a plane as it is lent: its samples, one after another, and its stride
 pub record Plane : Type 0 where
@@ -17,6 +20,40 @@ abbrev pub samplesOf : Bool → List ℕ → List ℕ → List ℕ
 samplesOf true bytes words = words
 samplesOf false bytes words = bytes
 
+-- the two planes of a call, and what they share
+pub record Planes : Type 0 where
+  pub size : Size
+  pub a : Plane
+  pub b : Plane
+
+abbrev pub sizeOf : Bool → ℕ → ℕ → ℕ → Size
+sizeOf wide width height depth = record { wide = wide; width = width; height = height; depth = depth }
+
+abbrev pub planesOf : Size → Plane → Plane → Planes
+planesOf size a b = record { size = size; a = a; b = b }
+
+abbrev pub both : Planes → List Plane
+both p = p .a ∷ p .b ∷ []
+
+-- the plane, and the two planes, that stand in lists of bytes and of words
+abbrev pub planeIn : Size → List ℕ → List ℕ → ℕ → Plane
+planeIn size bytes words stride = planeOf (samplesOf (size .wide) bytes words) stride
+
+abbrev pub planesIn : Layout → List ℕ → List ℕ → List ℕ → List ℕ → Planes
+planesIn layout a8 a16 b8 b16 =
+    let size = layout .size in planesOf size (planeIn size a8 a16 (layout .«stride_a»)) (planeIn size b8 b16 (layout .«stride_b»))
+
+-- the same of slices, as a contract has them
+abbrev pub lent : Size → RefT (List ℕ) → RefT (List ℕ) → ℕ → Plane
+lent size bytes words stride = planeIn size (now bytes) (now words) stride
+
+abbrev pub planes : Layout → RefT (List ℕ) → RefT (List ℕ) → RefT (List ℕ) → RefT (List ℕ) → Planes
+planes layout a8 a16 b8 b16 = planesIn layout (now a8) (now a16) (now b8) (now b16)
+
+-- the same of a call that is lent planes of one width, as its parameters stand
+abbrev pub called : Bool → RefT (List ℕ) → RefT (List ℕ) → ℕ → ℕ → ℕ → ℕ → ℕ → Planes
+called wide a b width height strideA strideB depth = planesOf (sizeOf wide width height depth) (planeOf (now a) strideA) (planeOf (now b) strideB)
+
 -- "sample_max is 2^depth - 1"
 unfoldable pub maxOf : ℕ → ℕ
 maxOf depth = 2 ^ depth - 1
@@ -25,13 +62,16 @@ maxOf depth = 2 ^ depth - 1
 abbrev pub at : List ℕ → ℕ → ℕ
 at samples i = getD samples i 0
 
--- "Sample (x, y) stands at y × stride + x"
+-- the sample in row r and column c, c samples after the row's first
 abbrev pub sampleAt : Plane → ℕ → ℕ → ℕ
-sampleAt p x y = at (p .samples) (y * p .stride + x)
+sampleAt p r c = at (p .samples) (r * p .stride + c)
 
 -- "A plane must reach stride × (height - 1) + width samples"
 abbrev pub needed : ℕ → ℕ → ℕ → ℕ
 needed width height stride = stride * (height - 1) + width
+
+abbrev pub Long : Size → Plane → Type 0
+Long size p = needed (size .width) (size .height) (p .stride) ≤ length (p .samples)
 
 -- f holds at every index below n
 unfoldable pub allTo : (ℕ → Bool) → ℕ → Bool

@@ -1,13 +1,14 @@
--- Document 01, "When the desk says no", 1 to 6: each test, true where the number is not given, and their list. Definitions only.
+-- SCOPE, "When the desk says no", 1 to 6: each test, true where the number is not given, and their list. Definitions only.
 use mathlib.Core.Bool.{Bool, _&&_}
 use mathlib.Core.List.{List, [], _∷_, _++_}
 use Prim.Native.Nat.{ℕ, zero, suc, min}
 use lib.Dec.{leb}
 use lib.ListN.{length}
-use Rattle.refusal.specs.Numbers.{depthNo, sideNo, smallNo, strideNo, shortNo, sampleNo}
+use Rattle.refusal.specs.Numbers.{depthNo, sizeNo, sideNo, strideNo, shortNo, sampleNo}
 use Rattle.refusal.specs.First.{firstBroken}
 use Rattle.plane.specs.Limits.{sideLimit, strideLimit, leastDepth, mostDepth}
-use Rattle.plane.specs.Plane.{Plane, maxOf, sampleAt, needed, allTo, every}
+use Rattle.plane.specs.declared.Size.{Size}
+use Rattle.plane.specs.Plane.{Plane, Planes, both, maxOf, sampleAt, needed, allTo, every}
 
 -- 1: the depth suits the sample width
 unfoldable pub depthSuits : Bool → ℕ → Bool
@@ -29,41 +30,51 @@ unfoldable pub strideSuits : ℕ → ℕ → Bool
 strideSuits width stride = leb width stride && leb stride strideLimit
 
 -- 5: the plane is not too short
-unfoldable pub longEnough : ℕ → ℕ → Plane → Bool
-longEnough width height p = leb (needed width height (p .stride)) (length (p .samples))
+unfoldable pub longEnough : Size → Plane → Bool
+longEnough size p = leb (needed (size .width) (size .height) (p .stride)) (length (p .samples))
 
 -- none of the first n values of f is above max
 unfoldable pub noneAbove : ℕ → (ℕ → ℕ) → ℕ → Bool
 noneAbove max f n = allTo (λ (i : ℕ). leb (f i) max) n
 
--- no visible sample of row y is above max
+-- no visible sample of row r is above max
 unfoldable pub rowSuits : ℕ → ℕ → Plane → ℕ → Bool
-rowSuits max width p y = noneAbove max (λ (x : ℕ). sampleAt p x y) width
+rowSuits max width p r = noneAbove max (sampleAt p r) width
 
 -- 6: no visible sample is above sample_max
-unfoldable pub samplesSuit : ℕ → ℕ → ℕ → Plane → Bool
-samplesSuit depth width height p = allTo (rowSuits (maxOf depth) width p) height
+unfoldable pub samplesSuit : Size → Plane → Bool
+samplesSuit size p = allTo (rowSuits (maxOf (size .depth)) (size .width) p) (size .height)
 
--- the tests of what all planes of a call share
-unfoldable pub sizeTests : Bool → ℕ → ℕ → ℕ → ℕ → List (ℕ × Bool)
-sizeTests wide width height depth least =
-    (depthNo, depthSuits wide depth) ∷ (sideNo, sidesSuit width height) ∷ (smallNo, sidesReach least width height) ∷ []
-
--- the tests of each plane
-unfoldable pub layoutTests : List Plane → ℕ → ℕ → ℕ → List (ℕ × Bool)
-layoutTests planes width height depth =
-    (strideNo, every (λ (p : Plane). strideSuits width (p .stride)) planes)
-    ∷ (shortNo, every (longEnough width height) planes)
-    ∷ (sampleNo, every (samplesSuit depth width height) planes)
+-- the tests of what all planes of a call share; `least` is the call's least side
+unfoldable pub sizeTests : Size → ℕ → List (ℕ × Bool)
+sizeTests size least =
+    (depthNo, depthSuits (size .wide) (size .depth))
+    ∷ (sizeNo, sidesSuit (size .width) (size .height))
+    ∷ (sideNo, sidesReach least (size .width) (size .height))
     ∷ []
 
--- 1 to 6, in ascending order
-abbrev pub planeTests : Bool → List Plane → ℕ → ℕ → ℕ → ℕ → List (ℕ × Bool)
-planeTests wide planes width height depth least = sizeTests wide width height depth least ++ layoutTests planes width height depth
+-- the tests of each plane
+unfoldable pub layoutTests : Size → List Plane → List (ℕ × Bool)
+layoutTests size planes =
+    (strideNo, every (λ (p : Plane). strideSuits (size .width) (p .stride)) planes)
+    ∷ (shortNo, every (longEnough size) planes)
+    ∷ (sampleNo, every (samplesSuit size) planes)
+    ∷ []
+
+-- 1 to 6 of so many planes, in ascending order
+abbrev pub planeTests : Size → List Plane → ℕ → List (ℕ × Bool)
+planeTests size planes least = sizeTests size least ++ layoutTests size planes
 
 -- the lowest of 1 to 6 that applies, and 0 where none does
-abbrev pub planeRefusal : Bool → List Plane → ℕ → ℕ → ℕ → ℕ → ℕ
-planeRefusal wide planes width height depth least = firstBroken (planeTests wide planes width height depth least)
+abbrev pub planeRefusal : Size → List Plane → ℕ → ℕ
+planeRefusal size planes least = firstBroken (planeTests size planes least)
+
+-- the same of the two planes of a call
+abbrev pub pairTests : Planes → ℕ → List (ℕ × Bool)
+pairTests p least = planeTests (p .size) (both p) least
+
+abbrev pub pairRefusal : Planes → ℕ → ℕ
+pairRefusal p least = planeRefusal (p .size) (both p) least
 
 -- of two refusals the lower, where 0 is none
 abbrev pub lowerOf : ℕ → ℕ → ℕ

@@ -1,4 +1,4 @@
-// What a plane may be, after document 01: its limits, the tests 1 to 6 that a call makes before it reads, and the samples of a plane
+// What a plane may be, after docs/SCOPE.md: its limits, the tests 1 to 6 that a call makes before it reads, and the samples of a plane
 // of either width. A plane's samples come as two slices, bytes and words: `wide` says which is the plane, and the other is not read.
 ghost use mathlib.Core.Path.{_≡_};
 ghost use mathlib.Core.Bool.{true, false};
@@ -7,14 +7,29 @@ ghost use Prim.Native.Nat.{_+_, _*_, _<_, _≤_};
 ghost use lib.ListN.{length};
 ghost use Rattle.refusal.specs.First.{firstBroken};
 ghost use Rattle.plane.specs.Limits.{mostDepth};
-ghost use Rattle.plane.specs.Plane.{planeOf, samplesOf, maxOf, at, needed, allTo};
+ghost use Rattle.plane.specs.Plane.{samplesOf, lent, planes, called, Long, maxOf, at, allTo};
 ghost use Rattle.plane.specs.Tests.{depthSuits, sidesSuit, sidesReach, strideSuits, longEnough};
-ghost use Rattle.plane.specs.Tests.{noneAbove, rowSuits, samplesSuit, sizeTests, layoutTests, lowerOf, planeRefusal};
+ghost use Rattle.plane.specs.Tests.{noneAbove, rowSuits, samplesSuit, sizeTests, layoutTests, lowerOf, pairRefusal};
 
 // The largest width and the largest height.
 pub const SIDE_LIMIT: usize = 8192;
 // The largest stride.
 pub const STRIDE_LIMIT: usize = 16384;
+
+// What two planes share: whether their samples are words, their sides in samples, and their depth.
+pub struct Size {
+    pub wide: bool,
+    pub width: usize,
+    pub height: usize,
+    pub depth: u32,
+}
+
+// Two planes as they are lent: what they share, and the stride of each.
+pub struct Layout {
+    pub size: Size,
+    pub stride_a: usize,
+    pub stride_b: usize,
+}
 
 // The largest byte.
 const BYTE_MAX: u32 = 255;
@@ -79,18 +94,13 @@ pub fn count(bytes: &[u8], words: &[u16], wide: bool) -> usize
 }
 
 // Test 5, of one plane. It divides, so that no product of free numbers has to fit.
-pub fn long_enough(
-    bytes: &[u8],
-    words: &[u16],
-    wide: bool,
-    width: usize,
-    height: usize,
-    stride: usize,
-) -> bool
-    requires { ⌜ (1 ≤ width) × (width ≤ stride) ⌝ }
-    ensures { λ r. ⌜ r ≡ longEnough width height (planeOf (samplesOf wide (now (bytes .entry)) (now (words .entry))) stride) ⌝ }
+pub fn long_enough(bytes: &[u8], words: &[u16], size: Size, stride: usize) -> bool
+    requires { ⌜ (1 ≤ size .width) × (size .width ≤ stride) ⌝ }
+    ensures { λ r. ⌜ r ≡ longEnough size (lent size (bytes .entry) (words .entry) stride) ⌝ }
 {
-    let n = count(bytes, words, wide);
+    let width = size.width;
+    let height = size.height;
+    let n = count(bytes, words, size.wide);
     if n < width {
         return false;
     }
@@ -119,108 +129,77 @@ fn row_suits16(row: &[u16], max: u16) -> bool
 }
 
 // The same of row `y` of a plane.
-fn row_suits(
-    bytes: &[u8],
-    words: &[u16],
-    wide: bool,
-    width: usize,
-    stride: usize,
-    y: usize,
-    max: u32,
-) -> bool
-    requires { ⌜ y * stride + width ≤ length (samplesOf wide (now bytes) (now words)) ⌝ }
-    requires { ⌜ max ≤ maxOf (mostDepth wide) ⌝ }
-    ensures { λ r. ⌜ r ≡ rowSuits max width (planeOf (samplesOf wide (now (bytes .entry)) (now (words .entry))) stride) y ⌝ }
+fn row_suits(bytes: &[u8], words: &[u16], size: Size, stride: usize, y: usize, max: u32) -> bool
+    requires { ⌜ y * stride + size .width ≤ length (samplesOf (size .wide) (now bytes) (now words)) ⌝ }
+    requires { ⌜ max ≤ maxOf (mostDepth (size .wide)) ⌝ }
+    ensures { λ r. ⌜ r ≡ rowSuits max (size .width) (lent size (bytes .entry) (words .entry) stride) y ⌝ }
 {
+    let width = size.width;
     let start = y * stride;
     let end = start + width;
-    if wide {
+    if size.wide {
         row_suits16(&words[start..end], max as u16)
     } else {
         row_suits8(&bytes[start..end], max as u8)
     }
 }
 
-// The same of the first `height` rows. What stands between rows is never read.
-fn rows_suit(
-    bytes: &[u8],
-    words: &[u16],
-    wide: bool,
-    width: usize,
-    height: usize,
-    stride: usize,
-    max: u32,
-) -> bool
-    requires { ⌜ needed width height stride ≤ length (samplesOf wide (now bytes) (now words)) ⌝ }
-    requires { ⌜ max ≤ maxOf (mostDepth wide) ⌝ }
-    ensures { λ r. ⌜ r ≡ allTo (rowSuits max width (planeOf (samplesOf wide (now (bytes .entry)) (now (words .entry))) stride)) height ⌝ }
+// The same of every row. What stands between rows is never read.
+fn rows_suit(bytes: &[u8], words: &[u16], size: Size, stride: usize, max: u32) -> bool
+    requires { ⌜ Long size (lent size bytes words stride) ⌝ }
+    requires { ⌜ max ≤ maxOf (mostDepth (size .wide)) ⌝ }
+    ensures { λ r. ⌜ r ≡ allTo (rowSuits max (size .width) (lent size (bytes .entry) (words .entry) stride)) (size .height) ⌝ }
 {
     let mut ok = true;
-    for y in 0..height {
-        ok = ok & row_suits(bytes, words, wide, width, stride, y, max);
+    for y in 0..size.height {
+        ok = ok & row_suits(bytes, words, size, stride, y, max);
     }
     ok
 }
 
 // Test 6, of one plane. No byte can be above the sample_max of the largest depth of bytes, so those are not read.
-pub fn samples_suit(
-    bytes: &[u8],
-    words: &[u16],
-    wide: bool,
-    width: usize,
-    height: usize,
-    stride: usize,
-    depth: u32,
-) -> bool
-    requires { ⌜ depthSuits wide depth ≡ true ⌝ }
-    requires { ⌜ needed width height stride ≤ length (samplesOf wide (now bytes) (now words)) ⌝ }
-    ensures { λ r. ⌜ r ≡ samplesSuit depth width height (planeOf (samplesOf wide (now (bytes .entry)) (now (words .entry))) stride) ⌝ }
+pub fn samples_suit(bytes: &[u8], words: &[u16], size: Size, stride: usize) -> bool
+    requires { ⌜ depthSuits (size .wide) (size .depth) ≡ true ⌝ }
+    requires { ⌜ Long size (lent size bytes words stride) ⌝ }
+    ensures { λ r. ⌜ r ≡ samplesSuit size (lent size (bytes .entry) (words .entry) stride) ⌝ }
 {
-    let max = sample_max(depth);
+    let wide = size.wide;
+    let max = sample_max(size.depth);
     if !wide & (BYTE_MAX <= max) {
         return true;
     }
-    rows_suit(bytes, words, wide, width, height, stride, max)
+    rows_suit(bytes, words, size, stride, max)
 }
 
 // The lowest of 1, 2 and 3 that applies, and 0 where none does. `least` is the call's least side, 0 where 3 does not belong to it.
-pub fn size_refusal(wide: bool, width: usize, height: usize, depth: u32, least: usize) -> u8
-    ensures { λ r. ⌜ r ≡ firstBroken (sizeTests wide width height depth least) ⌝ }
+pub fn size_refusal(size: Size, least: usize) -> u8
+    ensures { λ r. ⌜ r ≡ firstBroken (sizeTests size least) ⌝ }
 {
-    if !depth_suits(wide, depth) {
+    if !depth_suits(size.wide, size.depth) {
         return refusal::DEPTH;
     }
-    if !sides_suit(width, height) {
-        return refusal::SIDE;
+    if !sides_suit(size.width, size.height) {
+        return refusal::SIZE;
     }
-    if !sides_reach(least, width, height) {
-        return refusal::SMALL;
+    if !sides_reach(least, size.width, size.height) {
+        return refusal::SIDE;
     }
     0
 }
 
 // The lowest of 4, 5 and 6 that applies to one plane, and 0 where none does.
-pub fn layout_refusal(
-    bytes: &[u8],
-    words: &[u16],
-    wide: bool,
-    width: usize,
-    height: usize,
-    stride: usize,
-    depth: u32,
-) -> u8
-    requires { ⌜ depthSuits wide depth ≡ true ⌝ }
-    requires { ⌜ 1 ≤ width ⌝ }
-    ensures { λ r. ⌜ r ≡ firstBroken (layoutTests
-        (planeOf (samplesOf wide (now (bytes .entry)) (now (words .entry))) stride ∷ []) width height depth) ⌝ }
+pub fn layout_refusal(bytes: &[u8], words: &[u16], size: Size, stride: usize) -> u8
+    requires { ⌜ depthSuits (size .wide) (size .depth) ≡ true ⌝ }
+    requires { ⌜ 1 ≤ size .width ⌝ }
+    ensures { λ r. ⌜ r ≡ firstBroken (layoutTests size (lent size (bytes .entry) (words .entry) stride ∷ [])) ⌝ }
 {
-    if !stride_suits(width, stride) {
+    if !stride_suits(size.width, stride) {
         return refusal::STRIDE;
     }
-    if !long_enough(bytes, words, wide, width, height, stride) {
+    if !long_enough(bytes, words, size, stride) {
         return refusal::SHORT;
     }
-    if !samples_suit(bytes, words, wide, width, height, stride, depth) {
+    if !samples_suit(bytes, words, size, stride) {
         return refusal::SAMPLE;
     }
     0
@@ -240,29 +219,15 @@ pub fn lower(a: u8, b: u8) -> u8
 }
 
 // The lowest of 1 to 6 that applies to two planes of either width, and 0 where none does.
-pub fn check(
-    a8: &[u8],
-    a16: &[u16],
-    b8: &[u8],
-    b16: &[u16],
-    wide: bool,
-    width: usize,
-    height: usize,
-    stride_a: usize,
-    stride_b: usize,
-    depth: u32,
-    least: usize,
-) -> u8
-    ensures { λ r. ⌜ r ≡ planeRefusal wide
-        (planeOf (samplesOf wide (now (a8 .entry)) (now (a16 .entry))) «stride_a»
-        ∷ planeOf (samplesOf wide (now (b8 .entry)) (now (b16 .entry))) «stride_b» ∷ []) width height depth least ⌝ }
+pub fn check(a8: &[u8], a16: &[u16], b8: &[u8], b16: &[u16], layout: Layout, least: usize) -> u8
+    ensures { λ r. ⌜ r ≡ pairRefusal (planes layout (a8 .entry) (a16 .entry) (b8 .entry) (b16 .entry)) least ⌝ }
 {
-    let no = size_refusal(wide, width, height, depth, least);
+    let no = size_refusal(layout.size, least);
     if no != 0 {
         return no;
     }
-    let no_a = layout_refusal(a8, a16, wide, width, height, stride_a, depth);
-    let no_b = layout_refusal(b8, b16, wide, width, height, stride_b, depth);
+    let no_a = layout_refusal(a8, a16, layout.size, layout.stride_a);
+    let no_b = layout_refusal(b8, b16, layout.size, layout.stride_b);
     lower(no_a, no_b)
 }
 
@@ -278,22 +243,20 @@ pub fn check8(
     depth: u32,
     least: usize,
 ) -> u8
-    ensures { λ r. ⌜ r ≡ planeRefusal false (planeOf (now (a .entry)) «stride_a» ∷ planeOf (now (b .entry)) «stride_b» ∷ [])
-        width height depth least ⌝ }
+    ensures { λ r. ⌜ r ≡ pairRefusal (called false (a .entry) (b .entry) width height «stride_a» «stride_b» depth) least ⌝ }
 {
-    check(
-        a,
-        &[0u16; 0],
-        b,
-        &[0u16; 0],
-        false,
+    let size = Size {
+        wide: false,
         width,
         height,
+        depth,
+    };
+    let layout = Layout {
+        size,
         stride_a,
         stride_b,
-        depth,
-        least,
-    )
+    };
+    check(a, &[0u16; 0], b, &[0u16; 0], layout, least)
 }
 
 // The same of words.
@@ -307,20 +270,18 @@ pub fn check16(
     depth: u32,
     least: usize,
 ) -> u8
-    ensures { λ r. ⌜ r ≡ planeRefusal true (planeOf (now (a .entry)) «stride_a» ∷ planeOf (now (b .entry)) «stride_b» ∷ [])
-        width height depth least ⌝ }
+    ensures { λ r. ⌜ r ≡ pairRefusal (called true (a .entry) (b .entry) width height «stride_a» «stride_b» depth) least ⌝ }
 {
-    check(
-        &[0u8; 0],
-        a,
-        &[0u8; 0],
-        b,
-        true,
+    let size = Size {
+        wide: true,
         width,
         height,
+        depth,
+    };
+    let layout = Layout {
+        size,
         stride_a,
         stride_b,
-        depth,
-        least,
-    )
+    };
+    check(&[0u8; 0], a, &[0u8; 0], b, layout, least)
 }

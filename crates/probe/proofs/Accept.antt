@@ -9,7 +9,7 @@ use native.Mathlib.Omega.{arith}
 use borrow.Author.Tests.{leb-true}
 use lib.Dec.{leb, lit≤}
 use lib.ListN.{length, List·getD-eq-default}
-use Rattle.refusal.specs.Numbers.{sideNo, shortNo, sampleNo}
+use Rattle.refusal.specs.Numbers.{sizeNo, shortNo, sampleNo}
 use Rattle.refusal.proofs.Chain.{passed}
 use Rattle.plane.specs.Limits.{sideLimit}
 use Rattle.plane.specs.Plane.{at}
@@ -29,7 +29,7 @@ pub sound : (width height : ℕ) (room : List ℕ) → downscaleRefusal width he
     → ((height ≤ sideLimit) × (height * width ≤ length room)) × ((k : ℕ) → at room k ≤ mostSample)
 sound width height room e =
     let tests : List (ℕ × _) =
-    (sideNo, sidesSuit width height)
+    (sizeNo, sidesSuit width height)
     ∷ (shortNo, leb (height * width) (length room))
     ∷ (sampleNo, noneAbove mostSample (at room) (length room))
     ∷ [] in

@@ -4,11 +4,11 @@ use mathlib.Core.List.{List, [], _∷_}
 use Prim.Native.Nat.{ℕ, zero, suc, _*_, _/_}
 use lib.Dec.{leb}
 use lib.ListN.{length}
-use Rattle.refusal.specs.Numbers.{sideNo, shortNo, sampleNo}
+use Rattle.refusal.specs.Numbers.{sizeNo, shortNo, sampleNo}
 use Rattle.refusal.specs.First.{firstBroken}
-use Rattle.plane.specs.Plane.{planeOf, at}
+use Rattle.plane.specs.Plane.{planeOf, at, sampleAt}
 use Rattle.plane.specs.Tests.{sidesSuit, noneAbove}
-use Rattle.window.specs.Columns.{viewOf, mostSample}
+use Rattle.window.specs.Columns.{mostSample}
 use Rattle.downscale.specs.Summed.{summedOf}
 use Rattle.downscale.specs.Rooms.{Filled}
 
@@ -17,12 +17,12 @@ use Rattle.downscale.specs.Rooms.{Filled}
 abbrev pub downscaleRefusal : ℕ → ℕ → List ℕ → ℕ
 downscaleRefusal width height room =
     firstBroken
-    ((sideNo, sidesSuit width height)
+    ((sizeNo, sidesSuit width height)
     ∷ (shortNo, leb (height * width) (length room))
     ∷ (sampleNo, noneAbove mostSample (at room) (length room))
     ∷ [])
 
 -- what then stands there: the scale below, row after row, and what stood after it; or what stood there
 abbrev pub Later : ℕ → ℕ → ℕ → List ℕ → List ℕ → Type 0
-Later zero width height old new = Filled old new (width / 2) (summedOf (viewOf (planeOf old width))) (height / 2)
+Later zero width height old new = Filled old new (width / 2) (summedOf (sampleAt (planeOf old width))) (height / 2)
 Later (suc n) width height old new = new ≡ old

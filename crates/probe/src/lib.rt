@@ -25,7 +25,7 @@ fn refusal(room: &[u32], width: usize, height: usize) -> u8
     ensures { λ r. ⌜ r ≡ downscaleRefusal width height (now (room .entry)) ⌝ }
 {
     if !plane::sides_suit(width, height) {
-        return refusal::SIDE;
+        return refusal::SIZE;
     }
     if room.len() < height * width {
         return refusal::SHORT;

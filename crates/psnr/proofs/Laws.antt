@@ -11,12 +11,14 @@ use lib.Dec.{lit≤}
 use lib.IntN.{pos}
 use lib.Ieee.{binary64, ofInt}
 use Rattle.plane.specs.Limits.{sideLimit, leastDepth, mostDepth}
-use Rattle.plane.specs.Plane.{Plane, maxOf, sampleAt, every}
-use Rattle.plane.specs.Tests.{layoutTests, planeRefusal, longEnough, samplesSuit, strideSuits}
-use Rattle.plane.specs.Lawful.{Accepted, Alike}
+use Rattle.plane.specs.declared.Size.{Size}
+use Rattle.plane.specs.Plane.{Plane, Planes, planesOf, maxOf, sampleAt, every}
+use Rattle.plane.specs.Sums.{sumTo}
+use Rattle.plane.specs.Tests.{layoutTests, pairRefusal, longEnough, samplesSuit, strideSuits}
+use Rattle.plane.specs.Inner.Lawful.{AcceptedPair, Alike}
 use Rattle.plane.proofs.Sums.{sum-ext, sum-zero}
 use Rattle.psnr.specs.Limits.{countLimit, totalLimit}
-use Rattle.psnr.specs.Squared.{squareOf, rowError, errorOf, recordOf, squaredErrorOf}
+use Rattle.psnr.specs.Squared.{squareOf, rowError, errorTo, errorOf, recordOf, squaredErrorOf}
 use Rattle.psnr.specs.Record.{countSuits, maxSuits, errorSuits, lawful}
 use Rattle.psnr.proofs.Squares.{error-le, error-below, deepest, walkable, count-le}
 use Rattle.psnr.proofs.Lawful.{some-true}
@@ -32,25 +34,26 @@ unfolding squareOf
 square-swap a b = let z : a - b + (b - a) ≡ b - a + (a - b) = omega arith in rw z
 
 -- ---- the planes
--- padding, strides and what comes after the last row do not count
-pub visible-only : (a b a′ b′ : Plane) (width height : ℕ) → Alike width height a a′ → Alike width height b b′
-    → errorOf a b width height ≡ errorOf a′ b′ width height
-unfolding errorOf rowError
-visible-only a b a′ b′ width height p q =
-    sum-ext _ _ height (λ (y : ℕ) (ly : y < height). sum-ext _ _ width (λ (x : ℕ) (lx : x < width). rw (p x y lx ly, q x y lx ly)))
+module _ (size : Size) where
+  abbrev rows : (f g : ℕ → ℕ → ℕ) → ((y x : ℕ) → y < size .height → x < size .width → f y x ≡ g y x)
+      → sumTo (λ (y : ℕ). sumTo (f y) (size .width)) (size .height) ≡ sumTo (λ (y : ℕ). sumTo (g y) (size .width)) (size .height)
+  rows f g h = sum-ext _ _ (size .height) (λ y ly. sum-ext _ _ (size .width) (λ x lx. h y x ly lx))
 
--- equal planes give 0
-pub equal-planes : (a b : Plane) (width height : ℕ) → Alike width height a b → errorOf a b width height ≡ 0
-unfolding errorOf rowError
-equal-planes a b width height p =
-    sum-zero _ height
-    (λ (y : ℕ) (ly : y < height). sum-zero _ width (λ (x : ℕ) (lx : x < width). rw (p x y lx ly) (square-same (sampleAt b x y))))
+  -- padding, strides and what comes after the last row do not count
+  pub visible-only : (a b a′ b′ : Plane) → Alike size a a′ → Alike size b b′ → errorOf (planesOf size a b) ≡ errorOf (planesOf size a′ b′)
+  unfolding errorTo rowError
+  visible-only a b a′ b′ p q = rows _ _ (λ y x ly lx. rw (p y x ly lx, q y x ly lx))
 
--- the error is the same when the planes are exchanged
-pub exchanged : (a b : Plane) (width height : ℕ) → errorOf a b width height ≡ errorOf b a width height
-unfolding errorOf rowError
-exchanged a b width height =
-    sum-ext _ _ height (λ (y : ℕ) (ly : y < height). sum-ext _ _ width (λ (x : ℕ) (lx : x < width). square-swap (sampleAt a x y) (sampleAt b x y)))
+  -- equal planes give 0
+  pub equal-planes : (a b : Plane) → Alike size a b → errorOf (planesOf size a b) ≡ 0
+  unfolding errorTo rowError
+  equal-planes a b p =
+      sum-zero _ (size .height) (λ y ly. sum-zero _ (size .width) (λ x lx. rw (p y x ly lx) (square-same (sampleAt b y x))))
+
+  -- the error is the same when the planes are exchanged
+  pub exchanged : (a b : Plane) → errorOf (planesOf size a b) ≡ errorOf (planesOf size b a)
+  unfolding errorTo rowError
+  exchanged a b = rows _ _ (λ y x ly lx. square-swap (sampleAt a y x) (sampleAt b y x))
 
 -- and so is the whole answer
 every-swap : (f : Plane → Bool) (a b : Plane) → every f (a ∷ b ∷ []) ≡ every f (b ∷ a ∷ [])
@@ -62,15 +65,14 @@ every-swap f a b = go (f a) (f b)
     go false true = refl
     go false false = refl
 
-refusal-exchanged : (wide : Bool) (a b : Plane) (width height depth least : ℕ)
-    → planeRefusal wide (a ∷ b ∷ []) width height depth least ≡ planeRefusal wide (b ∷ a ∷ []) width height depth least
+refusal-exchanged : (size : Size) (a b : Plane) (least : ℕ) → pairRefusal (planesOf size a b) least ≡ pairRefusal (planesOf size b a) least
 unfolding layoutTests
-refusal-exchanged wide a b width height depth least =
-    rw (every-swap (λ (p : Plane). strideSuits width (p .stride)) a b, every-swap (longEnough width height) a b, every-swap (samplesSuit depth width height) a b)
+refusal-exchanged size a b least =
+    rw (every-swap (λ (p : Plane). strideSuits (size .width) (p .stride)) a b, every-swap (longEnough size) a b, every-swap (samplesSuit size) a b)
 
-pub answer-exchanged : (wide : Bool) (a b : Plane) (width height depth : ℕ) → squaredErrorOf wide a b width height depth ≡ squaredErrorOf wide b a width height depth
+pub answer-exchanged : (size : Size) (a b : Plane) → squaredErrorOf (planesOf size a b) ≡ squaredErrorOf (planesOf size b a)
 unfolding squaredErrorOf
-answer-exchanged wide a b width height depth = rw (refusal-exchanged wide a b width height depth 0, exchanged a b width height)
+answer-exchanged size a b = rw (refusal-exchanged size a b 0, exchanged size a b)
 
 -- ---- the record
 -- no plane has more samples than a record may count: said of the limits, whatever they are
@@ -83,38 +85,46 @@ unfolding leastDepth
 one-depth true = lit≤ tt
 one-depth false = lit≤ tt
 
-module _ {wide : Bool} {a b : Plane} {width height depth least : ℕ} (c : Accepted wide (a ∷ b ∷ []) width height depth least) where
+module _ {p : Planes} {least : ℕ} (c : AcceptedPair p least) where
+  abbrev size : Size
+  size = p .size
+
   abbrev count : ℕ
-  count = width * height
+  count = size .width * size .height
+
+  abbrev top : ℕ
+  top = maxOf (size .depth)
 
   count-ok : countSuits count ≡ true
   unfolding countSuits
   count-ok =
       rw (
-        le-leb 1 count (mul-pos (c .width-least) (c .height-least)),
-        le-leb count countLimit (le-trans (count-le (c .width-most) (c .height-most)) counts-fit),
+        le-leb 1 count (mul-pos (c .sized .width-least) (c .sized .height-least)),
+        le-leb count countLimit (le-trans (count-le (c .sized .width-most) (c .sized .height-most)) counts-fit),
       )
 
-  max-ok : maxSuits (maxOf depth) ≡ true
+  max-ok : maxSuits top ≡ true
   unfolding maxSuits
   max-ok =
-      let e : depth - 1 + 1 ≡ depth = omega (arith, c .depth-least, one-depth wide) in
-      some-true _ (mostDepth true) (depth - 1) (omega (arith, c .depth-least, c .depth-most, one-depth wide, deepest wide))
-      (rw e (eq-eqb (maxOf depth) (maxOf depth) refl))
+      let wide = size .wide in
+      let e : size .depth - 1 + 1 ≡ size .depth = omega (arith, c .sized .depth-least, one-depth wide) in
+      some-true _ (mostDepth true) (size .depth - 1)
+      (omega (arith, c .sized .depth-least, c .sized .depth-most, one-depth wide, deepest wide))
+      (rw e (eq-eqb top top refl))
 
-  most : errorOf a b width height ≤ count * (maxOf depth * maxOf depth)
+  most : errorOf p ≤ count * (top * top)
   most =
-      let l = error-le (maxOf depth) a b width height (c .each .0 .small) (c .each .1 .0 .small) in
-      rw (← (mul-assoc height width (maxOf depth * maxOf depth)), mul-comm height width) at l
+      let l = error-le top p (size .height) (λ y ly x lx. c .each .0 .bounded .small y x ly lx) (λ y ly x lx. c .each .1 .0 .bounded .small y x ly lx) in
+      rw (← (mul-assoc (size .height) (size .width) (top * top)), mul-comm (size .height) (size .width)) at l
 
-  error-ok : errorSuits (count * (maxOf depth * maxOf depth)) (ofInt binary64 (pos (errorOf a b width height))) ≡ true
+  error-ok : errorSuits (count * (top * top)) (ofInt binary64 (pos (errorOf p))) ≡ true
   unfolding errorSuits totalLimit
   error-ok =
-      let l : errorOf a b width height ≤ 2 ^ 53 = omega (arith, error-below (walkable c) height (omega arith)) in
-      let w = whole-back (errorOf a b width height) l in
+      let l : errorOf p ≤ 2 ^ 53 = omega (arith, error-below (walkable c) (size .height) (omega arith)) in
+      let w = whole-back (errorOf p) l in
       rw (w .0, w .1, le-leb _ _ most)
 
   -- the record that a call answers is never bad
-  pub record-lawful : lawful (recordOf a b width height depth) ≡ true
+  pub record-lawful : lawful (recordOf p) ≡ true
   unfolding lawful
   record-lawful = rw (count-ok, max-ok, error-ok)

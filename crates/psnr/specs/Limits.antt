@@ -1,4 +1,4 @@
--- Document 01, "When the desk says no": the limits of records and of a series, each number once, under a name. Definitions only.
+-- SCOPE, "When the desk says no": the limits of records and of a series, each number once, under a name. Definitions only.
 use Prim.Native.Nat.{ℕ, _^_}
 
 -- the largest n of a record

@@ -1,4 +1,4 @@
--- Document 01, "When the desk says no": which record is bad. Each test is true where the record is not bad by it. Definitions only.
+-- SCOPE, "When the desk says no": which record is bad. Each test is true where the record is not bad by it. Definitions only.
 use mathlib.Core.Bool.{Bool, true, false, _&&_, _||_}
 use Prim.Native.Nat.{ℕ, zero, suc, _+_, _*_}
 use lib.Dec.{eqb, leb}

@@ -1,4 +1,4 @@
--- Document 01, "Squared error": "A series takes a lent run of plane records and adds errors and counts, under their one max." Its
+-- SCOPE, "Squared error": "A series takes a lent run of plane records and adds errors and counts, under their one max." Its
 -- refusals are 10 and 11. Definitions only.
 use mathlib.Core.Bool.{Bool, true, _&&_}
 use mathlib.Core.List.{List, [], _∷_}

@@ -1,13 +1,11 @@
--- Document 01, "Squared error": the sum, the record and the answer of a call. Definitions only.
-use mathlib.Core.Bool.{Bool}
-use mathlib.Core.List.{[], _∷_}
+-- SCOPE, "Squared error": the sum, the record and the answer of a call. Definitions only.
 use Prim.Native.Nat.{ℕ, zero, suc, _+_, _-_, _*_}
 use lib.IntN.{pos}
 use lib.Ieee.{binary64, ofInt}
 use Rattle.refusal.specs.First.{byRefusal}
-use Rattle.plane.specs.Plane.{Plane, maxOf, sampleAt}
+use Rattle.plane.specs.Plane.{Planes, maxOf, sampleAt}
 use Rattle.plane.specs.Sums.{sumTo}
-use Rattle.plane.specs.Tests.{planeRefusal}
+use Rattle.plane.specs.Tests.{pairRefusal}
 use Rattle.psnr.specs.declared.Record.{Record}
 use Rattle.psnr.specs.declared.SquaredError.{SquaredError}
 use Rattle.psnr.specs.declared.SquaredError.the-variants.{Differs, Identical, Refused}
@@ -20,18 +18,22 @@ apart a b = a - b + (b - a)
 unfoldable pub squareOf : ℕ → ℕ → ℕ
 squareOf a b = apart a b * apart a b
 
--- its sum over the visible samples of row y
-unfoldable pub rowError : Plane → Plane → ℕ → ℕ → ℕ
-rowError a b width y = sumTo (λ (x : ℕ). squareOf (sampleAt a x y) (sampleAt b x y)) width
+-- its sum over the first n samples of row y
+unfoldable pub rowError : Planes → ℕ → ℕ → ℕ
+rowError p n y = sumTo (λ (x : ℕ). squareOf (sampleAt (p .a) y x) (sampleAt (p .b) y x)) n
+
+-- and over the visible samples of the first n rows
+unfoldable pub errorTo : Planes → ℕ → ℕ
+errorTo p n = sumTo (rowError p (p .size .width)) n
 
 -- "Sum of (a - b)² over visible samples"
-unfoldable pub errorOf : Plane → Plane → ℕ → ℕ → ℕ
-errorOf a b width height = sumTo (rowError a b width) height
+abbrev pub errorOf : Planes → ℕ
+errorOf p = errorTo p (p .size .height)
 
 -- "The record keeps squared error as a double, beside n and sample_max"
-abbrev pub recordOf : Plane → Plane → ℕ → ℕ → ℕ → Record
-recordOf a b width height depth =
-    record { «sq_err» = ofInt binary64 (pos (errorOf a b width height)); n = width * height; «sample_max» = maxOf depth }
+abbrev pub recordOf : Planes → Record
+recordOf p =
+    record { «sq_err» = ofInt binary64 (pos (errorOf p)); n = p .size .width * p .size .height; «sample_max» = maxOf (p .size .depth) }
 
 -- "with error 0 it says identical, 100 beside it"
 abbrev pub compared : ℕ → Record → SquaredError
@@ -39,7 +41,5 @@ compared zero r = Identical r
 compared (suc e) r = Differs r
 
 -- 3 does not belong to this call, so that the least side is 0
-unfoldable pub squaredErrorOf : Bool → Plane → Plane → ℕ → ℕ → ℕ → SquaredError
-squaredErrorOf wide a b width height depth =
-    let n = planeRefusal wide (a ∷ b ∷ []) width height depth 0 in
-    byRefusal n (compared (errorOf a b width height) (recordOf a b width height depth)) (Refused n)
+unfoldable pub squaredErrorOf : Planes → SquaredError
+squaredErrorOf p = let n = pairRefusal p 0 in byRefusal n (compared (errorOf p) (recordOf p)) (Refused n)

@@ -1,4 +1,4 @@
-// Which record is bad, after document 01, "When the desk says no".
+// Which record is bad, after SCOPE, "When the desk says no".
 ghost use mathlib.Core.Path.{_≡_};
 ghost use Prim.Native.Nat.{_+_, min};
 ghost use Rattle.psnr.specs.Record.{isWhole, countSuits, maxSuits, errorSuits, lawful, joins};

@@ -1,10 +1,12 @@
-// Squared error of two planes, the record that keeps it, and a series of records; after psnr.rs. Document 01, "Squared error".
+// Squared error of two planes, the record that keeps it, and a series of records; after psnr.rs. SCOPE, "Squared error".
 ghost use mathlib.Core.Path.{_≡_};
 ghost use mathlib.Core.Bool.{true, false};
-ghost use Rattle.plane.specs.Plane.{planeOf, samplesOf};
+ghost use Rattle.plane.specs.Plane.{planes, called};
 ghost use Rattle.psnr.specs.Squared.{squaredErrorOf};
 ghost use Rattle.psnr.specs.Series.{seriesOf};
 ghost use Rattle.psnr.specs.Fold.{addOf, startOf, stepOf, finishOf};
+use plane::Layout;
+use plane::Size;
 
 pub mod judge;
 pub mod walk;
@@ -59,42 +61,20 @@ pub enum Run {
 }
 
 // The squared error of two planes of either width, the samples of each as bytes and as words.
-fn squared_error(
-    a8: &[u8],
-    a16: &[u16],
-    b8: &[u8],
-    b16: &[u16],
-    wide: bool,
-    width: usize,
-    height: usize,
-    stride_a: usize,
-    stride_b: usize,
-    depth: u32,
-) -> SquaredError
-    ensures { λ r. ⌜ r ≡ squaredErrorOf wide (planeOf (samplesOf wide (now (a8 .entry)) (now (a16 .entry))) «stride_a»)
-        (planeOf (samplesOf wide (now (b8 .entry)) (now (b16 .entry))) «stride_b») width height depth ⌝ }
+fn squared_error(a8: &[u8], a16: &[u16], b8: &[u8], b16: &[u16], layout: Layout) -> SquaredError
+    ensures { λ r. ⌜ r ≡ squaredErrorOf (planes layout (a8 .entry) (a16 .entry) (b8 .entry) (b16 .entry)) ⌝ }
 {
-    let no = plane::check(
-        a8,
-        a16,
-        b8,
-        b16,
-        wide,
-        width,
-        height,
-        stride_a,
-        stride_b,
-        depth,
-        0,
-    );
+    let no = plane::check(a8, a16, b8, b16, layout, 0);
     if no != 0 {
         return SquaredError::Refused(no);
     }
-    let error = walk::error_sum(a8, a16, b8, b16, wide, width, height, stride_a, stride_b);
+    let width = layout.size.width;
+    let height = layout.size.height;
+    let error = walk::error_sum(a8, a16, b8, b16, layout);
     let record = Record {
         sq_err: number::exact(error),
         n: (width * height) as u64,
-        sample_max: plane::sample_max(depth),
+        sample_max: plane::sample_max(layout.size.depth),
     };
     if error == 0 {
         SquaredError::Identical(record)
@@ -113,21 +93,20 @@ pub fn squared_error8(
     stride_b: usize,
     depth: u32,
 ) -> SquaredError
-    ensures { λ r. ⌜ r ≡ squaredErrorOf false (planeOf (now (a .entry)) «stride_a») (planeOf (now (b .entry)) «stride_b»)
-        width height depth ⌝ }
+    ensures { λ r. ⌜ r ≡ squaredErrorOf (called false (a .entry) (b .entry) width height «stride_a» «stride_b» depth) ⌝ }
 {
-    squared_error(
-        a,
-        &[0u16; 0],
-        b,
-        &[0u16; 0],
-        false,
+    let size = Size {
+        wide: false,
         width,
         height,
+        depth,
+    };
+    let layout = Layout {
+        size,
         stride_a,
         stride_b,
-        depth,
-    )
+    };
+    squared_error(a, &[0u16; 0], b, &[0u16; 0], layout)
 }
 
 // The same of words.
@@ -140,21 +119,20 @@ pub fn squared_error16(
     stride_b: usize,
     depth: u32,
 ) -> SquaredError
-    ensures { λ r. ⌜ r ≡ squaredErrorOf true (planeOf (now (a .entry)) «stride_a») (planeOf (now (b .entry)) «stride_b»)
-        width height depth ⌝ }
+    ensures { λ r. ⌜ r ≡ squaredErrorOf (called true (a .entry) (b .entry) width height «stride_a» «stride_b» depth) ⌝ }
 {
-    squared_error(
-        &[0u8; 0],
-        a,
-        &[0u8; 0],
-        b,
-        true,
+    let size = Size {
+        wide: true,
         width,
         height,
+        depth,
+    };
+    let layout = Layout {
+        size,
         stride_a,
         stride_b,
-        depth,
-    )
+    };
+    squared_error(&[0u8; 0], a, &[0u8; 0], b, layout)
 }
 
 // One record more, whatever the sums so far may be.

@@ -9,12 +9,12 @@ use lib.Dec.{ltb}
 use lib.IntN.{ℤ}
 use lib.ListN.{length, length-append}
 use lib.Ieee.{Float}
-use Rattle.plane.specs.Plane.{Plane}
-use Rattle.masking.specs.Fold.{listTo}
-use Rattle.masking.specs.Block.{withBlock}
-use Rattle.psnr_hvs.specs.Score.{blockSide, step, blocksPerSide, sampleIn, blockAt, alongRow, downRows}
-use Rattle.psnr_hvs.specs.Legible.{Legible}
-use Rattle.masking.specs.Levels.{Sample, Samples}
+use Rattle.plane.specs.declared.Size.{Size}
+use Rattle.plane.specs.Plane.{Plane, Planes}
+use Rattle.hvs_block.specs.Fold.{listTo}
+use Rattle.psnr_hvs.specs.Score.{blockSide, step, blocksPerSide, sampleIn, blockAt, withBlocks, alongRow, downRows}
+use Rattle.psnr_hvs.specs.Legible.{Legible, Inside}
+use Rattle.hvs_block.specs.Levels.{Sample, Samples}
 use Rattle.number.proofs.Folds.{fold-more}
 
 -- ---- where they begin
@@ -50,20 +50,18 @@ pub block-length : (p : Plane) (x y : ℕ) → length (blockAt p x y) ≡ 64
 unfolding blockAt
 block-length p x y = length-list (sampleIn p x y) 64
 
-pub block-samples : (p : Plane) {width height : ℕ} (x y : ℕ) → Legible width height p → x + 8 ≤ width → y + 8 ≤ height → Samples (blockAt p x y)
+pub block-samples : (size : Size) (p : Plane) (x y : ℕ) → Legible size p → Inside size x y → Samples (blockAt p x y)
 unfolding blockAt
-block-samples p x y h lx ly =
+block-samples size p x y h i =
     samples-list (sampleIn p x y) 64
     (λ (k : ℕ) (l : k < 64). record { above = tt; small = h .small (x + k % 8) (y + k / 8) (omega arith) (omega arith) })
 
 -- ---- one more block, and one more row of them
-pub row-more : (csf mask : List (List Float)) (p q : Plane) (y : ℕ) (a : Float) (x : ℕ)
-    → alongRow csf mask p q y a (x + 1)
-    ≡ withBlock csf mask (blockAt p (step * x) y) (blockAt q (step * x) y) (alongRow csf mask p q y a x)
-unfolding alongRow
-row-more csf mask p q y a x = rw fold-more
+module _ (csf mask : List (List Float)) (p : Planes) where
+  pub row-more : (y : ℕ) (a : Float) (x : ℕ) → alongRow csf mask p y a (x + 1) ≡ withBlocks csf mask p (step * x) y (alongRow csf mask p y a x)
+  unfolding alongRow
+  row-more y a x = rw fold-more
 
-pub rows-more : (csf mask : List (List Float)) (p q : Plane) (width y : ℕ)
-    → downRows csf mask p q width (y + 1) ≡ alongRow csf mask p q (step * y) (downRows csf mask p q width y) (blocksPerSide width)
-unfolding downRows
-rows-more csf mask p q width y = rw fold-more
+  pub rows-more : (y : ℕ) → downRows csf mask p (y + 1) ≡ alongRow csf mask p (step * y) (downRows csf mask p y) (blocksPerSide (p .size .width))
+  unfolding downRows
+  rows-more y = rw fold-more

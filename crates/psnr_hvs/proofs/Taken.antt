@@ -4,17 +4,24 @@ use Prim.Native.Nat.{ℕ, _-_, _*_, _≤_, _^_}
 use native.Mathlib.Nat.{mul-le-mul, le-trans}
 use native.Mathlib.Omega.{arith}
 use Rattle.plane.specs.Limits.{sideLimit, mostDepth}
-use Rattle.plane.specs.Plane.{Plane, maxOf}
-use Rattle.plane.specs.Lawful.{Lawful}
+use Rattle.plane.specs.declared.Size.{Size}
+use Rattle.plane.specs.Plane.{Plane, Planes, maxOf}
+use Rattle.plane.specs.Inner.Lawful.{Lawful, AcceptedPair}
 use Rattle.plane.proofs.Limits.{side-small}
 use Rattle.plane.proofs.Depth.{max-small}
 use Rattle.psnr_hvs.specs.Score.{blocksPerSide}
-use Rattle.psnr_hvs.specs.Legible.{Legible}
+use Rattle.psnr_hvs.specs.Legible.{Legible, LegiblePair}
 
-pub legible : (wide : Bool) {width height depth : ℕ} (p : Plane) → Lawful width height depth p → depth ≤ mostDepth wide → Legible width height p
-legible wide p h l = record {
-  long = h .long;
-  small = λ (x y : ℕ) lx ly. le-trans (h .small x y lx ly) (omega (arith, max-small wide l));
+legible : (size : Size) (p : Plane) → Lawful size p → size .depth ≤ mostDepth (size .wide) → Legible size p
+legible size p h l = record {
+  long = h .bounded .long;
+  small = λ (r c : ℕ) lr lc. le-trans (h .bounded .small r c lr lc) (omega (arith, max-small (size .wide) l));
+}
+
+pub both-legible : {p : Planes} {least : ℕ} → AcceptedPair p least → LegiblePair p
+both-legible c = record {
+  first = legible _ _ (c .each .0) (c .sized .depth-most);
+  second = legible _ _ (c .each .1 .0) (c .sized .depth-most);
 }
 
 -- the two divisors fit, and are exact

@@ -1,20 +1,20 @@
--- Document 01, "HVS, SSIM and scales", HVS: the blocks of two planes, the score, and the answer. Definitions only.
+-- SCOPE, "HVS, SSIM and scales", HVS: the blocks of two planes, the score, and the answer. Definitions only.
 use mathlib.Core.Bool.{Bool, true, false}
-use mathlib.Core.List.{List, [], _∷_}
+use mathlib.Core.List.{List}
 use Prim.Native.Nat.{ℕ, _+_, _-_, _*_, _/_, _%_}
 use lib.IntN.{ℤ, pos}
 use lib.Ieee.{Float}
 use lib.Ieee.Scale.{finite}
 use Rattle.refusal.specs.Numbers.{notFiniteNo}
 use Rattle.refusal.specs.First.{byRefusal}
-use Rattle.plane.specs.Plane.{Plane, sampleAt, maxOf}
-use Rattle.plane.specs.Tests.{planeRefusal}
+use Rattle.plane.specs.Plane.{Plane, Planes, sampleAt, maxOf}
+use Rattle.plane.specs.Tests.{pairRefusal}
 use Rattle.number.specs.Steps.{foldTo, _⊘_, double}
-use Rattle.masking.specs.Fold.{listTo}
-use Rattle.masking.specs.Rounded.{zero64}
-use Rattle.masking.specs.Tables.{csfOf, masksOf}
-use Rattle.masking.specs.Block.{withBlock}
-use Rattle.masking.specs.declared.Kind.{Kind}
+use Rattle.hvs_block.specs.Fold.{listTo}
+use Rattle.hvs_block.specs.Rounded.{zero64}
+use Rattle.hvs_block.specs.Tables.{csfOf, masksOf}
+use Rattle.hvs_block.specs.Block.{withBlock}
+use Rattle.hvs_block.specs.declared.Kind.{Kind}
 use Rattle.psnr_hvs.specs.declared.Hvs.{Hvs}
 use Rattle.psnr_hvs.specs.declared.Hvs.the-variants.{Score, Refused}
 
@@ -31,27 +31,30 @@ blocksPerSide side = (side - blockSide) / step + 1
 
 -- the block whose first sample is (x, y), row by row
 abbrev pub sampleIn : Plane → ℕ → ℕ → ℕ → ℤ
-sampleIn p x y k = pos (sampleAt p (x + k % 8) (y + k / 8))
+sampleIn p x y k = pos (sampleAt p (y + k / 8) (x + k % 8))
 
 unfoldable pub blockAt : Plane → ℕ → ℕ → List ℤ
 blockAt p x y = listTo (sampleIn p x y) 64
 
+-- result, and then the blocks of both planes whose first sample is (x, y)
+abbrev pub withBlocks : List (List Float) → List (List Float) → Planes → ℕ → ℕ → Float → Float
+withBlocks csf mask p x y result = withBlock csf mask (blockAt (p .a) x y) (blockAt (p .b) x y) result
+
 -- result, and then n blocks of a row of blocks that begins at row y
-unfoldable pub alongRow : List (List Float) → List (List Float) → Plane → Plane → ℕ → Float → ℕ → Float
-alongRow csf mask p q y result n =
-    foldTo (λ (s : Float) (x : ℕ). withBlock csf mask (blockAt p (step * x) y) (blockAt q (step * x) y) s) result n
+unfoldable pub alongRow : List (List Float) → List (List Float) → Planes → ℕ → Float → ℕ → Float
+alongRow csf mask p y result n = foldTo (λ (s : Float) (x : ℕ). withBlocks csf mask p (step * x) y s) result n
 
 -- the first n rows of blocks
-unfoldable pub downRows : List (List Float) → List (List Float) → Plane → Plane → ℕ → ℕ → Float
-downRows csf mask p q width n =
-    foldTo (λ (s : Float) (y : ℕ). alongRow csf mask p q (step * y) s (blocksPerSide width)) zero64 n
+unfoldable pub downRows : List (List Float) → List (List Float) → Planes → ℕ → Float
+downRows csf mask p n = foldTo (λ (s : Float) (y : ℕ). alongRow csf mask p (step * y) s (blocksPerSide (p .size .width))) zero64 n
 
 -- "The last steps divide by 64 × blocks, then by sample_max²"
-unfoldable pub hvsScore : Kind → Plane → Plane → ℕ → ℕ → ℕ → Float
-hvsScore kind p q width height depth =
-    downRows (csfOf kind) (masksOf (csfOf kind)) p q width (blocksPerSide height)
-    ⊘ double (64 * (blocksPerSide width * blocksPerSide height))
-    ⊘ double (maxOf depth * maxOf depth)
+unfoldable pub hvsScore : Kind → Planes → Float
+hvsScore kind p =
+    let across = blocksPerSide (p .size .width) in
+    let down = blocksPerSide (p .size .height) in
+    let max = maxOf (p .size .depth) in
+    downRows (csfOf kind) (masksOf (csfOf kind)) p down ⊘ double (64 * (across * down)) ⊘ double (max * max)
 
 -- ---- the answer
 
@@ -61,8 +64,8 @@ scored true s = Score s
 scored false s = Refused notFiniteNo
 
 -- the lowest of 1 to 6 that applies, and the score where none does
-unfoldable pub hvsOf : Bool → Kind → Plane → Plane → ℕ → ℕ → ℕ → Hvs
-hvsOf wide kind p q width height depth =
-    let n = planeRefusal wide (p ∷ q ∷ []) width height depth blockSide in
-    let s = hvsScore kind p q width height depth in
+unfoldable pub hvsOf : Kind → Planes → Hvs
+hvsOf kind p =
+    let n = pairRefusal p blockSide in
+    let s = hvsScore kind p in
     byRefusal n (scored (finite s) s) (Refused n)

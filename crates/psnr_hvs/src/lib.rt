@@ -1,16 +1,17 @@
-// PSNR-HVS of two planes, after `calculate_plane_psnr_hvs`: document 01, "HVS, SSIM and scales".
+// PSNR-HVS of two planes, after `calculate_plane_psnr_hvs`: SCOPE, "HVS, SSIM and scales".
 mod block;
 
 // A caller names the kind of a plane as `psnr_hvs::Kind`.
-pub use masking::Kind;
+pub use hvs_block::Kind;
 ghost use mathlib.Core.Path.{_≡_};
 ghost use mathlib.Core.Bool.{true, false};
-ghost use mathlib.Core.List.{[], _∷_};
 ghost use Prim.Native.Nat.{_+_, _≤_};
-ghost use Rattle.plane.specs.Plane.{planeOf, samplesOf};
-ghost use Rattle.plane.specs.Lawful.{Accepted};
-ghost use Rattle.psnr_hvs.specs.Legible.{Legible};
+ghost use Rattle.plane.specs.Plane.{planes, called};
+ghost use Rattle.plane.specs.Inner.Lawful.{AcceptedPair};
+ghost use Rattle.psnr_hvs.specs.Legible.{LegiblePair};
 ghost use Rattle.psnr_hvs.specs.Score.{blockSide, blocksPerSide, alongRow, downRows, hvsScore, hvsOf};
+use plane::Layout;
+use plane::Size;
 
 // The least width and height, and the step from one block to the next.
 const BLOCK_SIDE: usize = 8;
@@ -38,41 +39,20 @@ fn along_row(
     a16: &[u16],
     b8: &[u8],
     b16: &[u16],
-    wide: bool,
+    layout: Layout,
     y: usize,
-    stride_a: usize,
-    stride_b: usize,
-    width: usize,
-    height: usize,
     mask: &[[f64; 8]; 8],
     csf: &[[f64; 8]; 8],
 ) -> f64
-    requires { ⌜ (blockSide ≤ width) × (y + 8 ≤ height) ⌝ }
-    requires { ⌜ Legible width height (planeOf (samplesOf wide (now a8) (now a16)) «stride_a») ⌝ }
-    requires { ⌜ Legible width height (planeOf (samplesOf wide (now b8) (now b16)) «stride_b») ⌝ }
-    ensures { λ r. ⌜ r ≡ alongRow (now (csf .entry)) (now (mask .entry))
-        (planeOf (samplesOf wide (now (a8 .entry)) (now (a16 .entry))) «stride_a»)
-        (planeOf (samplesOf wide (now (b8 .entry)) (now (b16 .entry))) «stride_b») y result (blocksPerSide width) ⌝ }
+    requires { ⌜ (blockSide ≤ layout .size .width) × (y + 8 ≤ layout .size .height) ⌝ }
+    requires { ⌜ LegiblePair (planes layout a8 a16 b8 b16) ⌝ }
+    ensures { λ r. ⌜ r ≡ alongRow (now (csf .entry)) (now (mask .entry)) (planes layout (a8 .entry) (a16 .entry) (b8 .entry) (b16 .entry))
+        y result (blocksPerSide (layout .size .width)) ⌝ }
 {
-    let n = blocks_per_side(width);
+    let n = blocks_per_side(layout.size.width);
     let mut s = result;
     for x in 0..n {
-        s = block::block_at(
-            s,
-            a8,
-            a16,
-            b8,
-            b16,
-            wide,
-            STEP * x,
-            y,
-            stride_a,
-            stride_b,
-            width,
-            height,
-            mask,
-            csf,
-        );
+        s = block::block_at(s, a8, a16, b8, b16, layout, STEP * x, y, mask, csf);
     }
     s
 }
@@ -83,128 +63,45 @@ fn down_rows(
     a16: &[u16],
     b8: &[u8],
     b16: &[u16],
-    wide: bool,
-    stride_a: usize,
-    stride_b: usize,
-    width: usize,
-    height: usize,
+    layout: Layout,
     mask: &[[f64; 8]; 8],
     csf: &[[f64; 8]; 8],
 ) -> f64
-    requires { ⌜ (blockSide ≤ width) × (blockSide ≤ height) ⌝ }
-    requires { ⌜ Legible width height (planeOf (samplesOf wide (now a8) (now a16)) «stride_a») ⌝ }
-    requires { ⌜ Legible width height (planeOf (samplesOf wide (now b8) (now b16)) «stride_b») ⌝ }
-    ensures { λ r. ⌜ r ≡ downRows (now (csf .entry)) (now (mask .entry))
-        (planeOf (samplesOf wide (now (a8 .entry)) (now (a16 .entry))) «stride_a»)
-        (planeOf (samplesOf wide (now (b8 .entry)) (now (b16 .entry))) «stride_b») width (blocksPerSide height) ⌝ }
+    requires { ⌜ (blockSide ≤ layout .size .width) × (blockSide ≤ layout .size .height) ⌝ }
+    requires { ⌜ LegiblePair (planes layout a8 a16 b8 b16) ⌝ }
+    ensures { λ r. ⌜ r ≡ downRows (now (csf .entry)) (now (mask .entry)) (planes layout (a8 .entry) (a16 .entry) (b8 .entry) (b16 .entry))
+        (blocksPerSide (layout .size .height)) ⌝ }
 {
-    let n = blocks_per_side(height);
+    let n = blocks_per_side(layout.size.height);
     let mut s = 0.0;
     for y in 0..n {
-        s = along_row(
-            s,
-            a8,
-            a16,
-            b8,
-            b16,
-            wide,
-            STEP * y,
-            stride_a,
-            stride_b,
-            width,
-            height,
-            mask,
-            csf,
-        );
+        s = along_row(s, a8, a16, b8, b16, layout, STEP * y, mask, csf);
     }
     s
 }
 
 // The score of two planes that no test refuses.
-fn score(
-    a8: &[u8],
-    a16: &[u16],
-    b8: &[u8],
-    b16: &[u16],
-    wide: bool,
-    width: usize,
-    height: usize,
-    stride_a: usize,
-    stride_b: usize,
-    depth: u32,
-    kind: Kind,
-) -> f64
-    requires { ⌜ Accepted wide (planeOf (samplesOf wide (now a8) (now a16)) «stride_a»
-        ∷ planeOf (samplesOf wide (now b8) (now b16)) «stride_b» ∷ []) width height depth blockSide ⌝ }
-    ensures { λ r. ⌜ r ≡ hvsScore kind (planeOf (samplesOf wide (now (a8 .entry)) (now (a16 .entry))) «stride_a»)
-        (planeOf (samplesOf wide (now (b8 .entry)) (now (b16 .entry))) «stride_b») width height depth ⌝ }
+fn score(a8: &[u8], a16: &[u16], b8: &[u8], b16: &[u16], layout: Layout, kind: Kind) -> f64
+    requires { ⌜ AcceptedPair (planes layout a8 a16 b8 b16) blockSide ⌝ }
+    ensures { λ r. ⌜ r ≡ hvsScore kind (planes layout (a8 .entry) (a16 .entry) (b8 .entry) (b16 .entry)) ⌝ }
 {
-    let csf = masking::tables::csf_of(kind);
-    let mask = masking::tables::masks(csf);
-    let sum = down_rows(
-        a8,
-        a16,
-        b8,
-        b16,
-        wide,
-        stride_a,
-        stride_b,
-        width,
-        height,
-        &mask,
-        &csf,
-    );
-    let blocks = (blocks_per_side(width) * blocks_per_side(height)) as u64;
-    let max = plane::sample_max(depth) as u64;
+    let csf = hvs_block::tables::csf_of(kind);
+    let mask = hvs_block::tables::masks(csf);
+    let sum = down_rows(a8, a16, b8, b16, layout, &mask, &csf);
+    let blocks = (blocks_per_side(layout.size.width) * blocks_per_side(layout.size.height)) as u64;
+    let max = plane::sample_max(layout.size.depth) as u64;
     sum / number::exact(64 * blocks) / number::exact(max * max)
 }
 
 // The answer for two planes of either width.
-fn answer(
-    a8: &[u8],
-    a16: &[u16],
-    b8: &[u8],
-    b16: &[u16],
-    wide: bool,
-    width: usize,
-    height: usize,
-    stride_a: usize,
-    stride_b: usize,
-    depth: u32,
-    kind: Kind,
-) -> Hvs
-    ensures { λ r. ⌜ r ≡ hvsOf wide kind (planeOf (samplesOf wide (now (a8 .entry)) (now (a16 .entry))) «stride_a»)
-        (planeOf (samplesOf wide (now (b8 .entry)) (now (b16 .entry))) «stride_b») width height depth ⌝ }
+fn answer(a8: &[u8], a16: &[u16], b8: &[u8], b16: &[u16], layout: Layout, kind: Kind) -> Hvs
+    ensures { λ r. ⌜ r ≡ hvsOf kind (planes layout (a8 .entry) (a16 .entry) (b8 .entry) (b16 .entry)) ⌝ }
 {
-    let no = plane::check(
-        a8,
-        a16,
-        b8,
-        b16,
-        wide,
-        width,
-        height,
-        stride_a,
-        stride_b,
-        depth,
-        BLOCK_SIDE,
-    );
+    let no = plane::check(a8, a16, b8, b16, layout, BLOCK_SIDE);
     if no != 0 {
         return Hvs::Refused(no);
     }
-    let s = score(
-        a8,
-        a16,
-        b8,
-        b16,
-        wide,
-        width,
-        height,
-        stride_a,
-        stride_b,
-        depth,
-        kind,
-    );
+    let s = score(a8, a16, b8, b16, layout, kind);
     if number::finite(s) {
         Hvs::Score(s)
     } else {
@@ -223,21 +120,20 @@ pub fn psnr_hvs8(
     depth: u32,
     kind: Kind,
 ) -> Hvs
-    ensures { λ r. ⌜ r ≡ hvsOf false kind (planeOf (now (a .entry)) «stride_a») (planeOf (now (b .entry)) «stride_b») width height depth ⌝ }
+    ensures { λ r. ⌜ r ≡ hvsOf kind (called false (a .entry) (b .entry) width height «stride_a» «stride_b» depth) ⌝ }
 {
-    answer(
-        a,
-        &[0u16; 0],
-        b,
-        &[0u16; 0],
-        false,
+    let size = Size {
+        wide: false,
         width,
         height,
+        depth,
+    };
+    let layout = Layout {
+        size,
         stride_a,
         stride_b,
-        depth,
-        kind,
-    )
+    };
+    answer(a, &[0u16; 0], b, &[0u16; 0], layout, kind)
 }
 
 // The same of words.
@@ -251,19 +147,18 @@ pub fn psnr_hvs16(
     depth: u32,
     kind: Kind,
 ) -> Hvs
-    ensures { λ r. ⌜ r ≡ hvsOf true kind (planeOf (now (a .entry)) «stride_a») (planeOf (now (b .entry)) «stride_b») width height depth ⌝ }
+    ensures { λ r. ⌜ r ≡ hvsOf kind (called true (a .entry) (b .entry) width height «stride_a» «stride_b» depth) ⌝ }
 {
-    answer(
-        &[0u8; 0],
-        a,
-        &[0u8; 0],
-        b,
-        true,
+    let size = Size {
+        wide: true,
         width,
         height,
+        depth,
+    };
+    let layout = Layout {
+        size,
         stride_a,
         stride_b,
-        depth,
-        kind,
-    )
+    };
+    answer(&[0u8; 0], a, &[0u8; 0], b, layout, kind)
 }

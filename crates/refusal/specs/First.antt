@@ -1,4 +1,4 @@
--- Document 01: "The lowest number that applies and belongs to that call is given." A call lists its tests in ascending order of
+-- SCOPE: "The lowest number that applies and belongs to that call is given." A call lists its tests in ascending order of
 -- their numbers, each number beside whether its test passes. Definitions only.
 use mathlib.Core.Bool.{Bool, true, false}
 use mathlib.Core.List.{List, [], _∷_}

@@ -1,4 +1,4 @@
--- Document 01, "When the desk says no": the numbers, each under one name. Definitions only.
+-- SCOPE, "When the desk says no": the numbers, each under one name. Definitions only.
 use Prim.Native.Nat.{ℕ}
 
 -- depth doesn't suit the sample width
@@ -6,12 +6,12 @@ abbrev pub depthNo : ℕ
 depthNo = 1
 
 -- width or height is 0 or above its limit
-abbrev pub sideNo : ℕ
-sideNo = 2
+abbrev pub sizeNo : ℕ
+sizeNo = 2
 
 -- a side below what the score needs
-abbrev pub smallNo : ℕ
-smallNo = 3
+abbrev pub sideNo : ℕ
+sideNo = 3
 
 -- a stride below width or above its limit
 abbrev pub strideNo : ℕ

@@ -1,12 +1,12 @@
-// The numbers by which a call refuses, as document 01's table "When the desk says no" has them. This is the one place in code;
+// The numbers by which a call refuses, as the table of SCOPE, "When the desk says no", has them. This is the one place in code;
 // specs/Numbers.antt is the one place in definitions.
 
 // The depth does not suit the sample width.
 pub const DEPTH: u8 = 1;
 // A side is 0 or above its limit.
-pub const SIDE: u8 = 2;
+pub const SIZE: u8 = 2;
 // A side is below what the score needs.
-pub const SMALL: u8 = 3;
+pub const SIDE: u8 = 3;
 // A stride is below the width or above its limit.
 pub const STRIDE: u8 = 4;
 // A plane is too short.

@@ -10,11 +10,12 @@ use lib.Dec.{lit≤}
 use lib.ListN.{length, getD}
 use Rattle.refusal.specs.Numbers.{kernelNo, scratchNo}
 use Rattle.refusal.specs.First.{firstBroken}
-use Rattle.refusal.proofs.Chain.{Named, passed, stop, go-on}
-use Rattle.plane.specs.Plane.{Plane, samplesOf}
-use Rattle.plane.specs.Tests.{planeTests, planeRefusal}
+use Rattle.refusal.proofs.Chain.{Named, passed}
+use Rattle.plane.specs.Plane.{Planes, samplesOf, both}
+use Rattle.plane.specs.Tests.{pairTests, pairRefusal}
 use Rattle.plane.proofs.Accept.{accepted, plane-named}
 use Rattle.plane.proofs.Depth.{depth-small}
+use Rattle.plane.proofs.Several.{planes-stop, planes-pass}
 use Rattle.window.specs.Kernel.{mostTaps, lawful, lentTotal}
 use Rattle.window.specs.Columns.{columnsOf, mostSample}
 use Rattle.window.proofs.KernelSays.{kernel-says, kernel-serves, lent-total}
@@ -28,32 +29,26 @@ pub taps-count : (ker : List ℕ) → lawful lentTotal ker ≡ true → (1 ≤ l
 taps-count ker e = let s = kernel-says lentTotal ker e in (omega (arith, s .odd), s .short)
 
 -- ---- 7 and 8, after the planes
-module _ (wide : Bool) (planes : List Plane) (width height depth : ℕ) (ker : List ℕ) (lent : ℕ) where
+module _ (p : Planes) (ker : List ℕ) (lent : ℕ) {n : ℕ} (e : n ≡ pairRefusal p 0) where
+  abbrev own : List (ℕ × Bool)
+  own = lentTests (p .size .width) ker lent
+
   -- the planes refuse
-  pub planes-refuse : {n : ℕ} → n ≡ planeRefusal wide planes width height depth 0 → (n ≡ 0 → ⊥)
-      → n ≡ ssimRefusal wide planes width height depth ker lent
-  planes-refuse e h = stop (planeTests wide planes width height depth 0) (lentTests width ker lent) e h
+  pub planes-refuse : (n ≡ 0 → ⊥) → n ≡ ssimRefusal p ker lent
+  planes-refuse h = planes-stop (p .size) (both p) 0 e own h
 
   -- they do not
-  planes-pass : {n m : ℕ} → n ≡ planeRefusal wide planes width height depth 0 → n ≡ 0 → m ≡ firstBroken (lentTests width ker lent)
-      → m ≡ ssimRefusal wide planes width height depth ker lent
-  planes-pass e z f =
-      go-on (planeTests wide planes width height depth 0) (lentTests width ker lent) (plane-named wide planes width height depth 0) e z f
-
-  pub kernel-refuses : {n : ℕ} → n ≡ planeRefusal wide planes width height depth 0 → n ≡ 0 → lawful lentTotal ker ≡ false
-      → kernelNo ≡ ssimRefusal wide planes width height depth ker lent
+  pub kernel-refuses : n ≡ 0 → lawful lentTotal ker ≡ false → kernelNo ≡ ssimRefusal p ker lent
   unfolding lentTests
-  kernel-refuses e z f = planes-pass e z (rw f)
+  kernel-refuses z f = planes-pass (p .size) (both p) 0 e own z (rw f)
 
-  pub scratch-refuses : {n : ℕ} → n ≡ planeRefusal wide planes width height depth 0 → n ≡ 0 → lawful lentTotal ker ≡ true
-      → lent < placesOf width (length ker) → scratchNo ≡ ssimRefusal wide planes width height depth ker lent
+  pub scratch-refuses : n ≡ 0 → lawful lentTotal ker ≡ true → lent < placesOf (p .size .width) (length ker) → scratchNo ≡ ssimRefusal p ker lent
   unfolding lentTests
-  scratch-refuses e z f l = planes-pass e z (rw (f, lt-leb _ _ l))
+  scratch-refuses z f l = planes-pass (p .size) (both p) 0 e own z (rw (f, lt-leb _ _ l))
 
-  pub none-refuses : {n : ℕ} → n ≡ planeRefusal wide planes width height depth 0 → n ≡ 0 → lawful lentTotal ker ≡ true
-      → placesOf width (length ker) ≤ lent → 0 ≡ ssimRefusal wide planes width height depth ker lent
+  pub none-refuses : n ≡ 0 → lawful lentTotal ker ≡ true → placesOf (p .size .width) (length ker) ≤ lent → 0 ≡ ssimRefusal p ker lent
   unfolding lentTests
-  none-refuses e z f l = planes-pass e z (rw (f, le-leb _ _ l))
+  none-refuses z f l = planes-pass (p .size) (both p) 0 e own z (rw (f, le-leb _ _ l))
 
 -- ---- none of them refuses
 
@@ -63,37 +58,35 @@ halves [] more named e = (refl, e)
 halves ((n, true) ∷ later) more named e = halves later more (named .1) e
 halves ((n, false) ∷ later) more named e = absurd (omega (arith, named .0, e))
 
-module _ (wide : Bool) (a b : Plane) (width height depth : ℕ) (ker : List ℕ) (lent : ℕ) where
-  -- the columns and their margins, five places each: width + 2 off is at most width × (2 off + 1), so at most width × L
-  room : 1 ≤ width → length ker ≡ 2 * (length ker / 2) + 1 → 5 * columnsOf ker width ≤ placesOf width (length ker)
-  room l odd =
-      let off = length ker / 2 in
-      let reach : 2 * off + 1 ≤ linesOf (length ker) = omega (arith, lines-reach (length ker)) in
-      let margins : 2 * off * 1 ≤ 2 * off * width = mul-le-mul-left (2 * off) l in
-      let all : width * (2 * off + 1) ≤ width * linesOf (length ker) = mul-le-mul-left width reach in
-      omega (arith, mul-add width (2 * off) 1, mul-comm width (2 * off), mul-assoc 6 width (linesOf (length ker)))
+-- the columns and their margins, five places each: width + 2 off is at most width × (2 off + 1), so at most width × L
+room : (width : ℕ) (ker : List ℕ) → 1 ≤ width → length ker ≡ 2 * (length ker / 2) + 1 → 5 * columnsOf ker width ≤ placesOf width (length ker)
+room width ker l odd =
+    let off = length ker / 2 in
+    let reach : 2 * off + 1 ≤ linesOf (length ker) = omega (arith, lines-reach (length ker)) in
+    let margins : 2 * off * 1 ≤ 2 * off * width = mul-le-mul-left (2 * off) l in
+    let all : width * (2 * off + 1) ≤ width * linesOf (length ker) = mul-le-mul-left width reach in
+    omega (arith, mul-add width (2 * off) 1, mul-comm width (2 * off), mul-assoc 6 width (linesOf (length ker)))
 
-  pub sound : {n : ℕ} → n ≡ ssimRefusal wide (a ∷ b ∷ []) width height depth ker lent → n ≡ 0 → Sound a b width height depth ker lent
-  unfolding lentTests
-  sound e z =
-      let h = halves (planeTests wide (a ∷ b ∷ []) width height depth 0) (lentTests width ker lent)
-      (plane-named wide (a ∷ b ∷ []) width height depth 0) (sym e ∙ z) in
-      let p = accepted wide (a ∷ b ∷ []) width height depth 0 (h .0) in
-      let t = passed (lentTests width ker lent) (lit≤ tt, (lit≤ tt, tt)) (h .1) in
-      let k = kernel-says lentTotal ker (t .0) in
-      record {
-        taps-least = omega (arith, k .odd);
-        taps-most = k .short;
-        width-most = p .width-most;
-        height-most = p .height-most;
-        depth-most = omega (arith, p .depth-most, depth-small wide);
-        kernel = kernel-serves lentTotal ker lent-total (t .0);
-        total = sym (k .sum);
-        long-a = p .each .0 .long;
-        long-b = p .each .1 .0 .long;
-        lent-enough = leb-true _ _ (t .1 .0);
-        columns-fit = room (p .width-least) (k .odd);
-      }
+pub sound : (p : Planes) (ker : List ℕ) (lent : ℕ) {n : ℕ} → n ≡ ssimRefusal p ker lent → n ≡ 0 → Sound p ker lent
+unfolding lentTests
+sound p ker lent e z =
+    let h = halves (pairTests p 0) (lentTests (p .size .width) ker lent) (plane-named (p .size) (both p) 0) (sym e ∙ z) in
+    let q = accepted (p .size) (both p) 0 (h .0) in
+    let t = passed (lentTests (p .size .width) ker lent) (lit≤ tt, (lit≤ tt, tt)) (h .1) in
+    let k = kernel-says lentTotal ker (t .0) in
+    record {
+      taps-least = omega (arith, k .odd);
+      taps-most = k .short;
+      width-most = q .sized .width-most;
+      height-most = q .sized .height-most;
+      depth-most = omega (arith, q .sized .depth-most, depth-small (p .size .wide));
+      kernel = kernel-serves lentTotal ker lent-total (t .0);
+      total = sym (k .sum);
+      long-a = q .each .0 .bounded .long;
+      long-b = q .each .1 .0 .bounded .long;
+      lent-enough = leb-true _ _ (t .1 .0);
+      columns-fit = room (p .size .width) ker (q .sized .width-least) (k .odd);
+    }
 
 -- samples of either width are small enough to be summed
 pub either-small : (wide : Bool) (bytes words : List ℕ) → ((i : ℕ) → getD bytes i 0 ≤ 255) → ((i : ℕ) → getD words i 0 ≤ 65535)

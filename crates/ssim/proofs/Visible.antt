@@ -4,10 +4,10 @@ use mathlib.Core.List.{List}
 use Prim.Native.Nat.{ℕ}
 use lib.Ieee.{Float}
 use Rattle.number.proofs.Folds.{fold-ext}
-use Rattle.plane.specs.Plane.{Plane}
-use Rattle.plane.specs.Lawful.{Alike}
-use Rattle.window.specs.Columns.{viewOf}
-use Rattle.window.proofs.Visible.{Same, planes-same, moments-ext}
+use Rattle.plane.specs.declared.Size.{Size}
+use Rattle.plane.specs.Plane.{Plane, planesOf, sampleAt}
+use Rattle.plane.specs.Inner.Lawful.{Alike}
+use Rattle.window.proofs.Visible.{Same, moments-ext}
 use Rattle.ssim.specs.declared.Totals.{Totals}
 use Rattle.ssim.specs.Score.{stepOf, totalsOf}
 use Rattle.ssim.specs.Answer.{pairOf, scoreOf}
@@ -18,8 +18,8 @@ unfolding totalsOf
 totals-ext ker width height a a′ b b′ p q max2 n =
     fold-ext _ _ _ n (λ t y k. fold-ext _ _ _ width (λ s x l. ap (stepOf max2 s) (moments-ext ker width height a a′ b b′ p q x y)))
 
-pub visible-only : (a b a′ b′ : Plane) (width height depth : ℕ) (ker : List ℕ) → Alike width height a a′ → Alike width height b b′
-    → scoreOf a b width height depth ker ≡ scoreOf a′ b′ width height depth ker
-visible-only a b a′ b′ width height depth ker p q =
+pub visible-only : (size : Size) (a b a′ b′ : Plane) (ker : List ℕ) → Alike size a a′ → Alike size b b′
+    → scoreOf (planesOf size a b) ker ≡ scoreOf (planesOf size a′ b′) ker
+visible-only size a b a′ b′ ker p q =
     ap (λ (t : Totals). pairOf t)
-    (totals-ext ker width height (viewOf a) (viewOf a′) (viewOf b) (viewOf b′) (planes-same a a′ width height p) (planes-same b b′ width height q) _ height)
+    (totals-ext ker (size .width) (size .height) (sampleAt a) (sampleAt a′) (sampleAt b) (sampleAt b′) p q _ (size .height))

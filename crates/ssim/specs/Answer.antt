@@ -1,4 +1,4 @@
--- Document 01: the answer of SSIM for every case, the pair or the lowest refusal of 1 2 4 5 6 7 8, then 9. Definitions only.
+-- SCOPE: the answer of SSIM for every case, the pair or the lowest refusal of 1 2 4 5 6 7 8, then 9. Definitions only.
 use mathlib.Core.Bool.{Bool, true, false, _&&_}
 use mathlib.Core.List.{List, [], _∷_, _++_}
 use Prim.Native.Nat.{ℕ, _*_}
@@ -9,11 +9,10 @@ use lib.ListN.{length}
 use Rattle.refusal.specs.Numbers.{kernelNo, scratchNo, notFiniteNo}
 use Rattle.refusal.specs.First.{firstBroken, byRefusal}
 use Rattle.number.specs.Steps.{_⊘_, double}
-use Rattle.plane.specs.Plane.{Plane, maxOf}
-use Rattle.plane.specs.Tests.{planeTests}
+use Rattle.plane.specs.Plane.{Planes, maxOf}
+use Rattle.plane.specs.Tests.{pairTests}
 use Rattle.window.specs.Kernel.{lawful, lentTotal}
-use Rattle.window.specs.Columns.{viewOf}
-use Rattle.ssim.specs.Score.{totalsOf}
+use Rattle.ssim.specs.Score.{totalsIn}
 use Rattle.ssim.specs.Scratch.{placesOf}
 use Rattle.ssim.specs.declared.Ssim.{Ssim}
 use Rattle.ssim.specs.declared.Ssim.the-variants.{Pair, Refused}
@@ -26,9 +25,8 @@ unfoldable pub lentTests : ℕ → List ℕ → ℕ → List (ℕ × Bool)
 lentTests width ker places = (kernelNo, lawful lentTotal ker) ∷ (scratchNo, leb (placesOf width (length ker)) places) ∷ []
 
 -- 1 2 4 5 6 7 8 in ascending order: the planes, the kernel, and how many places of scratch are lent
-abbrev pub ssimRefusal : Bool → List Plane → ℕ → ℕ → ℕ → List ℕ → ℕ → ℕ
-ssimRefusal wide planes width height depth ker places =
-    firstBroken (planeTests wide planes width height depth 0 ++ lentTests width ker places)
+abbrev pub ssimRefusal : Planes → List ℕ → ℕ → ℕ
+ssimRefusal p ker places = firstBroken (pairTests p 0 ++ lentTests (p .size .width) ker places)
 
 -- ---- the answer
 
@@ -45,12 +43,9 @@ pairOf t =
     pairOr9 (Scale.finite ssim && Scale.finite cs) ssim cs
 
 -- the score of two planes that no test refuses
-abbrev pub scoreOf : Plane → Plane → ℕ → ℕ → ℕ → List ℕ → Ssim
-scoreOf a b width height depth ker =
-    pairOf (totalsOf (double (maxOf depth * maxOf depth)) ker width height (viewOf a) (viewOf b) height)
+abbrev pub scoreOf : Planes → List ℕ → Ssim
+scoreOf p ker = let max = maxOf (p .size .depth) in pairOf (totalsIn (double (max * max)) ker p (p .size .height))
 
 -- the refusal, where there is one; else the score
-abbrev pub ssimOf : Bool → Plane → Plane → ℕ → ℕ → ℕ → List ℕ → ℕ → Ssim
-ssimOf wide a b width height depth ker places =
-    let n = ssimRefusal wide (a ∷ b ∷ []) width height depth ker places in
-    byRefusal n (scoreOf a b width height depth ker) (Refused n)
+abbrev pub ssimOf : Planes → List ℕ → ℕ → Ssim
+ssimOf p ker places = let n = ssimRefusal p ker places in byRefusal n (scoreOf p ker) (Refused n)

@@ -1,9 +1,10 @@
--- Document 01, "HVS, SSIM and scales": the double steps of `calculate_plane_ssim_internal`, each rounded once, in its order, row by
+-- SCOPE, "HVS, SSIM and scales": the double steps of `calculate_plane_ssim_internal`, each rounded once, in its order, row by
 -- row over every centre. Names are those of the Rust. Definitions only.
 use mathlib.Core.List.{List}
 use Prim.Native.Nat.{ℕ}
 use lib.Ieee.{Float, binary64, ofBits}
 use Rattle.number.specs.Steps.{_⊕_, _⊖_, _⊗_, _⊘_, double, foldTo}
+use Rattle.plane.specs.Plane.{Planes, sampleAt}
 use Rattle.window.specs.Parts.{momentsAt}
 use Rattle.window.specs.declared.Moments.{Moments}
 use Rattle.ssim.specs.declared.Totals.{Totals}
@@ -68,3 +69,7 @@ noneYet = record { ssim = ofBits binary64 0; cs = ofBits binary64 0; ssimw = ofB
 unfoldable pub totalsOf : Float → List ℕ → ℕ → ℕ → (ℕ → ℕ → ℕ) → (ℕ → ℕ → ℕ) → ℕ → Totals
 totalsOf max2 ker width height a b n =
     foldTo (λ (s : Totals) (y : ℕ). rowOf max2 (λ (x : ℕ). momentsAt ker width height a b x y) s width) noneYet n
+
+-- of two planes
+abbrev pub totalsIn : Float → List ℕ → Planes → ℕ → Totals
+totalsIn max2 ker p n = totalsOf max2 ker (p .size .width) (p .size .height) (sampleAt (p .a)) (sampleAt (p .b)) n

@@ -1,4 +1,4 @@
--- Document 01, "When the desk says no": "SSIM needs 6 × width × L signed 64-bit places, L the least power of two not below the tap
+-- SCOPE, "When the desk says no": "SSIM needs 6 × width × L signed 64-bit places, L the least power of two not below the tap
 -- count", and what stands there afterwards. Definitions only.
 use mathlib.Core.Bool.{cond}
 use mathlib.Core.List.{List, _++_}

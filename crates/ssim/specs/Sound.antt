@@ -5,22 +5,22 @@ use mathlib.Core.Path.{_≡_}
 use Prim.Native.Nat.{ℕ, _*_, _≤_, _<_}
 use lib.ListN.{length}
 use Rattle.plane.specs.Limits.{sideLimit}
-use Rattle.plane.specs.Plane.{Plane, needed}
+use Rattle.plane.specs.Plane.{Planes, Long}
 use Rattle.plane.specs.Sums.{sumTo}
 use Rattle.window.specs.Kernel.{tap, mostTaps, lentTotal}
 use Rattle.window.specs.Parts.{Kernel}
 use Rattle.window.specs.Columns.{columnsOf}
 use Rattle.ssim.specs.Scratch.{placesOf}
 
-pub record Sound (a b : Plane) (width height depth : ℕ) (ker : List ℕ) (lent : ℕ) : Type 0 where
+pub record Sound (p : Planes) (ker : List ℕ) (lent : ℕ) : Type 0 where
   pub taps-least : 1 ≤ length ker
   pub taps-most : length ker ≤ mostTaps
-  pub width-most : width ≤ sideLimit
-  pub height-most : height ≤ sideLimit
-  pub depth-most : depth < 32
+  pub width-most : p .size .width ≤ sideLimit
+  pub height-most : p .size .height ≤ sideLimit
+  pub depth-most : p .size .depth < 32
   pub kernel : Kernel ker
   pub total : lentTotal ≡ sumTo (tap ker) (length ker)
-  pub long-a : needed width height (a .stride) ≤ length (a .samples)
-  pub long-b : needed width height (b .stride) ≤ length (b .samples)
-  pub lent-enough : placesOf width (length ker) ≤ lent
-  pub columns-fit : 5 * columnsOf ker width ≤ placesOf width (length ker)
+  pub long-a : Long (p .size) (p .a)
+  pub long-b : Long (p .size) (p .b)
+  pub lent-enough : placesOf (p .size .width) (length ker) ≤ lent
+  pub columns-fit : 5 * columnsOf ker (p .size .width) ≤ placesOf (p .size .width) (length ker)

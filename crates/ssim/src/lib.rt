@@ -2,15 +2,16 @@
 // centres, and the calls for bytes and for words.
 ghost use mathlib.Core.Path.{_≡_};
 ghost use mathlib.Core.Bool.{true, false};
-ghost use mathlib.Core.List.{[], _∷_};
 ghost use Prim.Native.Nat.{_*_, _<_, _≤_};
 ghost use lib.ListN.{length};
 ghost use Rattle.plane.specs.Limits.{sideLimit};
-ghost use Rattle.plane.specs.Plane.{planeOf, samplesOf};
+ghost use Rattle.plane.specs.Plane.{planes, called};
 ghost use Rattle.window.specs.Kernel.{mostTaps};
 ghost use Rattle.ssim.specs.Scratch.{grownOf, linesOf, placesOf, cleared, scratchAfter};
 ghost use Rattle.ssim.specs.Answer.{ssimRefusal, scoreOf, ssimOf};
 ghost use Rattle.ssim.specs.Sound.{Sound};
+use plane::Layout;
+use plane::Size;
 
 pub mod score;
 pub mod walk;
@@ -63,38 +64,20 @@ fn refusal(
     a16: &[u16],
     b8: &[u8],
     b16: &[u16],
-    wide: bool,
-    width: usize,
-    height: usize,
-    stride_a: usize,
-    stride_b: usize,
-    depth: u32,
+    layout: Layout,
     kernel: &[u16],
     lent: usize,
 ) -> u8
-    ensures { λ r. ⌜ r ≡ ssimRefusal wide (planeOf (samplesOf wide (now (a8 .entry)) (now (a16 .entry))) «stride_a»
-        ∷ planeOf (samplesOf wide (now (b8 .entry)) (now (b16 .entry))) «stride_b» ∷ []) width height depth (now (kernel .entry)) lent ⌝ }
+    ensures { λ r. ⌜ r ≡ ssimRefusal (planes layout (a8 .entry) (a16 .entry) (b8 .entry) (b16 .entry)) (now (kernel .entry)) lent ⌝ }
 {
-    let no = plane::check(
-        a8,
-        a16,
-        b8,
-        b16,
-        wide,
-        width,
-        height,
-        stride_a,
-        stride_b,
-        depth,
-        0,
-    );
+    let no = plane::check(a8, a16, b8, b16, layout, 0);
     if no != 0 {
         return no;
     }
     if !window::kernel_lawful(kernel) {
         return refusal::KERNEL;
     }
-    if lent < places(width, kernel.len()) {
+    if lent < places(layout.size.width, kernel.len()) {
         return refusal::SCRATCH;
     }
     0
@@ -107,22 +90,16 @@ fn scored(
     a16: &[u16],
     b8: &[u8],
     b16: &[u16],
-    wide: bool,
-    width: usize,
-    height: usize,
-    stride_a: usize,
-    stride_b: usize,
-    depth: u32,
+    layout: Layout,
     kernel: &[u16],
 ) -> Ssim
-    requires { ⌜ Sound (planeOf (samplesOf wide (now a8) (now a16)) «stride_a») (planeOf (samplesOf wide (now b8) (now b16)) «stride_b»)
-        width height depth (now kernel) (length (now scratch)) ⌝ }
-    ensures { λ r. ⌜ r ≡ scoreOf (planeOf (samplesOf wide (now (a8 .entry)) (now (a16 .entry))) «stride_a»)
-        (planeOf (samplesOf wide (now (b8 .entry)) (now (b16 .entry))) «stride_b») width height depth (now (kernel .entry)) ⌝ }
-    ensures { λ _. ⌜ now (scratch .exit) ≡ cleared (placesOf width (length (now (kernel .entry)))) (now (scratch .entry)) ⌝ }
+    requires { ⌜ Sound (planes layout a8 a16 b8 b16) (now kernel) (length (now scratch)) ⌝ }
+    ensures { λ r. ⌜ r ≡ scoreOf (planes layout (a8 .entry) (a16 .entry) (b8 .entry) (b16 .entry)) (now (kernel .entry)) ⌝ }
+    ensures { λ _. ⌜ now (scratch .exit) ≡ cleared (placesOf (layout .size .width) (length (now (kernel .entry))))
+        (now (scratch .entry)) ⌝ }
 {
-    let need = places(width, kernel.len());
-    let max2 = score::squared(plane::sample_max(depth));
+    let need = places(layout.size.width, kernel.len());
+    let max2 = score::squared(plane::sample_max(layout.size.depth));
     let t = walk::totals(
         &mut scratch[..need],
         max2,
@@ -132,11 +109,7 @@ fn scored(
         a16,
         b8,
         b16,
-        wide,
-        stride_a,
-        stride_b,
-        width,
-        height,
+        layout,
     );
     score::pair(t)
 }
@@ -148,54 +121,20 @@ fn of_either(
     a16: &[u16],
     b8: &[u8],
     b16: &[u16],
-    wide: bool,
-    width: usize,
-    height: usize,
-    stride_a: usize,
-    stride_b: usize,
-    depth: u32,
+    layout: Layout,
     kernel: &[u16],
 ) -> Ssim
-    ensures { λ r. ⌜ r ≡ ssimOf wide (planeOf (samplesOf wide (now (a8 .entry)) (now (a16 .entry))) «stride_a»)
-        (planeOf (samplesOf wide (now (b8 .entry)) (now (b16 .entry))) «stride_b»)
-        width height depth (now (kernel .entry)) (length (now (scratch .entry))) ⌝ }
-    ensures { λ _. ⌜ now (scratch .exit) ≡ scratchAfter
-        (ssimRefusal wide (planeOf (samplesOf wide (now (a8 .entry)) (now (a16 .entry))) «stride_a»
-        ∷ planeOf (samplesOf wide (now (b8 .entry)) (now (b16 .entry))) «stride_b» ∷ [])
-        width height depth (now (kernel .entry)) (length (now (scratch .entry))))
-        (placesOf width (length (now (kernel .entry)))) (now (scratch .entry)) ⌝ }
+    ensures { λ r. ⌜ r ≡ ssimOf (planes layout (a8 .entry) (a16 .entry) (b8 .entry) (b16 .entry))
+        (now (kernel .entry)) (length (now (scratch .entry))) ⌝ }
+    ensures { λ _. ⌜ now (scratch .exit) ≡ scratchAfter (ssimRefusal (planes layout (a8 .entry) (a16 .entry) (b8 .entry) (b16 .entry))
+        (now (kernel .entry)) (length (now (scratch .entry)))) (placesOf (layout .size .width) (length (now (kernel .entry))))
+        (now (scratch .entry)) ⌝ }
 {
-    let no = refusal(
-        a8,
-        a16,
-        b8,
-        b16,
-        wide,
-        width,
-        height,
-        stride_a,
-        stride_b,
-        depth,
-        kernel,
-        scratch.len(),
-    );
+    let no = refusal(a8, a16, b8, b16, layout, kernel, scratch.len());
     if no != 0 {
         return Ssim::Refused(no);
     }
-    scored(
-        scratch,
-        a8,
-        a16,
-        b8,
-        b16,
-        wide,
-        width,
-        height,
-        stride_a,
-        stride_b,
-        depth,
-        kernel,
-    )
+    scored(scratch, a8, a16, b8, b16, layout, kernel)
 }
 
 // SSIM of two planes of bytes. Refused, scratch is as it was; else, and at 9, its needed part is all zero and the rest as it was.
@@ -210,27 +149,23 @@ pub fn ssim8(
     kernel: &[u16],
     scratch: &mut [i64],
 ) -> Ssim
-    ensures { λ r. ⌜ r ≡ ssimOf false (planeOf (now (a .entry)) «stride_a») (planeOf (now (b .entry)) «stride_b»)
-        width height depth (now (kernel .entry)) (length (now (scratch .entry))) ⌝ }
-    ensures { λ _. ⌜ now (scratch .exit) ≡ scratchAfter
-        (ssimRefusal false (planeOf (now (a .entry)) «stride_a» ∷ planeOf (now (b .entry)) «stride_b» ∷ [])
-        width height depth (now (kernel .entry)) (length (now (scratch .entry))))
-        (placesOf width (length (now (kernel .entry)))) (now (scratch .entry)) ⌝ }
+    ensures { λ r. ⌜ r ≡ ssimOf (called false (a .entry) (b .entry) width height «stride_a» «stride_b» depth)
+        (now (kernel .entry)) (length (now (scratch .entry))) ⌝ }
+    ensures { λ _. ⌜ now (scratch .exit) ≡ scratchAfter (ssimRefusal (called false (a .entry) (b .entry) width height «stride_a» «stride_b» depth)
+        (now (kernel .entry)) (length (now (scratch .entry)))) (placesOf width (length (now (kernel .entry)))) (now (scratch .entry)) ⌝ }
 {
-    of_either(
-        scratch,
-        a,
-        &[0u16; 0],
-        b,
-        &[0u16; 0],
-        false,
+    let size = Size {
+        wide: false,
         width,
         height,
+        depth,
+    };
+    let layout = Layout {
+        size,
         stride_a,
         stride_b,
-        depth,
-        kernel,
-    )
+    };
+    of_either(scratch, a, &[0u16; 0], b, &[0u16; 0], layout, kernel)
 }
 
 // The same of words.
@@ -245,25 +180,21 @@ pub fn ssim16(
     kernel: &[u16],
     scratch: &mut [i64],
 ) -> Ssim
-    ensures { λ r. ⌜ r ≡ ssimOf true (planeOf (now (a .entry)) «stride_a») (planeOf (now (b .entry)) «stride_b»)
-        width height depth (now (kernel .entry)) (length (now (scratch .entry))) ⌝ }
-    ensures { λ _. ⌜ now (scratch .exit) ≡ scratchAfter
-        (ssimRefusal true (planeOf (now (a .entry)) «stride_a» ∷ planeOf (now (b .entry)) «stride_b» ∷ [])
-        width height depth (now (kernel .entry)) (length (now (scratch .entry))))
-        (placesOf width (length (now (kernel .entry)))) (now (scratch .entry)) ⌝ }
+    ensures { λ r. ⌜ r ≡ ssimOf (called true (a .entry) (b .entry) width height «stride_a» «stride_b» depth)
+        (now (kernel .entry)) (length (now (scratch .entry))) ⌝ }
+    ensures { λ _. ⌜ now (scratch .exit) ≡ scratchAfter (ssimRefusal (called true (a .entry) (b .entry) width height «stride_a» «stride_b» depth)
+        (now (kernel .entry)) (length (now (scratch .entry)))) (placesOf width (length (now (kernel .entry)))) (now (scratch .entry)) ⌝ }
 {
-    of_either(
-        scratch,
-        &[0u8; 0],
-        a,
-        &[0u8; 0],
-        b,
-        true,
+    let size = Size {
+        wide: true,
         width,
         height,
+        depth,
+    };
+    let layout = Layout {
+        size,
         stride_a,
         stride_b,
-        depth,
-        kernel,
-    )
+    };
+    of_either(scratch, &[0u8; 0], a, &[0u8; 0], b, layout, kernel)
 }

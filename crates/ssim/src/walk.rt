@@ -4,14 +4,15 @@ ghost use Prim.Native.Nat.{_*_, _≤_};
 ghost use lib.IntN.{pos};
 ghost use lib.ListN.{length, replicate};
 ghost use Rattle.plane.specs.Limits.{sideLimit};
-ghost use Rattle.plane.specs.Plane.{planeOf, samplesOf};
+ghost use Rattle.plane.specs.Plane.{planes};
 ghost use Rattle.plane.specs.Sums.{sumTo};
 ghost use Rattle.window.specs.Kernel.{tap, fixedTotal};
 ghost use Rattle.window.specs.Parts.{Kernel};
-ghost use Rattle.window.specs.Columns.{viewOf, Readable, columnsOf, Margins, AllSmall, momentsIn};
-ghost use Rattle.ssim.specs.Score.{rowOf, totalsOf};
+ghost use Rattle.window.specs.Columns.{ReadablePair, columnsOf, Margins, AllSmall, momentsIn};
+ghost use Rattle.ssim.specs.Score.{rowOf, totalsIn};
 use crate::Totals;
 use crate::score;
+use plane::Layout;
 
 // The centres of one row, whose column sums stand in `cols`. `down` is the weight of the rows, `total` what all taps sum to.
 pub fn centres(
@@ -59,22 +60,19 @@ fn rows(
     a16: &[u16],
     b8: &[u8],
     b16: &[u16],
-    wide: bool,
-    stride_a: usize,
-    stride_b: usize,
-    width: usize,
-    height: usize,
+    layout: Layout,
 ) -> Totals
-    requires { ⌜ (width ≤ sideLimit) × (height ≤ sideLimit) × (5 * columnsOf (now kernel) width ≤ length (now cols)) ⌝ }
-    requires { ⌜ Margins (now cols) (now kernel) width ⌝ }
+    requires { ⌜ (layout .size .width ≤ sideLimit) × (layout .size .height ≤ sideLimit)
+        × (5 * columnsOf (now kernel) (layout .size .width) ≤ length (now cols)) ⌝ }
+    requires { ⌜ Margins (now cols) (now kernel) (layout .size .width) ⌝ }
     requires { ⌜ Kernel (now kernel) ⌝ }
     requires { ⌜ total ≡ sumTo (tap (now kernel)) (length (now kernel)) ⌝ }
-    requires { ⌜ Readable width height (planeOf (samplesOf wide (now a8) (now a16)) «stride_a») ⌝ }
-    requires { ⌜ Readable width height (planeOf (samplesOf wide (now b8) (now b16)) «stride_b») ⌝ }
-    ensures { λ r. ⌜ r ≡ totalsOf max2 (now (kernel .entry)) width height
-        (viewOf (planeOf (samplesOf wide (now (a8 .entry)) (now (a16 .entry))) «stride_a»))
-        (viewOf (planeOf (samplesOf wide (now (b8 .entry)) (now (b16 .entry))) «stride_b»)) height ⌝ }
+    requires { ⌜ ReadablePair (planes layout a8 a16 b8 b16) ⌝ }
+    ensures { λ r. ⌜ r ≡ totalsIn max2 (now (kernel .entry)) (planes layout (a8 .entry) (a16 .entry) (b8 .entry) (b16 .entry))
+        (layout .size .height) ⌝ }
 {
+    let width = layout.size.width;
+    let height = layout.size.height;
     let start = 5 * (kernel.len() / 2);
     let end = start + 5 * width;
     let mut t = Totals {
@@ -83,20 +81,7 @@ fn rows(
         ssimw: 0.0,
     };
     for y in 0..height {
-        window::columns::fill(
-            &mut cols[start..end],
-            kernel,
-            a8,
-            a16,
-            b8,
-            b16,
-            wide,
-            stride_a,
-            stride_b,
-            width,
-            height,
-            y,
-        );
+        window::columns::fill(&mut cols[start..end], kernel, a8, a16, b8, b16, layout, y);
         let down = window::row::weight(kernel, total, height, y);
         t = centres(max2, t, kernel, total, cols, width, down);
     }
@@ -113,38 +98,19 @@ pub fn totals(
     a16: &[u16],
     b8: &[u8],
     b16: &[u16],
-    wide: bool,
-    stride_a: usize,
-    stride_b: usize,
-    width: usize,
-    height: usize,
+    layout: Layout,
 ) -> Totals
-    requires { ⌜ (width ≤ sideLimit) × (height ≤ sideLimit) × (5 * columnsOf (now kernel) width ≤ length (now scratch)) ⌝ }
+    requires { ⌜ (layout .size .width ≤ sideLimit) × (layout .size .height ≤ sideLimit)
+        × (5 * columnsOf (now kernel) (layout .size .width) ≤ length (now scratch)) ⌝ }
     requires { ⌜ Kernel (now kernel) ⌝ }
     requires { ⌜ total ≡ sumTo (tap (now kernel)) (length (now kernel)) ⌝ }
-    requires { ⌜ Readable width height (planeOf (samplesOf wide (now a8) (now a16)) «stride_a») ⌝ }
-    requires { ⌜ Readable width height (planeOf (samplesOf wide (now b8) (now b16)) «stride_b») ⌝ }
-    ensures { λ r. ⌜ r ≡ totalsOf max2 (now (kernel .entry)) width height
-        (viewOf (planeOf (samplesOf wide (now (a8 .entry)) (now (a16 .entry))) «stride_a»))
-        (viewOf (planeOf (samplesOf wide (now (b8 .entry)) (now (b16 .entry))) «stride_b»)) height ⌝ }
+    requires { ⌜ ReadablePair (planes layout a8 a16 b8 b16) ⌝ }
+    ensures { λ r. ⌜ r ≡ totalsIn max2 (now (kernel .entry)) (planes layout (a8 .entry) (a16 .entry) (b8 .entry) (b16 .entry))
+        (layout .size .height) ⌝ }
     ensures { λ _. ⌜ now (scratch .exit) ≡ replicate (length (now (scratch .entry))) (pos 0) ⌝ }
 {
     clear(scratch);
-    let t = rows(
-        scratch,
-        max2,
-        kernel,
-        total,
-        a8,
-        a16,
-        b8,
-        b16,
-        wide,
-        stride_a,
-        stride_b,
-        width,
-        height,
-    );
+    let t = rows(scratch, max2, kernel, total, a8, a16, b8, b16, layout);
     clear(scratch);
     t
 }

@@ -126,7 +126,7 @@ fn family(name: &[u8], family: usize, first: usize, end: usize)
     tell::line(name, right_ones(family, first, end), end - first);
 }
 
-// Document 01's numbers that are run are among these: the root of 2; depths 8, 9, 12, 13 and sides of 8,192 and 8,193 in the plane
+// SCOPE's numbers that are run are among these: the root of 2; depths 8, 9, 12, 13 and sides of 8,192 and 8,193 in the plane
 // checks; the kernel 128 0 128 in SSIM; side 7 in PSNR-HVS; sides 15 and 16 in MS-SSIM. The totals of 2^53 and one more are in
 // src/series.rt.
 pub fn replay_plain() {

@@ -1,4 +1,4 @@
-// Series of records at document 01's limits.
+// Series of records at SCOPE's limits.
 use crate::tell;
 use psnr::Record;
 use psnr::Run;

@@ -2,7 +2,7 @@
 -- parameter, so that they speak of lent kernels and of the fixed one alike; `lent-sums` and `fixed-sums` are these two. Assumes nothing.
 use mathlib.Core.Path.{_≡_, refl}
 use mathlib.Core.Bool.{Bool, true, false}
-use mathlib.Core.List.{List, [], _∷_}
+use mathlib.Core.List.{List}
 use Prim.Native.Nat.{ℕ, _*_, _/_, _^_, _≤_, _<_}
 use native.Mathlib.Nat.{mul-comm, mul-assoc, mul-one, mul-le-mul, le-trans, le-refl, lt-of-le-of-lt, pow-le-pow-right, one-le-mul}
 use native.Mathlib.Omega.{arith}
@@ -11,12 +11,12 @@ use lib.IntN.{pos, _-ℤ_, _*ℤ_}
 use lib.ListN.{length}
 use lib.Signed.{_≤ℤ_}
 use Rattle.plane.specs.Limits.{mostDepth}
-use Rattle.plane.specs.Plane.{Plane, maxOf}
-use Rattle.plane.specs.Lawful.{Accepted}
+use Rattle.plane.specs.Plane.{Planes, maxOf, sampleAt}
+use Rattle.plane.specs.Inner.Lawful.{AcceptedPair}
 use Rattle.plane.proofs.Depth.{max-grows}
 use Rattle.window.specs.Kernel.{lentTotal, fixedKernel, fixedTotal, lawful}
 use Rattle.window.specs.Moments.{momentAt, muxAt, muyAt, x2At, xyAt, y2At, wAt}
-use Rattle.window.specs.Columns.{viewOf, mostSample}
+use Rattle.window.specs.Columns.{mostSample}
 use Rattle.window.proofs.KernelSays.{kernel-says, lent-total, fixed-lawful}
 use Rattle.window.proofs.Separable.{weights}
 use Rattle.window.proofs.Cauchy.{first-le, second-le, signed-le}
@@ -177,13 +177,15 @@ scale-small depth k d l =
     le-trans s (lit≤ tt)
 
 -- a lent kernel, over two accepted planes of either width
-pub lent-sums : (wide : Bool) (p q : Plane) (width height depth least : ℕ) → Accepted wide (p ∷ q ∷ []) width height depth least
-    → (ker : List ℕ) → lawful lentTotal ker ≡ true → (x y : ℕ) → x < width → y < height
-    → Demanded ker width height (viewOf p) (viewOf q) x y lentTotal (maxOf depth)
-lent-sums wide p q width height depth least c ker ok x y l m =
-    demanded ker width height _ _ x y lentTotal (maxOf depth) ok lent-total (plane-small wide depth (c .depth-most))
-    (λ row col i j. c .each .0 .small col row j i)
-    (λ row col i j. c .each .1 .0 .small col row j i)
+pub lent-sums : (p : Planes) (least : ℕ) → AcceptedPair p least
+    → (ker : List ℕ) → lawful lentTotal ker ≡ true → (x y : ℕ) → x < p .size .width → y < p .size .height
+    → Demanded ker (p .size .width) (p .size .height) (sampleAt (p .a)) (sampleAt (p .b)) x y lentTotal (maxOf (p .size .depth))
+lent-sums p least c ker ok x y l m =
+    let size = p .size in
+    demanded ker (size .width) (size .height) _ _ x y lentTotal (maxOf (size .depth)) ok lent-total
+    (plane-small (size .wide) (size .depth) (c .sized .depth-most))
+    (c .each .0 .bounded .small)
+    (c .each .1 .0 .bounded .small)
     l
     m
 

@@ -4,20 +4,14 @@ use mathlib.Core.List.{List}
 use Prim.Native.Nat.{ℕ, _+_, _-_, _*_, _/_, _<_}
 use native.Mathlib.Omega.{arith}
 use lib.ListN.{length}
-use Rattle.plane.specs.Plane.{Plane}
-use Rattle.plane.specs.Lawful.{Alike}
 use Rattle.plane.proofs.Sums.{sum-ext}
 use Rattle.window.specs.Kernel.{tap}
 use Rattle.window.specs.Moments.{inside, momentAt}
 use Rattle.window.specs.Parts.{momentsAt}
-use Rattle.window.specs.Columns.{viewOf}
 use Rattle.window.proofs.Windows.{inside-both}
 
 abbrev pub Same : ℕ → ℕ → (ℕ → ℕ → ℕ) → (ℕ → ℕ → ℕ) → Type 0
 Same width height v w = (r c : ℕ) → r < height → c < width → v r c ≡ w r c
-
-pub planes-same : (a b : Plane) (width height : ℕ) → Alike width height a b → Same width height (viewOf a) (viewOf b)
-planes-same a b width height h r c k l = h c r l k
 
 module _ (ker : List ℕ) (width height : ℕ) where
   moment-ext : (v w : ℕ → ℕ → ℕ) (x y : ℕ) → Same width height v w → momentAt ker width height v x y ≡ momentAt ker width height w x y

@@ -6,16 +6,12 @@ use lib.Dec.{T}
 use lib.IntN.{ℤ, pos, natAbs}
 use lib.ListN.{length, getD}
 use lib.Signed.{nonNeg}
-use Rattle.plane.specs.Plane.{Plane, sampleAt, needed}
-use Rattle.window.specs.Parts.{windowOf, weightOf, acrossOf, quantOf, nth}
+use Rattle.plane.specs.Plane.{Plane, Planes, sampleAt, needed}
+use Rattle.window.specs.Parts.{windowOf, weightOf, acrossOf, quantOf, partsOf, nth}
 use Rattle.window.specs.declared.Sums.{Sums}
 use Rattle.window.specs.declared.Moments.{Moments}
 
 -- ---- what is read
-
--- a plane as a view: what stands at row r and column c
-abbrev pub viewOf : Plane → ℕ → ℕ → ℕ
-viewOf p r c = sampleAt p c r
 
 -- the largest sample that the sums are made for: words are below it, and so are the summed samples of the five scales
 unfoldable pub mostSample : ℕ
@@ -26,7 +22,15 @@ pub record Readable (width height : ℕ) (p : Plane) : Type 0 where
   pub long : needed width height (p .stride) ≤ length (p .samples)
   pub small : (i : ℕ) → getD (p .samples) i 0 ≤ mostSample
 
+pub record ReadablePair (p : Planes) : Type 0 where
+  pub first : Readable (p .size .width) (p .size .height) (p .a)
+  pub second : Readable (p .size .width) (p .size .height) (p .b)
+
 -- ---- what is kept
+
+-- the five sums down column x of two planes, the middle in row y
+abbrev pub columnOf : List ℕ → Planes → ℕ → ℕ → Sums
+columnOf ker p x y = partsOf ker (p .size .height) (λ (m i : ℕ). quantOf m (sampleAt (p .a) i x) (sampleAt (p .b) i x)) y (length ker)
 
 -- place p, and 0 past the end
 abbrev pub atZ : List ℤ → ℕ → ℤ
@@ -43,6 +47,10 @@ columnAt ker height a b y j = windowOf ker height (λ (r : ℕ). quantOf (j % 5)
 -- the first n places hold them
 unfoldable pub Holds : List ℤ → ℕ → List ℕ → ℕ → (ℕ → ℕ → ℕ) → (ℕ → ℕ → ℕ) → ℕ → Type 0
 Holds s n ker height a b y = (j : ℕ) → j < n → atZ s j ≡ pos (columnAt ker height a b y j)
+
+-- those of two planes
+abbrev pub HoldsRow : List ℤ → ℕ → List ℕ → Planes → ℕ → Type 0
+HoldsRow s n ker p y = Holds s n ker (p .size .height) (sampleAt (p .a)) (sampleAt (p .b)) y
 
 -- how many columns stand there: those of the plane, and half a kernel of zeros before and after
 abbrev pub columnsOf : List ℕ → ℕ → ℕ

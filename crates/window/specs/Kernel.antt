@@ -1,4 +1,4 @@
--- Document 01, "What a plane may be": kernels. Definitions only.
+-- SCOPE, "What a plane may be": kernels. Definitions only.
 use mathlib.Core.Bool.{Bool, _&&_}
 use mathlib.Core.List.{List, [], _∷_}
 use Prim.Native.Nat.{ℕ, _-_, _/_, _%_}

@@ -1,4 +1,4 @@
--- Document 01, "HVS, SSIM and scales": at each centre, mux, muy, x2, xy, y2 and w are sums over kernel places inside the plane.
+-- SCOPE, "HVS, SSIM and scales": at each centre, mux, muy, x2, xy, y2 and w are sums over kernel places inside the plane.
 -- A view gives what stands at row r and column c: a plane's sample, or a product of two. Definitions only.
 use mathlib.Core.Bool.{cond}
 use mathlib.Core.List.{List}

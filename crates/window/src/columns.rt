@@ -5,11 +5,12 @@ ghost use Prim.Native.Nat.{ℕ, _+_, _-_, _*_, _/_, _<_, _≤_};
 ghost use lib.IntN.{pos};
 ghost use lib.ListN.{length, set};
 ghost use Rattle.plane.specs.Limits.{sideLimit};
-ghost use Rattle.plane.specs.Plane.{planeOf, samplesOf};
+ghost use Rattle.plane.specs.Plane.{planeOf, planes, sampleAt};
 ghost use Rattle.window.specs.Kernel.{mostTaps};
 ghost use Rattle.window.specs.Parts.{Kernel, quantOf, tappedOf, Room, partsOf};
-ghost use Rattle.window.specs.Columns.{viewOf, Readable, Holds, Fits};
+ghost use Rattle.window.specs.Columns.{Readable, ReadablePair, columnOf, HoldsRow, Fits};
 use crate::Sums;
+use plane::Layout;
 
 // Of a kernel of n taps with its middle at x, the first tap that lies inside a side.
 pub fn first(n: usize, x: usize) -> usize
@@ -31,14 +32,14 @@ pub fn past(n: usize, x: usize, side: usize) -> usize
 // The sample at row r and column c of each width, wider.
 fn sample8(p: &[u8], stride: usize, r: usize, c: usize) -> u64
     requires { ⌜ r * stride + c < length (now p) ⌝ }
-    ensures { λ s. ⌜ s ≡ viewOf (planeOf (now (p .entry)) stride) r c ⌝ }
+    ensures { λ s. ⌜ s ≡ sampleAt (planeOf (now (p .entry)) stride) r c ⌝ }
 {
     p[r * stride + c] as u64
 }
 
 fn sample16(p: &[u16], stride: usize, r: usize, c: usize) -> u64
     requires { ⌜ r * stride + c < length (now p) ⌝ }
-    ensures { λ s. ⌜ s ≡ viewOf (planeOf (now (p .entry)) stride) r c ⌝ }
+    ensures { λ s. ⌜ s ≡ sampleAt (planeOf (now (p .entry)) stride) r c ⌝ }
 {
     p[r * stride + c] as u64
 }
@@ -81,8 +82,8 @@ fn column8(
     requires { ⌜ Kernel (now kernel) ⌝ }
     requires { ⌜ Readable width height (planeOf (now a) «stride_a») ⌝ }
     requires { ⌜ Readable width height (planeOf (now b) «stride_b») ⌝ }
-    ensures { λ r. ⌜ r ≡ partsOf (now (kernel .entry)) height (λ (m i : ℕ). quantOf m (viewOf (planeOf (now (a .entry)) «stride_a») i x)
-        (viewOf (planeOf (now (b .entry)) «stride_b») i x)) y (length (now (kernel .entry))) ⌝ }
+    ensures { λ r. ⌜ r ≡ partsOf (now (kernel .entry)) height (λ (m i : ℕ). quantOf m (sampleAt (planeOf (now (a .entry)) «stride_a») i x)
+        (sampleAt (planeOf (now (b .entry)) «stride_b») i x)) y (length (now (kernel .entry))) ⌝ }
 {
     let n = kernel.len();
     let off = n / 2;
@@ -121,8 +122,8 @@ fn column16(
     requires { ⌜ Kernel (now kernel) ⌝ }
     requires { ⌜ Readable width height (planeOf (now a) «stride_a») ⌝ }
     requires { ⌜ Readable width height (planeOf (now b) «stride_b») ⌝ }
-    ensures { λ r. ⌜ r ≡ partsOf (now (kernel .entry)) height (λ (m i : ℕ). quantOf m (viewOf (planeOf (now (a .entry)) «stride_a») i x)
-        (viewOf (planeOf (now (b .entry)) «stride_b») i x)) y (length (now (kernel .entry))) ⌝ }
+    ensures { λ r. ⌜ r ≡ partsOf (now (kernel .entry)) height (λ (m i : ℕ). quantOf m (sampleAt (planeOf (now (a .entry)) «stride_a») i x)
+        (sampleAt (planeOf (now (b .entry)) «stride_b») i x)) y (length (now (kernel .entry))) ⌝ }
 {
     let n = kernel.len();
     let off = n / 2;
@@ -145,33 +146,48 @@ fn column16(
     t
 }
 
-// The same of either width: `wide` says whether the words or the bytes are the planes.
+// The same of either width.
 fn column(
     kernel: &[u16],
     a8: &[u8],
     a16: &[u16],
     b8: &[u8],
     b16: &[u16],
-    wide: bool,
-    stride_a: usize,
-    stride_b: usize,
-    width: usize,
-    height: usize,
+    layout: Layout,
     x: usize,
     y: usize,
 ) -> Sums
-    requires { ⌜ (x < width) × (y < height) × (height ≤ sideLimit) ⌝ }
+    requires { ⌜ (x < layout .size .width) × (y < layout .size .height) × (layout .size .height ≤ sideLimit) ⌝ }
     requires { ⌜ Kernel (now kernel) ⌝ }
-    requires { ⌜ Readable width height (planeOf (samplesOf wide (now a8) (now a16)) «stride_a») ⌝ }
-    requires { ⌜ Readable width height (planeOf (samplesOf wide (now b8) (now b16)) «stride_b») ⌝ }
-    ensures { λ r. ⌜ r ≡ partsOf (now (kernel .entry)) height (λ (m i : ℕ). quantOf m
-        (viewOf (planeOf (samplesOf wide (now (a8 .entry)) (now (a16 .entry))) «stride_a») i x)
-        (viewOf (planeOf (samplesOf wide (now (b8 .entry)) (now (b16 .entry))) «stride_b») i x)) y (length (now (kernel .entry))) ⌝ }
+    requires { ⌜ ReadablePair (planes layout a8 a16 b8 b16) ⌝ }
+    ensures { λ r. ⌜ r ≡ columnOf (now (kernel .entry)) (planes layout (a8 .entry) (a16 .entry) (b8 .entry) (b16 .entry)) x y ⌝ }
 {
-    if wide {
-        column16(kernel, a16, b16, stride_a, stride_b, width, height, x, y)
+    let width = layout.size.width;
+    let height = layout.size.height;
+    if layout.size.wide {
+        column16(
+            kernel,
+            a16,
+            b16,
+            layout.stride_a,
+            layout.stride_b,
+            width,
+            height,
+            x,
+            y,
+        )
     } else {
-        column8(kernel, a8, b8, stride_a, stride_b, width, height, x, y)
+        column8(
+            kernel,
+            a8,
+            b8,
+            layout.stride_a,
+            layout.stride_b,
+            width,
+            height,
+            x,
+            y,
+        )
     }
 }
 
@@ -197,36 +213,17 @@ pub fn fill(
     a16: &[u16],
     b8: &[u8],
     b16: &[u16],
-    wide: bool,
-    stride_a: usize,
-    stride_b: usize,
-    width: usize,
-    height: usize,
+    layout: Layout,
     y: usize,
 )
-    requires { ⌜ (5 * width ≤ length (now cols)) × (y < height) × (height ≤ sideLimit) ⌝ }
+    requires { ⌜ (5 * layout .size .width ≤ length (now cols)) × (y < layout .size .height) × (layout .size .height ≤ sideLimit) ⌝ }
     requires { ⌜ Kernel (now kernel) ⌝ }
-    requires { ⌜ Readable width height (planeOf (samplesOf wide (now a8) (now a16)) «stride_a») ⌝ }
-    requires { ⌜ Readable width height (planeOf (samplesOf wide (now b8) (now b16)) «stride_b») ⌝ }
-    ensures { λ _. ⌜ Holds (now (cols .exit)) (5 * width) (now (kernel .entry)) height
-        (viewOf (planeOf (samplesOf wide (now (a8 .entry)) (now (a16 .entry))) «stride_a»))
-        (viewOf (planeOf (samplesOf wide (now (b8 .entry)) (now (b16 .entry))) «stride_b»)) y ⌝ }
+    requires { ⌜ ReadablePair (planes layout a8 a16 b8 b16) ⌝ }
+    ensures { λ _. ⌜ HoldsRow (now (cols .exit)) (5 * layout .size .width) (now (kernel .entry))
+        (planes layout (a8 .entry) (a16 .entry) (b8 .entry) (b16 .entry)) y ⌝ }
 {
-    for x in 0..width {
-        let t = column(
-            kernel,
-            a8,
-            a16,
-            b8,
-            b16,
-            wide,
-            stride_a,
-            stride_b,
-            width,
-            height,
-            x,
-            y,
-        );
+    for x in 0..layout.size.width {
+        let t = column(kernel, a8, a16, b8, b16, layout, x, y);
         put(cols, 5 * x, t);
     }
 }

@@ -4,16 +4,16 @@ ghost use mathlib.Core.Path.{_≡_};
 ghost use Prim.Native.Nat.{ℕ, _+_, _*_, _<_, _≤_};
 ghost use lib.ListN.{length};
 ghost use Rattle.plane.specs.Limits.{sideLimit};
-ghost use Rattle.plane.specs.Plane.{planeOf};
+ghost use Rattle.plane.specs.Plane.{planeOf, sampleAt};
 ghost use Rattle.window.specs.Parts.{Kernel, quantOf, partsOf};
-ghost use Rattle.window.specs.Columns.{viewOf, Readable, Holds};
+ghost use Rattle.window.specs.Columns.{Readable, Holds};
 use crate::Sums;
 use crate::columns;
 
 // The sample at row r and column c, wider.
 fn sample32(p: &[u32], stride: usize, r: usize, c: usize) -> u64
     requires { ⌜ r * stride + c < length (now p) ⌝ }
-    ensures { λ s. ⌜ s ≡ viewOf (planeOf (now (p .entry)) stride) r c ⌝ }
+    ensures { λ s. ⌜ s ≡ sampleAt (planeOf (now (p .entry)) stride) r c ⌝ }
 {
     p[r * stride + c] as u64
 }
@@ -34,8 +34,8 @@ fn column32(
     requires { ⌜ Kernel (now kernel) ⌝ }
     requires { ⌜ Readable width height (planeOf (now a) «stride_a») ⌝ }
     requires { ⌜ Readable width height (planeOf (now b) «stride_b») ⌝ }
-    ensures { λ r. ⌜ r ≡ partsOf (now (kernel .entry)) height (λ (m i : ℕ). quantOf m (viewOf (planeOf (now (a .entry)) «stride_a») i x)
-        (viewOf (planeOf (now (b .entry)) «stride_b») i x)) y (length (now (kernel .entry))) ⌝ }
+    ensures { λ r. ⌜ r ≡ partsOf (now (kernel .entry)) height (λ (m i : ℕ). quantOf m (sampleAt (planeOf (now (a .entry)) «stride_a») i x)
+        (sampleAt (planeOf (now (b .entry)) «stride_b») i x)) y (length (now (kernel .entry))) ⌝ }
 {
     let n = kernel.len();
     let off = n / 2;
@@ -75,8 +75,8 @@ pub fn fill32(
     requires { ⌜ Readable width height (planeOf (now a) «stride_a») ⌝ }
     requires { ⌜ Readable width height (planeOf (now b) «stride_b») ⌝ }
     ensures { λ _. ⌜ Holds (now (cols .exit)) (5 * width) (now (kernel .entry)) height
-        (viewOf (planeOf (now (a .entry)) «stride_a»))
-        (viewOf (planeOf (now (b .entry)) «stride_b»)) y ⌝ }
+        (sampleAt (planeOf (now (a .entry)) «stride_a»))
+        (sampleAt (planeOf (now (b .entry)) «stride_b»)) y ⌝ }
 {
     for x in 0..width {
         let t = column32(kernel, a, b, stride_a, stride_b, width, height, x, y);

@@ -6,9 +6,8 @@ use native.Mathlib.Omega.{arith}
 use borrow.Author.Needs.{needs}
 use denote.Ref.{now}
 use lib.ListN.{length}
-use Rattle.window.specs.Columns.{viewOf}
 use Rattle.downscale.specs.Rooms.{Filled}
-use Rattle.plane.specs.Plane.{planeOf}
+use Rattle.plane.specs.Plane.{planeOf, sampleAt}
 use Rattle.downscale.specs.Summed.{summedOf}
 use Rattle.downscale.proofs.Rooms.{filled-none, filled-more, sum-still}
 use Rattle.downscale.proofs.downscale.Statement.{statement}
@@ -16,7 +15,7 @@ use Rattle.downscale.proofs.downscale.Tie as tie
 
 abbrev Inv-loop : tie.InvT-loop
 Inv-loop room₀ width height j₀ j-end room j =
-    (j ≤ height / 2) × (length room ≡ length room₀) × Filled room₀ room (width / 2) (summedOf (viewOf (planeOf room₀ width))) j
+    (j ≤ height / 2) × (length room ≡ length room₀) × Filled room₀ room (width / 2) (summedOf (sampleAt (planeOf room₀ width))) j
 
 abbrev μ-loop : tie.MeasureT-loop
 μ-loop room₀ width height j₀ j-end room j = height / 2 - j
@@ -46,7 +45,7 @@ loop-again c =
     let r = c .before .before .sum-row in (
       omega arith,
       r .kept .0 ∙ l .inv .1,
-      filled-more _ _ _ _ (summedOf (viewOf (planeOf (now (s .args .room)) (s .args .width)))) _ _ (l .inv .2) (r .ensures)
+      filled-more _ _ _ _ (summedOf (sampleAt (planeOf (now (s .args .room)) (s .args .width)))) _ _ (l .inv .2) (r .ensures)
           (λ i m. sum-still (now (s .args .room)) (l .room) (s .args .width) (l .j) (l .inv .2 .rest) i),
     )
 

@@ -6,8 +6,7 @@ use native.Mathlib.Omega.{arith}
 use mathlib.Core.Path.{_≡_, refl}
 use denote.Ref.{now}
 use lib.ListN.{length, length-set}
-use Rattle.plane.specs.Plane.{planeOf}
-use Rattle.window.specs.Columns.{viewOf}
+use Rattle.plane.specs.Plane.{planeOf, sampleAt}
 use Rattle.downscale.specs.Summed.{summedOf}
 use Rattle.downscale.specs.Rooms.{Put}
 use Rattle.downscale.proofs.Rooms.{put-none, put-more, half-le, sum-same, sum-small}
@@ -15,7 +14,7 @@ use Rattle.downscale.proofs.sum_row.Statement.{statement}
 use Rattle.downscale.proofs.sum_row.Tie as tie
 
 abbrev Inv-loop : tie.InvT-loop
-Inv-loop room₀ width j half to top c₀ room c = (c ≤ width / 2) × (length room ≡ length room₀) × Put room₀ room (j * (width / 2)) c (summedOf (viewOf (planeOf room₀ width)) j)
+Inv-loop room₀ width j half to top c₀ room c = (c ≤ width / 2) × (length room ≡ length room₀) × Put room₀ room (j * (width / 2)) c (summedOf (sampleAt (planeOf room₀ width)) j)
 
 abbrev μ-loop : tie.MeasureT-loop
 μ-loop room₀ width j half to top c₀ room c = width / 2 - c
@@ -66,7 +65,7 @@ loop-again c =
     let l = c .before .before .before .loop in (
       omega arith,
       simp length-set (l .inv .1),
-      put-more _ _ _ _ (summedOf (viewOf (planeOf (now (s .args .room)) (s .args .width))) (s .args .j)) _ (l .inv .2)
+      put-more _ _ _ _ (summedOf (sampleAt (planeOf (now (s .args .room)) (s .args .width))) (s .args .j)) _ (l .inv .2)
           (sum-same _ _ _ _ _ _ (l .inv .2) _ (c .four .ensures)) (omega (arith, half-le (s .args .j) (s .args .width))),
     )
 

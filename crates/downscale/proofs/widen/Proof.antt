@@ -6,20 +6,19 @@ use native.Mathlib.Omega.{arith}
 use borrow.Author.Needs.{needs}
 use denote.Ref.{now}
 use lib.ListN.{length}
-use Rattle.window.specs.Columns.{viewOf}
 use Rattle.downscale.specs.Rooms.{Filled}
-use Rattle.plane.specs.Plane.{planeOf, samplesOf}
+use Rattle.plane.specs.Plane.{planeIn, lent, sampleAt}
 use Rattle.plane.proofs.Rows.{row-inside, count-fits}
 use Rattle.downscale.proofs.Rooms.{filled-none, filled-more}
 use Rattle.downscale.proofs.widen.Statement.{statement}
 use Rattle.downscale.proofs.widen.Tie as tie
 
 abbrev Inv-loop : tie.InvT-loop
-Inv-loop room₀ bytes words wide width height stride y₀ room y =
-    (y ≤ height) × (length room ≡ length room₀) × Filled room₀ room width (viewOf (planeOf (samplesOf wide bytes words) stride)) y
+Inv-loop room₀ bytes words size stride width y₀ y-end room y =
+    (y ≤ size .height) × (length room ≡ length room₀) × Filled room₀ room width (sampleAt (planeIn size bytes words stride)) y
 
 abbrev μ-loop : tie.MeasureT-loop
-μ-loop room₀ bytes words wide width height stride y₀ room y = height - y
+μ-loop room₀ bytes words size stride width y₀ y-end room y = size .height - y
 
 loop-holds : tie.Need-loop-holds Inv-loop μ-loop
 loop-holds c = (search needs, refl, filled-none _ _ _)
@@ -27,19 +26,19 @@ loop-holds c = (search needs, refl, filled-none _ _ _)
 mul-widen-row : tie.Need-mul-widen-row Inv-loop μ-loop
 mul-widen-row c =
     let s = c .before .before .before .before .before .before in
-    let row = row-inside (s .args .width) (s .args .stride) (s .pre .1) (c .before .loop-test .taken) in
-    omega (arith, row, count-fits (s .args .wide) (now (s .args .bytes)) (now (s .args .words)) (omega arith) (omega arith))
+    let row = row-inside (s .args .size .width) (s .args .stride) (s .pre .1) (c .before .loop-test .taken) in
+    omega (arith, row, count-fits (s .args .size .wide) (now (s .args .bytes)) (now (s .args .words)) (omega arith) (omega arith))
 
 mul-widen-row-2 : tie.Need-mul-widen-row-2 Inv-loop μ-loop
 mul-widen-row-2 c =
     let s = c .before .before .before .before .before .before in
-    omega (arith, mul-le-mul-right (s .args .width) (c .before .loop-test .taken))
+    omega (arith, mul-le-mul-right (s .args .size .width) (c .before .loop-test .taken))
 
 widen-row-requires : tie.Need-widen-row-requires Inv-loop μ-loop
 widen-row-requires c κs =
     let s = c .before .before .before .before .before .before in (
-      omega (arith, mul-le-mul-right (s .args .width) (c .before .loop-test .taken)),
-      row-inside (s .args .width) (s .args .stride) (s .pre .1) (c .before .loop-test .taken),
+      omega (arith, mul-le-mul-right (s .args .size .width) (c .before .loop-test .taken)),
+      row-inside (s .args .size .width) (s .args .stride) (s .pre .1) (c .before .loop-test .taken),
     )
 
 add-y : tie.Need-add-y Inv-loop μ-loop
@@ -55,7 +54,7 @@ loop-again c =
     let r = c .before .before .widen-row in (
       omega arith,
       r .kept .0 ∙ l .inv .1,
-      filled-more _ _ _ _ (viewOf (planeOf (samplesOf (s .args .wide) (now (s .args .bytes)) (now (s .args .words))) (s .args .stride))) _ _
+      filled-more _ _ _ _ (sampleAt (lent (s .args .size) (s .args .bytes) (s .args .words) (s .args .stride))) _ _
           (l .inv .2) (r .ensures) (λ i m. refl),
     )
 
@@ -64,7 +63,7 @@ same-length c = c .before .loop .inv .1
 
 returns : tie.Need-returns Inv-loop μ-loop
 returns c =
-    let e : c .before .loop .y ≡ c .before .before .before .before .before .args .height = omega arith in
+    let e : c .before .loop .y ≡ c .before .before .before .before .before .args .size .height = omega arith in
     rw e at (c .before .loop .inv .2)
 
 pub widen-spec : {M : Type 1} → statement M

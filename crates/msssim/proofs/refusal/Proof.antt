@@ -12,23 +12,23 @@ check-requires c κs = search needs
 
 returns : tie.Need-returns
 unfolding leastSide
-returns c = planes-stop _ _ _ _ _ _ (c .before .check .ensures) _ (c .if1 .taken)
+returns c = planes-stop _ _ _ (c .before .check .ensures) _ (c .if1 .taken)
 
 lent-enough-requires : tie.Need-lent-enough-requires
 lent-enough-requires c κs =
-    let planes = planes-say _ _ _ _ _ _ (c .before .check .ensures) (c .if1 .left) in
-    (planes .width-most, planes .height-most)
+    let planes = planes-say _ _ _ (c .before .check .ensures) (c .if1 .left) in
+    (planes .sized .width-most, planes .sized .height-most)
 
 returns-2 : tie.Need-returns-2
 unfolding leastSide
 returns-2 c =
-    lent-refuses _ _ _ _ _ _ _ _ (c .before .before .before .check .ensures) (c .before .before .if1 .left)
+    lent-refuses _ _ _ _ (c .before .before .before .check .ensures) (c .before .before .if1 .left)
     (fails (c .before .lent-enough .ensures) (c .if2 .taken))
 
 returns-3 : tie.Need-returns-3
 unfolding leastSide
 returns-3 c =
-    none-refuses _ _ _ _ _ _ _ _ (c .before .before .before .check .ensures) (c .before .before .if1 .left)
+    none-refuses _ _ _ _ (c .before .before .before .check .ensures) (c .before .before .if1 .left)
     (holds (c .before .lent-enough .ensures) (c .if2 .left))
 
 pub refusal-spec : {M : Type 1} → statement M

@@ -46,7 +46,7 @@ answer-requires c κs =
     let s = c .before .before .before .before .before .before .before .before .before in (
       s .pre .0,
       (
-        omega (arith, length-take-le (placesOf (s .args .width)) (now (s .args .scratch)) (s .pre .1 .0)),
+        omega (arith, length-take-le (placesOf (s .args .layout .size .width)) (now (s .args .scratch)) (s .pre .1 .0)),
         (length-take-le _ (now (s .args .room-a)) (s .pre .1 .1 .0), length-take-le _ (now (s .args .room-b)) (s .pre .1 .1 .1)),
       ),
     )
@@ -66,10 +66,10 @@ returns c =
     let e = c .before .before .before .before .before .answer .ensures in (
       e .0,
       (
-        rw (e .1 .0, length-take-le (placesOf (s .args .width)) (now (s .args .scratch)) (s .pre .1 .0)),
+        rw (e .1 .0, length-take-le (placesOf (s .args .layout .size .width)) (now (s .args .scratch)) (s .pre .1 .0)),
         (
-          rw (e .1 .1 .0, length-take-le (roomOf (s .args .width) (s .args .height)) (now (s .args .room-a)) (s .pre .1 .1 .0)),
-          rw (e .1 .1 .1, length-take-le (roomOf (s .args .width) (s .args .height)) (now (s .args .room-b)) (s .pre .1 .1 .1)),
+          rw (e .1 .1 .0, length-take-le (roomOf (s .args .layout .size .width) (s .args .layout .size .height)) (now (s .args .room-a)) (s .pre .1 .1 .0)),
+          rw (e .1 .1 .1, length-take-le (roomOf (s .args .layout .size .width) (s .args .layout .size .height)) (now (s .args .room-b)) (s .pre .1 .1 .1)),
         ),
       ),
     )

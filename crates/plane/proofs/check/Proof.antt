@@ -8,20 +8,20 @@ size-refusal-requires : tie.Need-size-refusal-requires
 size-refusal-requires c κs = search needs
 
 returns : tie.Need-returns
-returns c = sizes-stop _ _ _ _ _ (c .before .size-refusal .ensures) _ (c .if1 .taken)
+returns c = sizes-stop _ _ (c .before .size-refusal .ensures) _ (c .if1 .taken)
 
 layout-refusal-requires : tie.Need-layout-refusal-requires
-layout-refusal-requires c κs = sizes-say _ _ _ _ _ (c .before .size-refusal .ensures) (c .if1 .left)
+layout-refusal-requires c κs = sizes-say _ _ (c .before .size-refusal .ensures) (c .if1 .left)
 
 layout-refusal-requires-2 : tie.Need-layout-refusal-requires-2
-layout-refusal-requires-2 c κs = sizes-say _ _ _ _ _ (c .before .before .size-refusal .ensures) (c .before .if1 .left)
+layout-refusal-requires-2 c κs = sizes-say _ _ (c .before .before .size-refusal .ensures) (c .before .if1 .left)
 
 lower-requires : tie.Need-lower-requires
 lower-requires c κs = search needs
 
 returns-2 : tie.Need-returns-2
 returns-2 c =
-    sizes-pass _ _ _ _ _ (c .before .before .before .before .size-refusal .ensures) _ (c .before .before .before .if1 .left)
+    sizes-pass _ _ (c .before .before .before .before .size-refusal .ensures) _ (c .before .before .before .if1 .left)
     (rw (one-more, ← (c .before .before .layout-refusal .ensures), ← (c .before .layout-refusal2 .ensures)) (c .lower .ensures))
 
 pub check-spec : {M : Type 1} → statement M

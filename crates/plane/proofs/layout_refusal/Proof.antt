@@ -2,20 +2,19 @@
 use mathlib.Core.Path.{_≡_}
 use mathlib.Core.Bool.{true}
 use borrow.Author.Needs.{needs}
-use denote.Ref.{now}
 use Rattle.refusal.proofs.Chain.{fails, holds}
-use Rattle.plane.specs.Plane.{planeOf, samplesOf}
+use Rattle.plane.specs.Plane.{lent}
 use Rattle.plane.specs.Tests.{strideSuits, longEnough, layoutTests}
 use Rattle.plane.proofs.Accept.{stride-says, long-says}
 use Rattle.plane.proofs.layout_refusal.Statement.{statement}
 use Rattle.plane.proofs.layout_refusal.Tie as tie
 
 -- the first test has passed, and the second
-stride : (c : tie.Else1) → let s = c .before .before .before .before in strideSuits (s .args .width) (s .args .stride) ≡ true
+stride : (c : tie.Else1) → let s = c .before .before .before .before in strideSuits (s .args .size .width) (s .args .stride) ≡ true
 stride c = holds (c .before .stride-suits .ensures) (c .if1 .left)
 
 long : (c : tie.Else2) → let s = c .before .before .before .before .before .before in
-    longEnough (s .args .width) (s .args .height) (planeOf (samplesOf (s .args .wide) (now (s .args .bytes)) (now (s .args .words))) (s .args .stride)) ≡ true
+    longEnough (s .args .size) (lent (s .args .size) (s .args .bytes) (s .args .words) (s .args .stride)) ≡ true
 long c = holds (c .before .long-enough .ensures) (c .if2 .left)
 
 stride-suits-requires : tie.Need-stride-suits-requires
@@ -33,7 +32,7 @@ unfolding layoutTests
 returns-2 c = simp (stride (c .before .before), fails (c .before .long-enough .ensures) (c .if2 .taken))
 
 samples-suit-requires : tie.Need-samples-suit-requires
-samples-suit-requires c κs = (c .before .before .before .before .before .before .pre .0, long-says _ _ _ (long c))
+samples-suit-requires c κs = (c .before .before .before .before .before .before .pre .0, long-says _ _ (long c))
 
 returns-3 : tie.Need-returns-3
 unfolding layoutTests

@@ -11,7 +11,7 @@ count-requires : tie.Need-count-requires
 count-requires c κs = search needs
 
 returns : tie.Need-returns
-returns c = too-short _ _ _ (c .before .count .ensures) (c .if1 .taken)
+returns c = too-short _ _ (c .before .count .ensures) (c .if1 .taken)
 
 div-result : tie.Need-div-result
 div-result c = search needs
@@ -19,10 +19,10 @@ div-result c = search needs
 add-result : tie.Need-add-result
 add-result c =
     let s = c .before .before .before .before in
-    omega (arith, div-le-self (c .before .count .result - s .args .width) (s .args .stride))
+    omega (arith, div-le-self (c .before .count .result - s .args .size .width) (s .args .stride))
 
 returns-2 : tie.Need-returns-2
-returns-2 c = by-division _ _ _ (c .before .count .ensures) (omega arith) (c .if1 .left)
+returns-2 c = by-division _ _ (c .before .count .ensures) (omega arith) (c .if1 .left)
 
 pub long-enough-spec : {M : Type 1} → statement M
 long-enough-spec = tie.close (tie.spec count-requires returns div-result add-result returns-2)

@@ -13,10 +13,10 @@ use Rattle.plane.proofs.row_suits.Statement.{statement}
 use Rattle.plane.proofs.row_suits.Tie as tie
 
 -- the row's end fits
-end-fits : (c : tie.After-shared-slice-known2) → let s = c .before .before in s .args .y * s .args .stride + s .args .width < 2 ^ 64
+end-fits : (c : tie.After-shared-slice-known2) → let s = c .before .before in s .args .y * s .args .stride + s .args .size .width < 2 ^ 64
 end-fits c =
     let s = c .before .before in
-    omega (arith, s .pre .0, count-fits (s .args .wide) (now (s .args .bytes)) (now (s .args .words)) (omega arith) (omega arith))
+    omega (arith, s .pre .0, count-fits (s .args .size .wide) (now (s .args .bytes)) (now (s .args .words)) (omega arith) (omega arith))
 
 mul-start : tie.Need-mul-start
 mul-start c = omega (arith, end-fits c)
@@ -63,14 +63,14 @@ returns : tie.Need-returns
 returns c =
     let s = c .before .before .before .before .before in
     let wide = c .before .before .if1 .taken in
-    let row = part-suits (s .args .max) (s .args .width) (now (s .args .words)) (s .args .stride) (s .args .y) (rw wide at (s .pre .0)) in
+    let row = part-suits (s .args .max) (s .args .size .width) (now (s .args .words)) (s .args .stride) (s .args .y) (rw wide at (s .pre .0)) in
     rw wide (c .row-suits16 .ensures ∙ row)
 
 returns-2 : tie.Need-returns-2
 returns-2 c =
     let s = c .before .before .before .before .before in
     let wide = c .before .before .if1 .left in
-    let row = part-suits (s .args .max) (s .args .width) (now (s .args .bytes)) (s .args .stride) (s .args .y) (rw wide at (s .pre .0)) in
+    let row = part-suits (s .args .max) (s .args .size .width) (now (s .args .bytes)) (s .args .stride) (s .args .y) (rw wide at (s .pre .0)) in
     rw wide (c .row-suits8 .ensures ∙ row)
 
 pub row-suits-spec : {M : Type 1} → statement M

@@ -11,13 +11,13 @@ use Rattle.plane.proofs.samples_suit.Tie as tie
 
 sample-max-requires : tie.Need-sample-max-requires
 sample-max-requires c κs =
-    let s = c .before .before in omega (arith, depth-says _ _ (s .pre .0), depth-small (s .args .wide))
+    let s = c .before .before in omega (arith, depth-says _ _ (s .pre .0), depth-small (s .args .size .wide))
 
 returns : tie.Need-returns
 returns c =
     let s = c .before .before .before .before in
     sym
-    (bytes-suit (s .args .depth) _ _ (s .args .stride) (s .args .wide) (now (s .args .bytes)) (now (s .args .words))
+    (bytes-suit (s .args .size) (s .args .stride) (now (s .args .bytes)) (now (s .args .words))
     (λ (i : ℕ). omega (arith, c .before .before .before .shared-slice-known .given i))
     (c .before .sample-max .ensures)
     (c .if1 .taken))

@@ -8,10 +8,10 @@ use Rattle.plane.proofs.size_refusal.Statement.{statement}
 use Rattle.plane.proofs.size_refusal.Tie as tie
 
 -- the first test has passed, and the second
-depth : (c : tie.Else1) → let s = c .before .before in depthSuits (s .args .wide) (s .args .depth) ≡ true
+depth : (c : tie.Else1) → let s = c .before .before in depthSuits (s .args .size .wide) (s .args .size .depth) ≡ true
 depth c = holds (c .before .depth-suits .ensures) (c .if1 .left)
 
-sides : (c : tie.Else2) → let s = c .before .before .before .before in sidesSuit (s .args .width) (s .args .height) ≡ true
+sides : (c : tie.Else2) → let s = c .before .before .before .before in sidesSuit (s .args .size .width) (s .args .size .height) ≡ true
 sides c = holds (c .before .sides-suit .ensures) (c .if2 .left)
 
 depth-suits-requires : tie.Need-depth-suits-requires

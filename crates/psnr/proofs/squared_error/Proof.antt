@@ -1,15 +1,13 @@
 -- `psnr::squared_error` meets its contract. Assumes nothing.
 use mathlib.Core.Path.{_≡_, refl, sym, _∙_}
-use mathlib.Core.List.{[], _∷_}
 use Prim.Native.Nat.{ℕ, zero, suc}
 use native.Mathlib.Nat.{lt-of-le-of-lt, le-of-lt, le-refl}
 use native.Mathlib.Omega.{arith}
 use borrow.Author.Needs.{needs}
-use denote.Ref.{now}
 use Rattle.refusal.proofs.Chain.{refused}
-use Rattle.plane.specs.Plane.{Plane, planeOf, samplesOf}
-use Rattle.plane.specs.Tests.{planeRefusal}
-use Rattle.plane.specs.Lawful.{Accepted}
+use Rattle.plane.specs.Plane.{Planes, planes}
+use Rattle.plane.specs.Tests.{pairRefusal}
+use Rattle.plane.specs.Inner.Lawful.{AcceptedPair}
 use Rattle.plane.proofs.Accept.{accepted}
 use Rattle.plane.proofs.Depth.{depth-small}
 use Rattle.psnr.specs.declared.Record.{Record}
@@ -30,20 +28,15 @@ differs zero r n = absurd (n refl)
 differs (suc e) r n = refl
 
 -- the two planes
-abbrev first : tie.Start → Plane
-first s = planeOf (samplesOf (s .args .wide) (now (s .args .a8)) (now (s .args .a16))) (s .args .stride-a)
-
-abbrev second : tie.Start → Plane
-second s = planeOf (samplesOf (s .args .wide) (now (s .args .b8)) (now (s .args .b16))) (s .args .stride-b)
+abbrev both : tie.Start → Planes
+both s = planes (s .args .layout) (s .args .a8) (s .args .a16) (s .args .b8) (s .args .b16)
 
 -- no test refuses them, past the first branch
-none : (c : tie.Else1) → let s = c .before .before .before .before .before .before in
-    planeRefusal (s .args .wide) (first s ∷ second s ∷ []) (s .args .width) (s .args .height) (s .args .depth) 0 ≡ 0
+none : (c : tie.Else1) → pairRefusal (both (c .before .before .before .before .before .before)) 0 ≡ 0
 none c = sym (c .before .check .ensures) ∙ c .if1 .left
 
-taken : (c : tie.Else1) → let s = c .before .before .before .before .before .before in
-    Accepted (s .args .wide) (first s ∷ second s ∷ []) (s .args .width) (s .args .height) (s .args .depth) 0
-taken c = accepted _ _ _ _ _ _ (none c)
+taken : (c : tie.Else1) → AcceptedPair (both (c .before .before .before .before .before .before)) 0
+taken c = accepted _ _ _ (none c)
 
 check-requires : tie.Need-check-requires
 check-requires c κs = search needs
@@ -59,12 +52,12 @@ exact-requires : tie.Need-exact-requires
 unfolding totalLimit
 exact-requires c κs = rw (c .error-sum .ensures) (le-of-lt (error-below (walkable (taken (c .before))) _ (le-refl _)))
 
-mul-t16 : tie.Need-mul-t16
-mul-t16 c =
-    let a = taken (c .before .before) in record { fits = lt-of-le-of-lt (count-le (a .width-most) (a .height-most)) count-fits }
+mul-t13 : tie.Need-mul-t13
+mul-t13 c =
+    let a = taken (c .before .before) .sized in record { fits = lt-of-le-of-lt (count-le (a .width-most) (a .height-most)) count-fits }
 
 sample-max-requires : tie.Need-sample-max-requires
-sample-max-requires c κs = let s = c .before .before .before .before .before .before .before .before in omega (arith, taken (c .before .before) .depth-most, depth-small (s .args .wide))
+sample-max-requires c κs = let s = c .before .before .before .before .before .before .before .before in omega (arith, taken (c .before .before) .sized .depth-most, depth-small (s .args .layout .size .wide))
 
 returns-2 : tie.Need-returns-2
 unfolding squaredErrorOf
@@ -86,7 +79,7 @@ squared-error-spec =
     returns
     error-sum-requires
     exact-requires
-    mul-t16
+    mul-t13
     sample-max-requires
     returns-2
     returns-3)

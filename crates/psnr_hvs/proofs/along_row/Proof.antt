@@ -4,18 +4,17 @@ use mathlib.Core.Path.{_≡_, sym}
 use Prim.Native.Nat.{_-_, _≤_}
 use native.Mathlib.Omega.{arith}
 use Rattle.psnr_hvs.specs.Score.{alongRow, blocksPerSide}
-use Rattle.plane.specs.Plane.{planeOf, samplesOf}
+use Rattle.plane.specs.Plane.{planesIn}
 use Rattle.psnr_hvs.proofs.Blocks.{ends, row-more}
 use Rattle.number.proofs.Folds.{fold-none}
 use Rattle.psnr_hvs.proofs.along_row.Statement.{statement}
 use Rattle.psnr_hvs.proofs.along_row.Tie as tie
 
 abbrev Inv-loop : tie.InvT-loop
-Inv-loop result a8 a16 b8 b16 wide y stride-a stride-b width height mask csf n s₀ x₀ s x =
-    (x ≤ n) × (s ≡ alongRow csf mask (planeOf (samplesOf wide a8 a16) stride-a) (planeOf (samplesOf wide b8 b16) stride-b) y result x)
+Inv-loop result a8 a16 b8 b16 layout y mask csf n s₀ x₀ s x = (x ≤ n) × (s ≡ alongRow csf mask (planesIn layout a8 a16 b8 b16) y result x)
 
 abbrev μ-loop : tie.MeasureT-loop
-μ-loop result a8 a16 b8 b16 wide y stride-a stride-b width height mask csf n s₀ x₀ s x = n - x
+μ-loop result a8 a16 b8 b16 layout y mask csf n s₀ x₀ s x = n - x
 
 blocks-per-side-requires : tie.Need-blocks-per-side-requires Inv-loop μ-loop
 blocks-per-side-requires c κs = search needs
@@ -31,7 +30,7 @@ block-at-requires : tie.Need-block-at-requires Inv-loop μ-loop
 block-at-requires c κs =
     let s = c .before .before .before .before .before .before .before in
     let n = c .before .before .blocks-per-side .ensures in
-    ((ends (s .pre .0 .0) (omega arith), s .pre .0 .1), s .pre .1)
+    (record { across = ends (s .pre .0 .0) (omega arith); down = s .pre .0 .1 }, s .pre .1)
 
 add-x : tie.Need-add-x Inv-loop μ-loop
 add-x c = search needs
@@ -44,7 +43,7 @@ loop-again c = (search needs, rw (row-more, c .block-at .ensures, c .before .bef
 
 returns : tie.Need-returns Inv-loop μ-loop
 returns c =
-    let e : c .before .loop .x ≡ blocksPerSide (c .before .before .before .before .before .before .before .args .width) = omega (arith, c .before .before .blocks-per-side .ensures) in
+    let e : c .before .loop .x ≡ blocksPerSide (c .before .before .before .before .before .before .before .args .layout .size .width) = omega (arith, c .before .before .blocks-per-side .ensures) in
     rw e at (c .before .loop .inv .1)
 
 pub along-row-spec : {M : Type 1} → statement M

@@ -15,7 +15,7 @@ unfolding hvsOf
 returns c = rw (← (c .before .check .ensures)) (refused _ _ _ (c .if1 .taken))
 
 score-requires : tie.Need-score-requires
-score-requires c κs = planes-say _ _ _ _ _ _ (c .before .check .ensures) (c .if1 .left)
+score-requires c κs = planes-say _ _ _ (c .before .check .ensures) (c .if1 .left)
 
 finite-requires : tie.Need-finite-requires
 finite-requires c κs = search needs

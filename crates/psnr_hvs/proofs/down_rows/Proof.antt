@@ -3,7 +3,7 @@ use borrow.Author.Needs.{needs}
 use mathlib.Core.Path.{_≡_, sym}
 use Prim.Native.Nat.{_-_, _≤_}
 use native.Mathlib.Omega.{arith}
-use Rattle.plane.specs.Plane.{planeOf, samplesOf}
+use Rattle.plane.specs.Plane.{planesIn}
 use Rattle.psnr_hvs.specs.Score.{downRows, blocksPerSide}
 use Rattle.number.proofs.Folds.{fold-none}
 use Rattle.psnr_hvs.proofs.Blocks.{ends, rows-more}
@@ -11,11 +11,10 @@ use Rattle.psnr_hvs.proofs.down_rows.Statement.{statement}
 use Rattle.psnr_hvs.proofs.down_rows.Tie as tie
 
 abbrev Inv-loop : tie.InvT-loop
-Inv-loop a8 a16 b8 b16 wide stride-a stride-b width height mask csf n s₀ y₀ s y =
-    (y ≤ n) × (s ≡ downRows csf mask (planeOf (samplesOf wide a8 a16) stride-a) (planeOf (samplesOf wide b8 b16) stride-b) width y)
+Inv-loop a8 a16 b8 b16 layout mask csf n s₀ y₀ s y = (y ≤ n) × (s ≡ downRows csf mask (planesIn layout a8 a16 b8 b16) y)
 
 abbrev μ-loop : tie.MeasureT-loop
-μ-loop a8 a16 b8 b16 wide stride-a stride-b width height mask csf n s₀ y₀ s y = n - y
+μ-loop a8 a16 b8 b16 layout mask csf n s₀ y₀ s y = n - y
 
 blocks-per-side-requires : tie.Need-blocks-per-side-requires Inv-loop μ-loop
 blocks-per-side-requires c κs = search needs
@@ -44,7 +43,7 @@ loop-again c = (search needs, rw (rows-more, c .along-row .ensures, c .before .b
 
 returns : tie.Need-returns Inv-loop μ-loop
 returns c =
-    let e : c .before .loop .y ≡ blocksPerSide (c .before .before .before .before .before .before .before .args .height) = omega (arith, c .before .before .blocks-per-side .ensures) in
+    let e : c .before .loop .y ≡ blocksPerSide (c .before .before .before .before .before .before .before .args .layout .size .height) = omega (arith, c .before .before .blocks-per-side .ensures) in
     rw e at (c .before .loop .inv .1)
 
 pub down-rows-spec : {M : Type 1} → statement M

@@ -3,7 +3,7 @@ use Prim.Native.Nat.{_-_, _*_, _≤_, _^_}
 use native.Mathlib.Omega.{arith}
 use Rattle.plane.proofs.Depth.{depth-small}
 use Rattle.psnr_hvs.specs.Score.{hvsScore}
-use Rattle.psnr_hvs.proofs.Taken.{legible, blocks-few, max-square}
+use Rattle.psnr_hvs.proofs.Taken.{both-legible, blocks-few, max-square}
 use Rattle.psnr_hvs.proofs.score.Statement.{statement}
 use Rattle.psnr_hvs.proofs.score.Tie as tie
 
@@ -15,10 +15,8 @@ masks-requires c κs = search needs
 
 down-rows-requires : tie.Need-down-rows-requires
 down-rows-requires c κs =
-    let a = c .before .before .before .before .before .before .before .before .pre in (
-      (a .width-reaches, a .height-reaches),
-      (legible _ _ (a .each .0) (a .depth-most), legible _ _ (a .each .1 .0) (a .depth-most)),
-    )
+    let a = c .before .before .before .before .before .before .before .before .pre in
+    ((a .sized .width-reaches, a .sized .height-reaches), both-legible a)
 
 blocks-per-side-requires : tie.Need-blocks-per-side-requires
 blocks-per-side-requires c κs = search needs
@@ -31,18 +29,18 @@ few : (c : tie.After-blocks-per-side2) → c .before .blocks-per-side .result * 
 few c =
     let s = c .before .before .before .before .before .before .before .before .before .before .before in
     rw (c .before .blocks-per-side .ensures, c .blocks-per-side2 .ensures)
-    (blocks-few (s .args .width) (s .args .height) (s .pre .width-most) (s .pre .height-most))
+    (blocks-few (s .args .layout .size .width) (s .args .layout .size .height) (s .pre .sized .width-most) (s .pre .sized .height-most))
 
 square : (c : tie.After-sample-max) → c .sample-max .result * c .sample-max .result ≤ 2 ^ 24
 square c =
     let s = c .before .before .before .before .before .before .before .before .before .before .before .before in
-    rw (c .sample-max .ensures) (max-square (s .args .wide) (s .args .depth) (s .pre .depth-most))
+    rw (c .sample-max .ensures) (max-square (s .args .layout .size .wide) (s .args .layout .size .depth) (s .pre .sized .depth-most))
 
 mul-blocks : tie.Need-mul-blocks
 mul-blocks c = omega (arith, few c)
 
 sample-max-requires : tie.Need-sample-max-requires
-sample-max-requires c κs = let s = c .before .before .before .before .before .before .before .before .before .before .before in omega (arith, s .pre .depth-most, depth-small (s .args .wide))
+sample-max-requires c κs = let s = c .before .before .before .before .before .before .before .before .before .before .before in omega (arith, s .pre .sized .depth-most, depth-small (s .args .layout .size .wide))
 
 cast-max : tie.Need-cast-max
 cast-max c = search needs

@@ -13,7 +13,7 @@ returns : tie.Need-returns
 returns c = rw (← (c .before .refusal .ensures)) (refused _ _ _ (c .if1 .taken), refused _ _ _ (c .if1 .taken))
 
 scored-requires : tie.Need-scored-requires
-scored-requires c κs = sound _ _ _ _ _ _ _ _ (c .before .before .refusal .ensures) (c .before .if1 .left)
+scored-requires c κs = sound _ _ _ (c .before .before .refusal .ensures) (c .before .if1 .left)
 
 same-length : tie.Need-same-length
 same-length c = search needs

@@ -11,31 +11,31 @@ check-requires : tie.Need-check-requires
 check-requires c κs = search needs
 
 returns : tie.Need-returns
-returns c = planes-refuse _ _ _ _ _ _ _ (c .before .check .ensures) (c .if1 .taken)
+returns c = planes-refuse _ _ _ (c .before .check .ensures) (c .if1 .taken)
 
 kernel-lawful-requires : tie.Need-kernel-lawful-requires
 kernel-lawful-requires c κs = search needs
 
 returns-2 : tie.Need-returns-2
 returns-2 c =
-    kernel-refuses _ _ _ _ _ _ _ (c .before .before .before .check .ensures) (c .before .before .if1 .left)
+    kernel-refuses _ _ _ (c .before .before .before .check .ensures) (c .before .before .if1 .left)
     (fails (c .before .kernel-lawful .ensures) (c .if2 .taken))
 
 places-requires : tie.Need-places-requires
 places-requires c κs =
     let count = taps-count _ (holds (c .before .kernel-lawful .ensures) (c .if2 .left)) in
-    let planes = accepted _ _ _ _ _ _ (sym (c .before .before .before .check .ensures) ∙ c .before .before .if1 .left) in
-    (count .0, count .1, planes .width-most)
+    let planes = accepted _ _ _ (sym (c .before .before .before .check .ensures) ∙ c .before .before .if1 .left) in
+    (count .0, count .1, planes .sized .width-most)
 
 returns-3 : tie.Need-returns-3
 returns-3 c =
-    scratch-refuses _ _ _ _ _ _ _ (c .before .before .before .before .before .check .ensures) (c .before .before .before .before .if1 .left)
+    scratch-refuses _ _ _ (c .before .before .before .before .before .check .ensures) (c .before .before .before .before .if1 .left)
     (holds (c .before .before .before .kernel-lawful .ensures) (c .before .before .if2 .left))
     (rw (c .before .places .ensures) at (c .if3 .taken))
 
 returns-4 : tie.Need-returns-4
 returns-4 c =
-    none-refuses _ _ _ _ _ _ _ (c .before .before .before .before .before .check .ensures) (c .before .before .before .before .if1 .left)
+    none-refuses _ _ _ (c .before .before .before .before .before .check .ensures) (c .before .before .before .before .if1 .left)
     (holds (c .before .before .before .kernel-lawful .ensures) (c .before .before .if2 .left))
     (rw (c .before .places .ensures) at (c .if3 .left))
 

@@ -32,16 +32,16 @@ totals-requires c κs =
     let s = c .before .before .before .before .before .before .before .before .before in
     let e = c .before .before .before .places .ensures in
     let long = length-take-le (c .before .before .before .places .result) (now (s .args .scratch)) (rw e (s .pre .lent-enough)) in
-    let small-a = either-small (s .args .wide) (now (s .args .a8)) (now (s .args .a16))
+    let small-a = either-small (s .args .layout .size .wide) (now (s .args .a8)) (now (s .args .a16))
     (λ i. omega (arith, c .before .before .before .before .before .before .before .before .shared-slice-known .given i))
     (λ i. omega (arith, c .before .before .before .before .before .before .before .shared-slice-known2 .given i)) in
-    let small-b = either-small (s .args .wide) (now (s .args .b8)) (now (s .args .b16))
+    let small-b = either-small (s .args .layout .size .wide) (now (s .args .b8)) (now (s .args .b16))
     (λ i. omega (arith, c .before .before .before .before .before .before .shared-slice-known3 .given i))
     (λ i. omega (arith, c .before .before .before .before .before .shared-slice-known4 .given i)) in (
       (s .pre .width-most, s .pre .height-most, rw (long, e) (s .pre .columns-fit)),
       (
         s .pre .kernel,
-        (s .pre .total, (record { long = s .pre .long-a; small = small-a }, record { long = s .pre .long-b; small = small-b })),
+        (s .pre .total, record { first = record { long = s .pre .long-a; small = small-a }; second = record { long = s .pre .long-b; small = small-b } }),
       ),
     )
 

@@ -6,9 +6,9 @@ use borrow.Author.Needs.{needs}
 use borrow.Rule.Slice.PartMut.{same-len-mid}
 use denote.Ref.{now}
 use lib.ListN.{length}
-use Rattle.plane.specs.Plane.{planeOf}
+use Rattle.plane.specs.Plane.{planeOf, sampleAt}
 use Rattle.plane.proofs.Limits.{side-small}
-use Rattle.window.specs.Columns.{viewOf, Margins}
+use Rattle.window.specs.Columns.{Margins}
 use Rattle.window.proofs.Windows.{weight-le, taps-room}
 use Rattle.window.proofs.Held.{part-length, all-small, margins-kept}
 use Rattle.ssim.specs.Score.{totalsOf}
@@ -20,7 +20,7 @@ use Rattle.msssim.proofs.scale.rows.Tie as tie
 abbrev Inv-loop : tie.InvT-loop
 Inv-loop cols₀ max2 kernel total a b width height start end t₀ y₀ cols t y =
     (y ≤ height) × (length cols ≡ length cols₀) × Margins cols kernel width
-    × (t ≡ totalsOf max2 kernel width height (viewOf (planeOf a width)) (viewOf (planeOf b width)) y)
+    × (t ≡ totalsOf max2 kernel width height (sampleAt (planeOf a width)) (sampleAt (planeOf b width)) y)
 
 abbrev μ-loop : tie.MeasureT-loop
 μ-loop cols₀ max2 kernel total a b width height start end t₀ y₀ cols t y = height - y
@@ -80,8 +80,8 @@ centres-requires c κs =
         (
           s .pre .1 .1 .1 .0,
           all-small (l .cols) (f .last .0) k (now (s .args .kernel)) (s .args .width) (s .args .height)
-              (viewOf (planeOf (now (s .args .a)) (s .args .width)))
-              (viewOf (planeOf (now (s .args .b)) (s .args .width))) (l .y) (f .ensures) (l .inv .2) (omega arith) (omega arith) same
+              (sampleAt (planeOf (now (s .args .a)) (s .args .width)))
+              (sampleAt (planeOf (now (s .args .b)) (s .args .width))) (l .y) (f .ensures) (l .inv .2) (omega arith) (omega arith) same
               (s .pre .1 .1 .0) (λ r x. s .pre .1 .1 .1 .1 .0 .small _) (λ r x. s .pre .1 .1 .1 .1 .1 .small _),
         ),
       ),
@@ -105,12 +105,12 @@ loop-again c =
       search needs,
       same-len-mid start k (l .cols) (f .last .0) (f .kept .0) ∙ l .inv .1,
       margins-kept (l .cols) (f .last .0) k (now (s .args .kernel)) (s .args .width) (s .args .height)
-          (viewOf (planeOf (now (s .args .a)) (s .args .width)))
-          (viewOf (planeOf (now (s .args .b)) (s .args .width))) (l .y) (f .ensures) (l .inv .2) (omega arith) (omega arith) same,
+          (sampleAt (planeOf (now (s .args .a)) (s .args .width)))
+          (sampleAt (planeOf (now (s .args .b)) (s .args .width))) (l .y) (f .ensures) (l .inv .2) (omega arith) (omega arith) same,
       rw (c .centres .ensures, c .before .before .weight .ensures, l .inv .3)
           (totals-more (s .args .max2) (now (s .args .kernel)) (s .args .width) (s .args .height)
-          (viewOf (planeOf (now (s .args .a)) (s .args .width)))
-          (viewOf (planeOf (now (s .args .b)) (s .args .width)))
+          (sampleAt (planeOf (now (s .args .a)) (s .args .width)))
+          (sampleAt (planeOf (now (s .args .b)) (s .args .width)))
           (l .cols) (f .last .0) k (l .y) (f .ensures) (l .inv .2) (omega arith) (omega arith) same),
     )
 

@@ -23,8 +23,8 @@ with-block-requires c κs =
     let two = c .before .before .loaded2 .ensures in (
       (rw one (block-length _ _ _), rw two (block-length _ _ _)),
       (
-        rw one (block-samples _ _ _ (s .pre .1 .0) (s .pre .0 .0) (s .pre .0 .1)),
-        rw two (block-samples _ _ _ (s .pre .1 .1) (s .pre .0 .0) (s .pre .0 .1)),
+        rw one (block-samples _ _ _ _ (s .pre .1 .first) (s .pre .0)),
+        rw two (block-samples _ _ _ _ (s .pre .1 .second) (s .pre .0)),
       ),
     )
 

@@ -9,31 +9,31 @@ use lib.Dec.{lit<}
 use lib.IntN.{pos}
 use mir.Syntax.{w32}
 use mir.Facts.{toZ-pos}
-use Rattle.plane.specs.Plane.{planeOf, samplesOf}
+use Rattle.plane.specs.Plane.{samplesOf, planeIn}
 use Rattle.plane.proofs.Rows.{inside, count-fits}
 use Rattle.lifting.proofs.Size.{fits}
 use Rattle.psnr_hvs.specs.Score.{sampleIn, blockAt}
-use Rattle.masking.proofs.Folds.{Filled, filled-none, filled-more, filled-all}
+use Rattle.hvs_block.proofs.Folds.{Filled, filled-none, filled-more, filled-all}
 use Rattle.psnr_hvs.proofs.block.loaded.Statement.{statement}
 use Rattle.psnr_hvs.proofs.block.loaded.Tie as tie
 
 abbrev Inv-loop : tie.InvT-loop
-Inv-loop bytes words wide x y stride width height out₀ k₀ out k = (k ≤ 64) × (length out ≡ 64) × Filled (sampleIn (planeOf (samplesOf wide bytes words) stride) x y) out k
+Inv-loop bytes words size stride x y out₀ k₀ out k = (k ≤ 64) × (length out ≡ 64) × Filled (sampleIn (planeIn size bytes words stride) x y) out k
 
 abbrev μ-loop : tie.MeasureT-loop
-μ-loop bytes words wide x y stride width height out₀ k₀ out k = 64 - k
+μ-loop bytes words size stride x y out₀ k₀ out k = 64 - k
 
 -- where the sample stands, and its size
 place-inside : (c : tie.In-loop Inv-loop μ-loop) → let s = c .before .before .before .before in
     (s .args .y + c .before .loop .k / 8) * s .args .stride + (s .args .x + c .before .loop .k % 8)
-    < length (samplesOf (s .args .wide) (s .args .bytes .now) (s .args .words .now))
+    < length (samplesOf (s .args .size .wide) (s .args .bytes .now) (s .args .words .now))
 place-inside c = let s = c .before .before .before .before in inside (s .args .stride) (s .pre .1 .long) (omega arith) (omega arith)
 
 place-fits : (c : tie.In-loop Inv-loop μ-loop) → let s = c .before .before .before .before in
     (s .args .y + c .before .loop .k / 8) * s .args .stride + (s .args .x + c .before .loop .k % 8) < 2 ^ 64
 place-fits c =
     let s = c .before .before .before .before in
-    omega (arith, place-inside c, count-fits (s .args .wide) (s .args .bytes .now) (s .args .words .now) (omega arith) (omega arith))
+    omega (arith, place-inside c, count-fits (s .args .size .wide) (s .args .bytes .now) (s .args .words .now) (omega arith) (omega arith))
 
 sample-small : (c : tie.After-sample Inv-loop μ-loop) → c .sample .result < 2 ^ 31
 sample-small c =

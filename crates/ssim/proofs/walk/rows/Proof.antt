@@ -6,23 +6,25 @@ use borrow.Author.Needs.{needs}
 use borrow.Rule.Slice.PartMut.{same-len-mid}
 use denote.Ref.{now}
 use lib.ListN.{length}
-use Rattle.plane.specs.Plane.{planeOf, samplesOf}
+use Rattle.plane.specs.Plane.{Planes, planes, planesIn, sampleAt}
 use Rattle.plane.proofs.Limits.{side-small}
-use Rattle.window.specs.Columns.{viewOf, Margins}
+use Rattle.window.specs.Columns.{Margins}
 use Rattle.window.proofs.Windows.{weight-le, taps-room}
 use Rattle.window.proofs.Held.{part-length, all-small, margins-kept}
-use Rattle.ssim.specs.Score.{totalsOf}
+use Rattle.ssim.specs.Score.{totalsIn}
 use Rattle.ssim.proofs.Same.{totals-none, totals-more}
 use Rattle.ssim.proofs.walk.rows.Statement.{statement}
 use Rattle.ssim.proofs.walk.rows.Tie as tie
 
 abbrev Inv-loop : tie.InvT-loop
-Inv-loop cols₀ max2 kernel total a8 a16 b8 b16 wide stride-a stride-b width height start end t₀ y₀ cols t y =
-    (y ≤ height) × (length cols ≡ length cols₀) × Margins cols kernel width
-    × (t ≡ totalsOf max2 kernel width height (viewOf (planeOf (samplesOf wide a8 a16) stride-a)) (viewOf (planeOf (samplesOf wide b8 b16) stride-b)) y)
+Inv-loop cols₀ max2 kernel total a8 a16 b8 b16 layout width height start end t₀ y₀ cols t y =
+    (y ≤ height) × (length cols ≡ length cols₀) × Margins cols kernel width × (t ≡ totalsIn max2 kernel (planesIn layout a8 a16 b8 b16) y)
 
 abbrev μ-loop : tie.MeasureT-loop
-μ-loop cols₀ max2 kernel total a8 a16 b8 b16 wide stride-a stride-b width height start end t₀ y₀ cols t y = height - y
+μ-loop cols₀ max2 kernel total a8 a16 b8 b16 layout width height start end t₀ y₀ cols t y = height - y
+
+abbrev both : tie.Start Inv-loop μ-loop → Planes
+both s = planes (s .args .layout) (s .args .a8) (s .args .a16) (s .args .b8) (s .args .b16)
 
 mul-start : tie.Need-mul-start Inv-loop μ-loop
 mul-start c = omega (arith, side-small, taps-room)
@@ -53,7 +55,7 @@ fill-requires c κs =
     let s = c .before .before .before .before .before .before .before .before in
     let l = c .before .before .loop in
     let start = 5 * (length (now (s .args .kernel)) / 2) in
-    let k = start + 5 * s .args .width - start in
+    let k = start + 5 * s .args .layout .size .width - start in
     let room : start + k ≤ length (l .cols) = omega arith in
     (omega (arith, part-length start k (l .cols) room), (s .pre .1 .1 .0, s .pre .1 .1 .1 .1))
 
@@ -66,28 +68,30 @@ centres-requires c κs =
     let f = c .before .before .before .fill in
     let l = c .before .before .before .before .before .before .loop in
     let start = 5 * (length (now (s .args .kernel)) / 2) in
-    let k = start + 5 * s .args .width - start in
+    let k = start + 5 * s .args .layout .size .width - start in
     let room : start + k ≤ length (l .cols) = omega arith in
     let same = f .kept .0 ∙ part-length start k (l .cols) room in (
       omega (
         arith,
         same-len-mid start k (l .cols) (f .last .0) (f .kept .0),
-        weight-le (now (s .args .kernel)) (s .args .height) (l .y) (s .pre .1 .1 .0),
+        weight-le (now (s .args .kernel)) (s .args .layout .size .height) (l .y) (s .pre .1 .1 .0),
       ),
       (
         s .pre .1 .1 .0,
         (
           s .pre .1 .1 .1 .0,
-          all-small (l .cols) (f .last .0) k (now (s .args .kernel)) (s .args .width) (s .args .height)
-              (viewOf (planeOf (samplesOf (s .args .wide) (now (s .args .a8)) (now (s .args .a16))) (s .args .stride-a)))
-              (viewOf (planeOf (samplesOf (s .args .wide) (now (s .args .b8)) (now (s .args .b16))) (s .args .stride-b))) (l .y) (f .ensures) (l .inv .2) (omega arith) (omega arith) same
-              (s .pre .1 .1 .0) (λ r x. s .pre .1 .1 .1 .1 .0 .small _) (λ r x. s .pre .1 .1 .1 .1 .1 .small _),
+          all-small (l .cols) (f .last .0) k (now (s .args .kernel)) (s .args .layout .size .width) (s .args .layout .size .height)
+              (sampleAt (both s .a))
+              (sampleAt (both s .b)) (l .y) (f .ensures) (l .inv .2) (omega arith) (omega arith) same
+              (s .pre .1 .1 .0) (λ r x. s .pre .1 .1 .1 .1 .first .small _) (λ r x. s .pre .1 .1 .1 .1 .second .small _),
         ),
       ),
     )
 
 add-y : tie.Need-add-y Inv-loop μ-loop
-add-y c = search needs
+add-y c =
+    let s = c .before .before .before .before .before .before .before .before .before .before .before .before .before in
+    omega (arith, side-small, s .pre .0)
 
 loop-less : tie.Need-loop-less Inv-loop μ-loop
 loop-less c = search needs
@@ -98,18 +102,18 @@ loop-again c =
     let f = c .before .before .before .before .fill in
     let l = c .before .before .before .before .before .before .before .loop in
     let start = 5 * (length (now (s .args .kernel)) / 2) in
-    let k = start + 5 * s .args .width - start in
+    let k = start + 5 * s .args .layout .size .width - start in
     let room : start + k ≤ length (l .cols) = omega arith in
     let same = f .kept .0 ∙ part-length start k (l .cols) room in (
       search needs,
       same-len-mid start k (l .cols) (f .last .0) (f .kept .0) ∙ l .inv .1,
-      margins-kept (l .cols) (f .last .0) k (now (s .args .kernel)) (s .args .width) (s .args .height)
-          (viewOf (planeOf (samplesOf (s .args .wide) (now (s .args .a8)) (now (s .args .a16))) (s .args .stride-a)))
-          (viewOf (planeOf (samplesOf (s .args .wide) (now (s .args .b8)) (now (s .args .b16))) (s .args .stride-b))) (l .y) (f .ensures) (l .inv .2) (omega arith) (omega arith) same,
+      margins-kept (l .cols) (f .last .0) k (now (s .args .kernel)) (s .args .layout .size .width) (s .args .layout .size .height)
+          (sampleAt (both s .a))
+          (sampleAt (both s .b)) (l .y) (f .ensures) (l .inv .2) (omega arith) (omega arith) same,
       rw (c .centres .ensures, c .before .before .weight .ensures, l .inv .3)
-          (totals-more (s .args .max2) (now (s .args .kernel)) (s .args .width) (s .args .height)
-          (viewOf (planeOf (samplesOf (s .args .wide) (now (s .args .a8)) (now (s .args .a16))) (s .args .stride-a)))
-          (viewOf (planeOf (samplesOf (s .args .wide) (now (s .args .b8)) (now (s .args .b16))) (s .args .stride-b)))
+          (totals-more (s .args .max2) (now (s .args .kernel)) (s .args .layout .size .width) (s .args .layout .size .height)
+          (sampleAt (both s .a))
+          (sampleAt (both s .b))
           (l .cols) (f .last .0) k (l .y) (f .ensures) (l .inv .2) (omega arith) (omega arith) same),
     )
 
@@ -118,7 +122,7 @@ same-length c = c .before .loop .inv .1
 
 returns : tie.Need-returns Inv-loop μ-loop
 returns c =
-    let e : c .before .loop .y ≡ c .before .before .before .before .before .before .before .args .height = omega arith in
+    let e : c .before .loop .y ≡ c .before .before .before .before .before .before .before .args .layout .size .height = omega arith in
     rw e at (c .before .loop .inv .3)
 
 pub rows-spec : {M : Type 1} → statement M

@@ -3,10 +3,14 @@ use Rattle.window.proofs.columns.column.Statement.{statement}
 use Rattle.window.proofs.columns.column.Tie as tie
 
 column16-requires : tie.Need-column16-requires
-column16-requires c κs = rw (c .if1 .taken) at (c .before .before .before .before .before .before .pre)
+column16-requires c κs =
+    let p = rw (c .if1 .taken) at (c .before .before .before .before .before .before .pre) in
+    (p .0, (p .1 .0, (p .1 .1 .first, p .1 .1 .second)))
 
 column8-requires : tie.Need-column8-requires
-column8-requires c κs = rw (c .if1 .left) at (c .before .before .before .before .before .before .pre)
+column8-requires c κs =
+    let p = rw (c .if1 .left) at (c .before .before .before .before .before .before .pre) in
+    (p .0, (p .1 .0, (p .1 .1 .first, p .1 .1 .second)))
 
 returns : tie.Need-returns
 returns c = rw (c .before .if1 .taken) (c .column16 .ensures)

@@ -4,10 +4,9 @@ use Prim.Native.Nat.{ℕ, _≤_, _-_}
 use native.Mathlib.Omega.{arith}
 use borrow.Author.Needs.{needs}
 use denote.Ref.{now}
-use Rattle.plane.specs.Plane.{planeOf}
+use Rattle.plane.specs.Plane.{planeOf, sampleAt}
 use Rattle.plane.proofs.Rows as rows
 use Rattle.window.specs.Parts.{partsOf, quantOf}
-use Rattle.window.specs.Columns.{viewOf}
 use Rattle.plane.proofs.Limits.{side-small}
 use Rattle.window.proofs.Windows.{taps-room}
 use Rattle.window.proofs.Five.{quant-small, parts-more, parts-first, parts-last, parts-room}
@@ -15,7 +14,7 @@ use Rattle.window.proofs.columns.column8.Statement.{statement}
 use Rattle.window.proofs.columns.column8.Tie as tie
 
 abbrev Inv-loop : tie.InvT-loop
-Inv-loop kernel a b stride-a stride-b width height x y n off t₀ k₀ k-end t k = (k₀ ≤ k) × (k ≤ k-end) × (t ≡ partsOf kernel height (λ (m i : ℕ). quantOf m (viewOf (planeOf a stride-a) i x) (viewOf (planeOf b stride-b) i x)) y k)
+Inv-loop kernel a b stride-a stride-b width height x y n off t₀ k₀ k-end t k = (k₀ ≤ k) × (k ≤ k-end) × (t ≡ partsOf kernel height (λ (m i : ℕ). quantOf m (sampleAt (planeOf a stride-a) i x) (sampleAt (planeOf b stride-b) i x)) y k)
 
 abbrev μ-loop : tie.MeasureT-loop
 μ-loop kernel a b stride-a stride-b width height x y n off t₀ k₀ k-end t k = k-end - k
@@ -56,7 +55,7 @@ tapped-requires c κs =
     let s = c .before .before .before .before .before .before .before .before .before .before in
     rw (c .sample82 .ensures, c .before .sample8 .ensures)
     (parts-room _ _
-    (λ (m i : ℕ). quantOf m (viewOf (planeOf (now (s .args .a)) (s .args .stride-a)) i (s .args .x)) (viewOf (planeOf (now (s .args .b)) (s .args .stride-b)) i (s .args .x)))
+    (λ (m i : ℕ). quantOf m (sampleAt (planeOf (now (s .args .a)) (s .args .stride-a)) i (s .args .x)) (sampleAt (planeOf (now (s .args .b)) (s .args .stride-b)) i (s .args .x)))
     _ _ _ (c .before .before .before .before .loop .inv .2) (s .pre .1 .0)
     (λ m l k a b d. quant-small m _ _ (s .pre .1 .1 .0 .small _) (s .pre .1 .1 .1 .small _)) (omega arith) (omega arith) (omega arith))
 

@@ -5,9 +5,9 @@ use native.Mathlib.Omega.{arith}
 use borrow.Author.Needs.{needs}
 use denote.Ref.{now}
 use lib.ListN.{length}
-use Rattle.plane.specs.Plane.{planeOf}
+use Rattle.plane.specs.Plane.{planeOf, sampleAt}
 use Rattle.window.specs.Parts.{quantOf}
-use Rattle.window.specs.Columns.{viewOf, Holds}
+use Rattle.window.specs.Columns.{Holds}
 use Rattle.window.proofs.Five.{quant-le, parts-low}
 use Rattle.window.proofs.Held.{holds-none, holds-more}
 use Rattle.window.proofs.columns32.fill32.Statement.{statement}
@@ -16,7 +16,7 @@ use Rattle.window.proofs.columns32.fill32.Tie as tie
 abbrev Inv-loop : tie.InvT-loop
 Inv-loop cols₀ kernel a b stride-a stride-b width height y x₀ cols x =
     (x ≤ width) × (length cols ≡ length cols₀)
-    × Holds cols (5 * x) kernel height (viewOf (planeOf a stride-a)) (viewOf (planeOf b stride-b)) y
+    × Holds cols (5 * x) kernel height (sampleAt (planeOf a stride-a)) (sampleAt (planeOf b stride-b)) y
 
 abbrev μ-loop : tie.MeasureT-loop
 μ-loop cols₀ kernel a b stride-a stride-b width height y x₀ cols x = width - x
@@ -33,8 +33,8 @@ mul-put c = search needs
 put-requires : tie.Need-put-requires Inv-loop μ-loop
 put-requires c κs =
     let s = c .before .before .before .before .before .before .before in
-    let a = (viewOf (planeOf (now (s .args .a)) (s .args .stride-a))) in
-    let b = (viewOf (planeOf (now (s .args .b)) (s .args .stride-b))) in
+    let a = (sampleAt (planeOf (now (s .args .a)) (s .args .stride-a))) in
+    let b = (sampleAt (planeOf (now (s .args .b)) (s .args .stride-b))) in
     let x = c .before .before .before .loop .x in (
       omega arith,
       parts-low _ _ (λ (m r : ℕ). quantOf m (a r x) (b r x)) _ _ (c .before .column32 .ensures) (s .pre .1 .0)
@@ -53,8 +53,8 @@ loop-again c =
     let l = c .before .before .before .before .before .loop in (
       search needs,
       c .before .put .kept .0 ∙ l .inv .1,
-      holds-more (now (s .args .kernel)) (s .args .height) (viewOf (planeOf (now (s .args .a)) (s .args .stride-a)))
-          (viewOf (planeOf (now (s .args .b)) (s .args .stride-b))) (s .args .y) (l .x) (l .cols) _ _
+      holds-more (now (s .args .kernel)) (s .args .height) (sampleAt (planeOf (now (s .args .a)) (s .args .stride-a)))
+          (sampleAt (planeOf (now (s .args .b)) (s .args .stride-b))) (s .args .y) (l .x) (l .cols) _ _
           (c .before .put .ensures) (c .before .before .before .column32 .ensures) (l .inv .2) (omega arith),
     )
 

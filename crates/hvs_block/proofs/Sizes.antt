@@ -1,0 +1,79 @@
+-- Numbers of 32 bits: what is read of a block is what stands there, and squares and differences of coefficients fit. Assumes nothing.
+use mathlib.Core.Path.{_≡_, refl, ap, _∙_}
+use mathlib.Core.Bool.{true, false}
+use mathlib.Core.List.{List}
+use Prim.Native.Nat.{ℕ, suc, _+_, _*_, _<_, _^_}
+use native.Mathlib.Nat.{mul-le-mul, lt-of-le-of-lt}
+use native.Mathlib.Omega.{arith}
+use borrow.Author.Tests.{ltb-true}
+use lib.Dec.{T, ltb, ltb→lt, lit<}
+use lib.IntN.{ℤ, pos, negsuc, natAbs, _-ℤ_, _*ℤ_}
+use lib.ListN.{getD}
+use lib.Signed.{ltZ}
+use mir.Syntax.{w32}
+use mir.Val.{SFits}
+use Rattle.dct.specs.Limits.{coefficientLimit}
+use Rattle.lifting.specs.Small.{Within, Small}
+use Rattle.lifting.specs.Operation.{rd}
+use Rattle.hvs_block.specs.Levels.{Sample}
+use Rattle.lifting.proofs.Size.{fits, size-mul, size-diff, whole}
+use Rattle.dct.proofs.Blocks.{small-at}
+
+-- ---- a place of a block, as it is read
+same : {n : ℕ} {z : ℤ} → T (ltb n (2 ^ 31)) → Within n z → rd z ≡ z
+same {n} {z} t w = whole (fits z (lt-of-le-of-lt (w .le) (ltb→lt n (2 ^ 31) t)) .sfits)
+
+pub read-sample : {z : ℤ} → Sample z → rd z ≡ z
+read-sample h = same tt (record { le = h .small })
+
+pub sample-read : {z : ℤ} → Sample z → Sample (rd z)
+sample-read h = rw (read-sample h) h
+
+pub read-coefficient : (b : List ℤ) → Small coefficientLimit b → (k : ℕ) → rd (getD b k (pos 0)) ≡ getD b k (pos 0)
+read-coefficient b h k = same tt (small-at coefficientLimit b h k)
+
+-- ---- its square
+module _ (d : List ℤ) (h : Small coefficientLimit d) (k : ℕ) where
+  square-small : natAbs (getD d k (pos 0) *ℤ getD d k (pos 0)) < 2 ^ 31
+  square-small =
+      let a = getD d k (pos 0) in
+      let w = small-at coefficientLimit d h k .le in
+      rw (size-mul a a) (lt-of-le-of-lt (mul-le-mul w w) (lit< tt))
+
+  pub square-fits : SFits w32 (rd (getD d k (pos 0)) *ℤ rd (getD d k (pos 0)))
+  square-fits = rw (read-coefficient d h k) (fits _ square-small)
+
+  pub square-is : rd (rd (getD d k (pos 0)) *ℤ rd (getD d k (pos 0))) ≡ getD d k (pos 0) *ℤ getD d k (pos 0)
+  square-is = rw (read-coefficient d h k) (whole (fits (getD d k (pos 0) *ℤ getD d k (pos 0)) square-small .sfits))
+
+-- ---- the size of a number by its sign
+size-minus : (z : ℤ) → ltZ z (pos 0) ≡ true → pos 0 -ℤ z ≡ pos (natAbs z)
+size-minus (pos n) e = absurd (omega (arith, ltb-true n 0 e))
+size-minus (negsuc n) e = let h : 0 + suc n ≡ suc n = omega arith in ap pos h
+
+size-plus : (z : ℤ) → ltZ z (pos 0) ≡ false → z ≡ pos (natAbs z)
+size-plus (pos n) e = refl
+size-plus (negsuc n) e = absurd (let z : _≡_ {A = ℕ} 0 1 = cc in omega arith)
+
+-- ---- the difference of two coefficients
+module _ (a b : ℤ) (h : Within coefficientLimit a) (k : Within coefficientLimit b) where
+  small : natAbs (a -ℤ b) < 2 ^ 31
+  small = omega (arith, size-diff a b, h .le, k .le)
+
+  pub difference-fits : SFits w32 (rd a -ℤ rd b)
+  difference-fits = rw (same tt h, same tt k) (fits _ small)
+
+  read : rd (rd a -ℤ rd b) ≡ a -ℤ b
+  read = rw (same tt h, same tt k) (whole (fits (a -ℤ b) small .sfits))
+
+  turned : ltZ (rd (rd a -ℤ rd b)) (pos 0) ≡ true → pos 0 -ℤ rd (rd a -ℤ rd b) ≡ pos (natAbs (a -ℤ b))
+  turned e = rw read (size-minus (a -ℤ b) (rw read at e))
+
+  pub turned-fits : ltZ (rd (rd a -ℤ rd b)) (pos 0) ≡ true → SFits w32 (pos 0 -ℤ rd (rd a -ℤ rd b))
+  turned-fits e = rw (turned e) (fits (pos (natAbs (a -ℤ b))) small)
+
+  pub apart-below : ltZ (rd (rd a -ℤ rd b)) (pos 0) ≡ true → rd (pos 0 -ℤ rd (rd a -ℤ rd b)) ≡ pos (natAbs (a -ℤ b))
+  apart-below e = rw (turned e) (whole (fits (pos (natAbs (a -ℤ b))) small .sfits))
+
+  pub apart-above : ltZ (rd (rd a -ℤ rd b)) (pos 0) ≡ false → rd (rd a -ℤ rd b) ≡ pos (natAbs (a -ℤ b))
+  apart-above e = read ∙ size-plus (a -ℤ b) (rw read at e)

@@ -1,0 +1,109 @@
+-- `energies` adds the weighed squares of two blocks; the first place is left out. Assumes nothing.
+use borrow.Author.Needs.{needs}
+use mathlib.Core.Path.{_≡_, sym, _∙_}
+use Prim.Native.Nat.{_-_, _≤_}
+use native.Mathlib.Omega.{arith}
+use Rattle.hvs_block.specs.Rounded.{zero64}
+use Rattle.hvs_block.specs.Block.{weigh, energy}
+use Rattle.hvs_block.proofs.Folds.{flat8, by-eights}
+use Rattle.hvs_block.proofs.Sizes.{square-fits, square-is}
+use Rattle.hvs_block.proofs.Walks.{weigh-first, weigh-more}
+use Rattle.hvs_block.proofs.block.energies.Statement.{statement}
+use Rattle.hvs_block.proofs.block.energies.Tie as tie
+
+abbrev Inv-loop : tie.InvT-loop
+Inv-loop d1 d2 mask s₀ t₀ k₀ s t k = (1 ≤ k) × (k ≤ 64) × (s ≡ flat8 (weigh mask d1) zero64 k) × (t ≡ flat8 (weigh mask d2) zero64 k)
+
+abbrev μ-loop : tie.MeasureT-loop
+μ-loop d1 d2 mask s₀ t₀ k₀ s t k = 64 - k
+
+loop-holds : tie.Need-loop-holds Inv-loop μ-loop
+loop-holds c = (search needs, search needs, sym (weigh-first (c .args .mask .now) (c .args .d1 .now) _), sym (weigh-first (c .args .mask .now) (c .args .d2 .now) _))
+
+mul-v : tie.Need-mul-v Inv-loop μ-loop
+mul-v c = search needs
+
+shared-slice-copy-out-v : tie.Need-shared-slice-copy-out-v Inv-loop μ-loop
+shared-slice-copy-out-v c = search needs
+
+mul-w : tie.Need-mul-w Inv-loop μ-loop
+mul-w c = search needs
+
+shared-slice-copy-out-w : tie.Need-shared-slice-copy-out-w Inv-loop μ-loop
+shared-slice-copy-out-w c = search needs
+
+mul-m : tie.Need-mul-m Inv-loop μ-loop
+mul-m c = search needs
+
+mul-m-2 : tie.Need-mul-m-2 Inv-loop μ-loop
+mul-m-2 c = search needs
+
+index-1-m : tie.Need-index-1-m Inv-loop μ-loop
+index-1-m c = search needs
+
+index-2-m : tie.Need-index-2-m Inv-loop μ-loop
+index-2-m c = search needs
+
+mul-s : tie.Need-mul-s Inv-loop μ-loop
+mul-s c =
+    let s = c .before .before .before .before .before in
+    square-fits (s .args .d1 .now) (s .pre .1 .0) (c .before .before .before .before .loop .k)
+
+int-to-float-s : tie.Need-int-to-float-s Inv-loop μ-loop
+int-to-float-s c = search needs
+
+mul-t : tie.Need-mul-t Inv-loop μ-loop
+mul-t c =
+    let s = c .before .before .before .before .before .before in
+    square-fits (s .args .d2 .now) (s .pre .1 .1) (c .before .before .before .before .before .loop .k)
+
+int-to-float-t : tie.Need-int-to-float-t Inv-loop μ-loop
+int-to-float-t c = search needs
+
+add-k : tie.Need-add-k Inv-loop μ-loop
+add-k c = search needs
+
+loop-less : tie.Need-loop-less Inv-loop μ-loop
+loop-less c = search needs
+
+loop-again : tie.Need-loop-again Inv-loop μ-loop
+loop-again c =
+    let s = c .before .before .before .before .before .before .before in
+    let l = c .before .before .before .before .before .before .loop in
+    let one = s .args .d1 .now in
+    let two = s .args .d2 .now in (
+      search needs,
+      search needs,
+      rw (weigh-more (s .args .mask .now) one zero64 (l .k) (l .inv .0), square-is one (s .pre .1 .0) (l .k), l .inv .2),
+      rw (weigh-more (s .args .mask .now) two zero64 (l .k) (l .inv .0), square-is two (s .pre .1 .1) (l .k), l .inv .3),
+    )
+
+returns : tie.Need-returns Inv-loop μ-loop
+unfolding energy
+returns c =
+    let e : c .before .loop .k ≡ 64 = omega arith in
+    (rw e at (c .before .loop .inv .2) ∙ by-eights _ _, rw e at (c .before .loop .inv .3) ∙ by-eights _ _)
+
+pub energies-spec : {M : Type 1} → statement M
+energies-spec =
+    tie.close
+    (tie.spec
+    Inv-loop
+    μ-loop
+    loop-holds
+    mul-v
+    shared-slice-copy-out-v
+    mul-w
+    shared-slice-copy-out-w
+    mul-m
+    mul-m-2
+    index-1-m
+    index-2-m
+    mul-s
+    int-to-float-s
+    mul-t
+    int-to-float-t
+    add-k
+    loop-less
+    loop-again
+    returns)

@@ -1,0 +1,109 @@
+-- `ratio` goes by its test; the sums of the quarters are the block's. Assumes nothing.
+use mathlib.Core.Path.{_≡_, sym, _∙_}
+use Prim.Native.Nat.{_+_, _≤_, _^_}
+use native.Mathlib.Omega.{arith}
+use Rattle.plane.specs.Sums.{sumTo}
+use Rattle.hvs_block.specs.Block as Block
+use Rattle.hvs_block.specs.Block.{ratio, varSum}
+use Rattle.hvs_block.specs.Levels.{levelOf, squares}
+use Rattle.hvs_block.proofs.Levels.{sums-add, squares-add, whole-sum, whole-squares, whole-le, gvar-is}
+use borrow.Author.Needs.{needs}
+use Rattle.hvs_block.proofs.spread.ratio.Statement.{statement}
+use Rattle.hvs_block.proofs.spread.ratio.Tie as tie
+
+quarter-requires : tie.Need-quarter-requires
+quarter-requires c κs = search needs
+
+quarter-requires-2 : tie.Need-quarter-requires-2
+quarter-requires-2 c κs = search needs
+
+quarter-requires-3 : tie.Need-quarter-requires-3
+quarter-requires-3 c κs = search needs
+
+quarter-requires-4 : tie.Need-quarter-requires-4
+quarter-requires-4 c κs = search needs
+
+-- the four sums make up the whole block's
+module _ (c : tie.After-quarter4) where
+  total : c .before .before .before .quarter .result .s + c .before .before .quarter2 .result .s + c .before .quarter3 .result .s + c .quarter4 .result .s
+      ≡ sumTo (levelOf (c .before .before .before .before .args .b .now)) 64
+  total =
+      rw (c .before .before .before .quarter .ensures .0, c .before .before .quarter2 .ensures .0, c .before .quarter3 .ensures .0, c .quarter4 .ensures .0)
+      (sums-add (c .before .before .before .before .args .b .now) (c .before .before .before .before .pre .1))
+
+  total-squares : c .before .before .before .quarter .result .q + c .before .before .quarter2 .result .q + c .before .quarter3 .result .q + c .quarter4 .result .q
+      ≡ squares (levelOf (c .before .before .before .before .args .b .now)) 64
+  total-squares =
+      rw (c .before .before .before .quarter .ensures .1 .0, c .before .before .quarter2 .ensures .1 .0, c .before .quarter3 .ensures .1 .0, c .quarter4 .ensures .1 .0)
+      (squares-add (c .before .before .before .before .args .b .now) (c .before .before .before .before .pre .1))
+
+  sum-fits : c .before .before .before .quarter .result .s + c .before .before .quarter2 .result .s + c .before .quarter3 .result .s + c .quarter4 .result .s ≤ 2 ^ 18
+  sum-fits = rw total (whole-sum (c .before .before .before .before .args .b .now) (c .before .before .before .before .pre .1))
+
+  squares-fit : c .before .before .before .quarter .result .q + c .before .before .quarter2 .result .q + c .before .quarter3 .result .q + c .quarter4 .result .q ≤ 2 ^ 30
+  squares-fit = rw total-squares (whole-squares (c .before .before .before .before .args .b .now) (c .before .before .before .before .pre .1))
+
+-- so its variance is the definition's
+variance : (c : tie.After-gvar) → c .gvar .result ≡ Block.gvar (c .before .before .before .before .before .before .before .before .before .before .before .before .before .args .b .now)
+variance c =
+    let s = c .before .before .before .before .before .before .before .before .before .before .before .before .before in
+    let q = c .before .before .before .before .before .before .before .before .before in
+    rw (total q, total-squares q) at (c .gvar .ensures) ∙ sym (gvar-is (s .args .b .now) (s .pre .1))
+
+add-gvar : tie.Need-add-gvar
+add-gvar c = omega (arith, sum-fits (c .before .before))
+
+add-gvar-2 : tie.Need-add-gvar-2
+add-gvar-2 c = omega (arith, sum-fits (c .before .before .before))
+
+add-gvar-3 : tie.Need-add-gvar-3
+add-gvar-3 c = omega (arith, sum-fits (c .before .before .before .before))
+
+add-gvar-4 : tie.Need-add-gvar-4
+add-gvar-4 c = omega (arith, squares-fit (c .before .before .before .before .before .before))
+
+add-gvar-5 : tie.Need-add-gvar-5
+add-gvar-5 c = omega (arith, squares-fit (c .before .before .before .before .before .before .before))
+
+add-gvar-6 : tie.Need-add-gvar-6
+add-gvar-6 c = omega (arith, squares-fit (c .before .before .before .before .before .before .before .before))
+
+gvar-requires : tie.Need-gvar-requires
+gvar-requires c κs =
+    let s = c .before .before .before .before .before .before .before .before .before .before .before .before in
+    let q = c .before .before .before .before .before .before .before .before in
+    (rw (total q, total-squares q) (whole-le (s .args .b .now) (s .pre .1)), squares-fit q)
+
+returns : tie.Need-returns
+unfolding ratio varSum
+returns c =
+    rw (
+      ← (variance (c .before .before .before .before .before)),
+      c .if1 .taken,
+      c .before .before .before .before .before .before .before .before .before .before .before .before .before .before .before .before .before .quarter .ensures .1 .1,
+      c .before .before .before .before .before .before .before .before .before .before .before .before .before .before .before .before .quarter2 .ensures .1 .1,
+      c .before .before .before .before .before .before .before .before .before .before .before .before .before .before .before .quarter3 .ensures .1 .1,
+      c .before .before .before .before .before .before .before .before .before .before .before .before .before .before .quarter4 .ensures .1 .1,
+    )
+
+returns-2 : tie.Need-returns-2
+unfolding ratio
+returns-2 c = rw (← (variance (c .before .before .before .before .before)), c .if1 .left)
+
+pub ratio-spec : {M : Type 1} → statement M
+ratio-spec =
+    tie.close
+    (tie.spec
+    quarter-requires
+    quarter-requires-2
+    quarter-requires-3
+    quarter-requires-4
+    add-gvar
+    add-gvar-2
+    add-gvar-3
+    add-gvar-4
+    add-gvar-5
+    add-gvar-6
+    gvar-requires
+    returns
+    returns-2)
