@@ -20,6 +20,10 @@ fuavelino: compares a decoded video with its original, and passes only what is s
       --json, --csv      all digits, for programs; without them a table for people
       --jobs N           on so many threads (default: as many as there are cores); the report is the same
       --output FILE      where the report goes; without it, or with -, to standard output
+      --frames N         both files must have exactly so many frames
+      --strict           what is noted of the files is a fault: that they are one, or that rate, interlacing or colour range differ
+      --require-threshold
+                         wrong use without a threshold
     Thresholds, each held for every plane of every frame and for every frame's combination:
       --max-error X      squared error per sample, at most X
       --min-psnr X       PSNR in decibels, at least X (identical planes meet any)
@@ -54,6 +58,10 @@ pub struct Compare {
     pub thresholds: Vec<Threshold>,
     pub form: Form,
     pub output: Option<PathBuf>,
+    /// How many frames there must be.
+    pub frames: Option<u64>,
+    /// Whether what is noted of the files is a fault.
+    pub strict: bool,
 }
 
 pub enum Asked {
@@ -73,8 +81,8 @@ pub fn parse(words: impl Iterator<Item = OsString>) -> Result<Asked, Stop> {
         Some("--help" | "-h" | "help" | "--version" | "-V") if !words.is_empty() => Err(stands_alone(&first)),
         Some("--help" | "-h" | "help") => Ok(Asked::Help),
         Some("--version" | "-V") => Ok(Asked::Version),
-        Some("compare") => compare(Words::of(words, &COMPARE)?),
-        Some("clip") => clip(Words::of(words, &CLIP)?),
+        Some("compare") => compare(Words::of(words, COMPARE)?),
+        Some("clip") => clip(Words::of(words, CLIP)?),
         _ => Err(usage(&format!("no command {:?}; there are compare and clip", first))),
     }
 }
@@ -91,7 +99,7 @@ fn stands_alone(word: &OsStr) -> Stop {
 /// An option's name, and whether a value follows it.
 type Known = (&'static str, bool);
 
-const COMPARE: [Known; 16] = [
+const COMPARE: &[Known] = &[
     ("--help", false),
     ("--json", false),
     ("--csv", false),
@@ -101,6 +109,9 @@ const COMPARE: [Known; 16] = [
     ("--metrics", true),
     ("--jobs", true),
     ("--output", true),
+    ("--frames", true),
+    ("--require-threshold", false),
+    ("--strict", false),
     ("--max-error", true),
     ("--min-psnr", true),
     ("--min-ssim", true),
@@ -110,8 +121,8 @@ const COMPARE: [Known; 16] = [
     ("-h", false),
 ];
 
-const CLIP: [Known; 6] =
-    [("--help", false), ("--size", true), ("--depth", true), ("--chroma", true), ("--frames", true), ("-h", false)];
+const CLIP: &[Known] =
+    &[("--help", false), ("--size", true), ("--depth", true), ("--chroma", true), ("--frames", true), ("-h", false)];
 
 /// Options with their values, each at most once, and the other words in order.
 struct Words {
@@ -225,7 +236,14 @@ fn compare(words: Words) -> Result<Asked, Stop> {
     };
     let metrics = words.value("--metrics", "a list of error,ssim,scales,hvs", metrics)?.unwrap_or(Metrics::ALL);
     let thresholds = thresholds(&words, &metrics)?;
+    if thresholds.is_empty() && words.has("--require-threshold") {
+        return Err(usage(
+            "--require-threshold: no threshold is given, so that everything that can be scored would pass",
+        ));
+    }
     let jobs = words.jobs()?;
+    let count = |text: &str| decimal(text.as_bytes()).filter(|count| *count > 0).map(|count| count as u64);
+    let frames = words.value("--frames", "a number of frames, at least 1", count)?;
     let output = words.get("--output").filter(|path| *path != "-").map(PathBuf::from);
     Ok(Asked::Compare(Box::new(Compare {
         original,
@@ -236,6 +254,8 @@ fn compare(words: Words) -> Result<Asked, Stop> {
         thresholds,
         form,
         output,
+        frames,
+        strict: words.has("--strict"),
     })))
 }
 

@@ -4,9 +4,10 @@ use crate::args::{Compare, Form};
 use crate::csv::Csv;
 use crate::format::Format;
 use crate::frames::Source;
-use crate::input::{named, shown, Stored};
+use crate::input::{identity, named, shown, Stored};
 use crate::jobs;
 use crate::json::Json;
+use crate::notes::notes;
 use crate::output::Output;
 use crate::progress::{is_terminal, say, Progress, STANDARD_OUTPUT};
 use crate::report::{End, Job, Report, Worst};
@@ -17,8 +18,6 @@ use crate::thresholds;
 use crate::totals::Run;
 use std::fs;
 use std::io::{self, Write};
-use std::os::unix::fs::MetadataExt;
-use std::path::PathBuf;
 
 /// Compares, and gives the status that the command ends with.
 pub fn compare(asked: &Compare) -> Result<u8, Stop> {
@@ -48,17 +47,22 @@ fn report(form: Form) -> Box<dyn Report> {
     }
 }
 
-/// Begins a report, with the files' format where that is known.
-fn begin(report: &mut dyn Report, to: &mut dyn Write, asked: &Compare, format: Option<Format>) -> io::Result<()> {
+/// Begins a report, with the files' format where that is known, and with notes on them.
+fn begin(
+    report: &mut dyn Report,
+    to: &mut dyn Write,
+    asked: &Compare,
+    (format, notes): (Option<Format>, &[String]),
+) -> io::Result<()> {
     let (original, decoded) = (&named(&asked.original)[..], &named(&asked.decoded)[..]);
-    report.begin(to, &Job { original, decoded, format, metrics: asked.metrics, thresholds: &asked.thresholds })
+    report.begin(to, &Job { original, decoded, format, metrics: asked.metrics, thresholds: &asked.thresholds, notes })
 }
 
 /// What stands in the report's file until the run has ended: a whole report of a run that did not pass.
 fn unfinished(asked: &Compare) -> io::Result<Vec<u8>> {
     let mut text = Vec::new();
     let mut report = report(asked.form);
-    begin(&mut *report, &mut text, asked, None)?;
+    begin(&mut *report, &mut text, asked, (None, &[]))?;
     let fault = Fault::new("the comparison has not ended, or was ended from outside".to_string());
     let (worst, fault) = (&Worst::default(), Some(&fault));
     report.end(&mut text, &End { frames: 0, run: None, worst, broken: 0, fault, status: FAULT })?;
@@ -75,7 +79,7 @@ fn open(asked: &Compare) -> Result<[Source; 2], Fault> {
     Ok(sources)
 }
 
-/// Rate, aspect and the rest of a header are not compared: they do not bear on the scores.
+/// Rate, aspect and the rest of a header have no bearing on the scores: where they differ is noted, and no more.
 fn alike(a: &Source, b: &Source) -> Result<(), Fault> {
     if a.format == b.format {
         return Ok(());
@@ -102,13 +106,9 @@ fn output(asked: &Compare) -> Result<Output, Stop> {
         Some(path) => path,
         None => return Output::standard(),
     };
-    if let Ok(target) = fs::metadata(path) {
-        let same = |other: fs::Metadata| (other.dev(), other.ino()) == (target.dev(), target.ino());
-        let real = |input: &PathBuf| if input.as_os_str() == "-" { PathBuf::from("/dev/stdin") } else { input.clone() };
-        let inputs = [real(&asked.original), real(&asked.decoded)];
-        if target.is_file() && inputs.iter().any(|input| fs::metadata(input).map_or(false, same)) {
-            return Err(Stop::Usage("--output names a file that is to be compared".to_string()));
-        }
+    let target = fs::metadata(path).ok().filter(|target| target.is_file()).and_then(|_| identity(path));
+    if target.is_some() && [&asked.original, &asked.decoded].iter().any(|input| identity(input) == target) {
+        return Err(Stop::Usage("--output names a file that is to be compared".to_string()));
     }
     let first = unfinished(asked).map_err(|error| Stop::unwritten(&shown(path), &error))?;
     Output::replace(path, &first)
@@ -129,10 +129,15 @@ impl Walk<'_> {
     /// Begins the report, and walks where there is something to walk over.
     fn whole(&mut self) -> Result<FrameScores, Stop> {
         let opened = open(self.asked);
-        let format = opened.as_ref().ok().map(|sources| sources[0].format);
         let (report, asked) = (&mut *self.report, self.asked);
-        self.out.write(|to| begin(report, to, asked, format))?;
+        let format = opened.as_ref().ok().map(|sources| sources[0].format);
+        let notes = opened.as_ref().map_or(Vec::new(), |sources| notes(asked, sources));
+        self.out.write(|to| begin(report, to, asked, (format, &notes)))?;
+        notes.iter().for_each(|note| say(&format!("note: {}", note)));
         let sources = opened?;
+        if let (Some(note), true) = (notes.first(), asked.strict) {
+            return Err(Fault::new(format!("{} (--strict)", note)).into());
+        }
         let walked = if sources[0].format.wide() { self.walk::<u16>(sources) } else { self.walk::<u8>(sources) };
         self.progress.clear();
         walked
@@ -163,16 +168,24 @@ impl Walk<'_> {
 
     fn walk<T: Stored>(&mut self, sources: [Source; 2]) -> Result<FrameScores, Stop> {
         let format = sources[0].format;
-        let none = format!("{} and {} have no frames", sources[0].name(), sources[1].name());
+        let files = format!("{} and {}", sources[0].name(), sources[1].name());
+        let wanted = self.asked.frames;
         let mut run = Run::new(format.shapes().len(), format.chroma.get_chroma_weight());
         jobs::each::<T>(sources, self.asked.metrics, self.asked.jobs, |scored| {
+            if wanted == Some(self.frames) {
+                return Err(Fault::new(format!("{} have more than {} frames (--frames)", files, self.frames)).into());
+            }
             let place = format!("frame {}", self.frames);
             let scores = scored.map_err(|refused| refused.at(&place))?;
             run.add(&scores).map_err(|refused| refused.at("the run"))?;
             self.tell(&scores)
         })?;
-        if self.frames == 0 {
-            return Err(Fault::new(none).into());
+        match (self.frames, wanted) {
+            (0, _) => Err(Fault::new(format!("{} have no frames", files)))?,
+            (count, Some(wanted)) if count != wanted => {
+                Err(Fault::new(format!("{} have {} frames, not {} (--frames)", files, count, wanted)))?
+            }
+            _ => {}
         }
         Ok(run.end().map_err(|refused| refused.at("the run"))?)
     }

@@ -19,6 +19,8 @@ impl<T> Frame<T> {
 
 pub struct Source {
     pub format: Format,
+    /// What its header tells beside.
+    pub asides: y4m::Asides,
     /// How many whole frames were read.
     pub read: u64,
     input: Input,
@@ -30,14 +32,14 @@ impl Source {
     /// Without a told format, the file's header gives it.
     pub fn open(path: &Path, told: Option<Format>) -> Result<Source, Fault> {
         let mut input = Input::open(path)?;
-        let format = match told {
+        let (format, asides) = match told {
             Some(_) if input.ahead()?.starts_with(y4m::MAGIC) => {
                 return Err(input.fault("this is a Y4M file: it takes no --size, --depth and --chroma"));
             }
-            Some(format) => format,
+            Some(format) => (format, y4m::Asides::default()),
             None => y4m::header(&mut input)?,
         };
-        Ok(Source { format, read: 0, input, raw: told.is_some() })
+        Ok(Source { format, asides, read: 0, input, raw: told.is_some() })
     }
 
     pub fn name(&self) -> &str {

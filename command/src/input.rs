@@ -1,8 +1,9 @@
 //! A file or standard input, read with its place known and with memory that grows only as data come.
 
 use crate::stop::Fault;
-use std::fs::File;
+use std::fs::{self, File};
 use std::io::{self, BufRead, BufReader, ErrorKind, Read};
+use std::os::unix::fs::MetadataExt;
 use std::path::Path;
 
 /// Longer header lines are refused.
@@ -61,6 +62,12 @@ pub fn named(path: &Path) -> String {
     } else {
         shown(path)
     }
+}
+
+/// A file's device and number, by which it is known under any name.
+pub fn identity(path: &Path) -> Option<(u64, u64)> {
+    let path = if path.as_os_str() == "-" { Path::new("/dev/stdin") } else { path };
+    fs::metadata(path).ok().map(|data| (data.dev(), data.ino()))
 }
 
 impl Input {

@@ -30,6 +30,10 @@ impl Report for Json {
         for threshold in job.thresholds {
             json.object().field("option", threshold.kind.option).field("limit", threshold.limit).close();
         }
+        json.close().name("notes").list();
+        for note in job.notes {
+            json.value(&note[..]);
+        }
         json.close().name("frames").list().lines();
         self.out(out)
     }

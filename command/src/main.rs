@@ -11,6 +11,7 @@ mod frames;
 mod input;
 mod jobs;
 mod json;
+mod notes;
 mod output;
 mod part;
 mod progress;

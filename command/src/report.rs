@@ -15,6 +15,8 @@ pub struct Job<'a> {
     pub format: Option<Format>,
     pub metrics: Metrics,
     pub thresholds: &'a [Threshold],
+    /// What is to be said of the files.
+    pub notes: &'a [String],
 }
 
 /// How it ended.

@@ -24,8 +24,11 @@ impl Report for Table {
         self.asked = job.metrics.asked();
         self.thresholds = job.thresholds.len();
         let format = job.format.map_or("not known".to_string(), |format| format.show());
-        writeln!(out, "original: {}\ndecoded:  {}\nformat:   {}\n", job.original, job.decoded, format)?;
-        writeln!(out, "{}", self.heads())
+        writeln!(out, "original: {}\ndecoded:  {}\nformat:   {}", job.original, job.decoded, format)?;
+        for note in job.notes {
+            writeln!(out, "note:     {}", note)?;
+        }
+        writeln!(out, "\n{}", self.heads())
     }
 
     fn frame(&mut self, out: &mut dyn Write, number: u64, scores: &FrameScores, broken: &[Broken]) -> io::Result<()> {

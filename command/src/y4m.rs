@@ -36,8 +36,22 @@ pub fn space(chroma: Chroma, depth: u32) -> Option<&'static str> {
     SPACES.iter().find(|space| space.1 == chroma && space.2 == depth).map(|space| space.0)
 }
 
-/// Reads the header. Rate, interlacing, aspect and extensions (F, I, A, X) do not bear on the scores and are passed over.
-pub fn header(input: &mut Input) -> Result<Format, Fault> {
+/// What a header tells beside the format. It has no bearing on the scores. What is told to be unknown is not told.
+#[derive(Clone, Debug, Default, PartialEq)]
+pub struct Asides {
+    rate: Option<String>,
+    interlacing: Option<String>,
+    range: Option<String>,
+}
+
+impl Asides {
+    pub fn named(&self) -> [(&'static str, &Option<String>); 3] {
+        [("frame rate", &self.rate), ("interlacing", &self.interlacing), ("colour range", &self.range)]
+    }
+}
+
+/// Reads the header. Aspect and other extensions than the colour range (A, X) are passed over.
+pub fn header(input: &mut Input) -> Result<(Format, Asides), Fault> {
     let line = match input.line()? {
         Line::Whole(line) => line,
         Line::Long => return Err(long(input, 0)),
@@ -48,9 +62,9 @@ pub fn header(input: &mut Input) -> Result<Format, Fault> {
     if !begins(&line, MAGIC) {
         return Err(not_y4m(input));
     }
-    let format = parameters(&line).map_err(|(at, what)| input.fault_at(at as u64, &what))?;
+    let (format, asides) = parameters(&line).map_err(|(at, what)| input.fault_at(at as u64, &what))?;
     match format.judge() {
-        Ok(()) => Ok(format),
+        Ok(()) => Ok((format, asides)),
         Err(refusal) => Err(Fault::refused(&format!("{}: header: {}", input.name, format.show()), refusal)),
     }
 }
@@ -85,40 +99,79 @@ fn begins(line: &[u8], word: &[u8]) -> bool {
 /// What is wrong, and where in the line.
 type Wrong = (usize, String);
 
-/// The format that the header's words give.
-fn parameters(line: &[u8]) -> Result<Format, Wrong> {
-    let (mut width, mut height, mut space) = (None, None, None);
-    let mut at = 0;
-    for word in line.split(|byte| *byte == b' ') {
-        let here = at;
-        at += word.len() + 1;
-        let (tag, value) = match word.split_first() {
-            Some((tag, value)) if here > 0 => (*tag, value),
-            _ => continue,
-        };
-        match tag {
-            b'W' => once(&mut width, side(value), here, word)?,
-            b'H' => once(&mut height, side(value), here, word)?,
-            b'C' => once(&mut space, known(value), here, word)?,
-            b'F' | b'I' | b'A' | b'X' => {}
-            _ => return Err((here, format!("{} is no parameter of Y4M", told(word)))),
+/// The extension that tells the range of the samples.
+const RANGE: &[u8] = b"XCOLORRANGE=";
+
+/// What the header's words give.
+fn parameters(line: &[u8]) -> Result<(Format, Asides), Wrong> {
+    let (mut width, mut height, mut space) = (None, None, (Chroma::Cs420, 8));
+    let mut asides = Asides::default();
+    for (at, word) in words(line)? {
+        let wrong = |why: &str| (at, format!("{}: {}", told(word), why));
+        let value = &word[1..];
+        match word[0] {
+            b'W' => width = Some(side(value).map_err(wrong)?),
+            b'H' => height = Some(side(value).map_err(wrong)?),
+            b'C' => space = known(value).map_err(wrong)?,
+            b'F' => asides.rate = rate(value),
+            b'I' => asides.interlacing = Some(told(value)).filter(|told| told != "?"),
+            b'X' => asides.range = word.strip_prefix(RANGE).map(told).or(asides.range),
+            b'A' => {}
+            _ => return Err((at, format!("{} is no parameter of Y4M", told(word)))),
         }
     }
-    let (chroma, depth) = space.unwrap_or((Chroma::Cs420, 8));
+    let (chroma, depth) = space;
     match (width, height) {
-        (Some(width), Some(height)) => Ok(Format { width, height, depth, chroma }),
+        (Some(width), Some(height)) => Ok((Format { width, height, depth, chroma }, asides)),
         (None, _) => Err((line.len(), "the header has no width (W)".to_string())),
         (_, None) => Err((line.len(), "the header has no height (H)".to_string())),
     }
 }
 
-/// Takes over a parameter's value, if there is one and it is the first.
-fn once<V>(kept: &mut Option<V>, value: Result<V, &str>, at: usize, word: &[u8]) -> Result<(), Wrong> {
-    let value = value.map_err(|why| (at, format!("{}: {}", told(word), why)))?;
-    match kept.replace(value) {
-        None => Ok(()),
-        Some(_) => Err((at, format!("{}: given twice", told(word)))),
+/// The words after the first, each with its place, and each parameter once. An extension's name ends at its sign of
+/// equality, so that there may be several.
+fn words(line: &[u8]) -> Result<Vec<(usize, &[u8])>, Wrong> {
+    let mut list: Vec<(usize, &[u8])> = Vec::new();
+    let mut at = 0;
+    for word in line.split(|byte| *byte == b' ') {
+        if list.iter().any(|(_, earlier)| at > 0 && name(earlier) == name(word)) {
+            return Err((at, format!("{}: given twice", told(word))));
+        }
+        if at > 0 && !word.is_empty() {
+            list.push((at, word));
+        }
+        at += word.len() + 1;
     }
+    Ok(list)
+}
+
+/// The name of a parameter: a letter, and for an extension all that stands before its value.
+fn name(word: &[u8]) -> &[u8] {
+    match word.first() {
+        Some(b'X') => word.split(|byte| *byte == b'=').next().unwrap_or_default(),
+        _ => &word[..word.len().min(1)],
+    }
+}
+
+/// A rate in lowest terms, where it is a ratio of two numbers. 0 stands for unknown.
+fn rate(value: &[u8]) -> Option<String> {
+    let mut halves = value.splitn(2, |byte| *byte == b':').map(decimal);
+    match (halves.next().flatten(), halves.next().flatten()) {
+        (Some(0), Some(_)) | (Some(_), Some(0)) => None,
+        (Some(over), Some(under)) => {
+            let common = divisor(over, under);
+            Some(format!("{}:{}", over / common, under / common))
+        }
+        _ => Some(told(value)),
+    }
+}
+
+/// The greatest common divisor, of which neither is 0.
+fn divisor(mut a: usize, mut b: usize) -> usize {
+    while b > 0 {
+        (a, b) = (b, a % b);
+    }
+    a
 }
 
 fn side(value: &[u8]) -> Result<usize, &'static str> {
@@ -144,9 +197,33 @@ mod tests {
     #[test]
     fn reads_sides_depth_and_chroma() {
         let format = parameters(b"YUV4MPEG2 W17 H9 F25:1 Ip A1:1 C422p10 XYSCSS=422P10");
+        let format = format.map(|told| told.0);
         assert_eq!(format, Ok(Format { width: 17, height: 9, depth: 10, chroma: Chroma::Cs422 }));
         let plain = parameters(b"YUV4MPEG2  H9 W17 ");
-        assert_eq!(plain, Ok(Format { width: 17, height: 9, depth: 8, chroma: Chroma::Cs420 }));
+        let format = Format { width: 17, height: 9, depth: 8, chroma: Chroma::Cs420 };
+        assert_eq!(plain, Ok((format, Asides::default())));
+    }
+
+    #[test]
+    fn reads_what_is_told_beside() {
+        let told = |words: &str| {
+            let asides = parameters(format!("YUV4MPEG2 W1 H1 {}", words).as_bytes()).unwrap().1;
+            asides.named().map(|named| named.1.clone().unwrap_or_default())
+        };
+        assert_eq!(told("F60:2 Ip XCOLORRANGE=FULL XYSCSS=420"), ["30:1", "p", "FULL"]);
+        assert_eq!(told("XA=1 F30000:1001 Ib XCOLORRANGE= XB"), ["30000:1001", "b", ""]);
+        assert_eq!(told("F0:0 I? A0:0"), ["", "", ""]);
+        assert_eq!(told("F30 I XCOLORRANGE"), ["30", "", ""]);
+    }
+
+    #[test]
+    fn every_parameter_is_given_once() {
+        let twice = |words: &str| parameters(format!("YUV4MPEG2 W1 H1 {}", words).as_bytes()).map_err(|wrong| wrong.1);
+        for words in ["W1", "H1", "C420 C420", "F1:1 F1:1", "Ip I?", "A1:1 A1:1", "XA=1 XA=2", "XA XA=1", "X X"] {
+            let last = words.rsplit(' ').next().unwrap();
+            assert_eq!(twice(words), Err(format!("{}: given twice", last)));
+        }
+        assert!(twice("XA=1 XB=1 XAB X").is_ok());
     }
 
     #[test]
@@ -163,7 +240,7 @@ mod tests {
 
     #[test]
     fn a_side_too_large_for_the_machine_is_the_largest() {
-        let format = parameters(b"YUV4MPEG2 W99999999999999999999999999 H1").unwrap();
+        let (format, _) = parameters(b"YUV4MPEG2 W99999999999999999999999999 H1").unwrap();
         assert_eq!(format.width, usize::MAX);
         assert_eq!(format.judge(), Err(fuavelino::Refusal::Size));
     }

@@ -93,7 +93,7 @@ fn frames_may_have_parameters() {
 }
 
 #[test]
-fn unlike_files_are_errors_and_rate_and_aspect_are_not_compared() {
+fn unlike_files_are_errors_and_aspect_and_siting_are_not_compared() {
     let room = Room::new("unlike");
     let a = room.file("a.y4m", &video().y4m());
     let cases: [(usize, usize, u32, &'static str, &str); 5] = [
@@ -107,11 +107,21 @@ fn unlike_files_are_errors_and_rate_and_aspect_are_not_compared() {
         let b = room.file("b.y4m", &Video::new(width, height, depth, chroma, 3, 1).y4m());
         run(&words!["compare", &a, &b]).says(3, &[&format!("differ in {}:", words), "a.y4m", "b.y4m"]);
     }
-    let other = video().y4m_under("YUV4MPEG2 H32 W32 F24000:1001 Ib A4:3 C420paldv XCOLORRANGE=FULL\n");
+    let other = video().y4m_under("YUV4MPEG2 H32 W32 F60:2 Ip A4:3 C420paldv XYSCSS=420PALDV XA=1\n");
     let b = room.file("b.y4m", &other);
-    run(&words!["compare", &a, &b, "--max-error=0"]).passes();
+    run(&words!["compare", &a, &b, "--max-error=0", "--strict"]).passes();
     let bare = room.file("b.y4m", &video().y4m_under("YUV4MPEG2 W32 H32\n"));
-    run(&words!["compare", &a, &bare, "--max-error=0"]).passes();
+    assert_eq!(run(&words!["compare", &a, &bare, "--max-error=0"]).status, 0);
+}
+
+#[test]
+fn a_parameter_given_twice_is_an_error() {
+    let room = Room::new("twice");
+    for words in ["W32", "H32", "C420 C420", "F30:1 F30:1", "Ip Ip", "A1:1 A4:3", "XCOLORRANGE=FULL XCOLORRANGE=FULL"] {
+        let a = room.file("a.y4m", &video().y4m_under(&format!("YUV4MPEG2 W32 H32 {}\n", words)));
+        let last = words.rsplit(' ').next().unwrap();
+        run(&words!["compare", &a, &a]).says(3, &["a.y4m: byte ", &format!("{}: given twice", last)]);
+    }
 }
 
 #[test]

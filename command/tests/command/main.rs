@@ -3,6 +3,7 @@
 mod closed;
 mod documented;
 mod files;
+mod guards;
 mod hostile;
 mod jobs;
 mod json;

@@ -68,8 +68,19 @@ fn scores_that_are_not_asked_are_empty_or_absent() {
 fn json_has_its_documented_names() {
     let room = Room::new("documented");
     let json = Json::read(run(&[&files(&room)[..], &words!["--json", "--min-cs=-1"]].concat()).passes());
-    let names =
-        ["fuavelino", "original", "decoded", "format", "metrics", "thresholds", "frames", "run", "worst", "broken"];
+    let names = [
+        "fuavelino",
+        "original",
+        "decoded",
+        "format",
+        "metrics",
+        "thresholds",
+        "notes",
+        "frames",
+        "run",
+        "worst",
+        "broken",
+    ];
     assert_eq!(json.names(), [&names[..], &["error", "status", "passed"]].concat());
     assert_eq!(json.at("frames").list()[0].names(), ["frame", "planes", "combined", "broken"]);
     assert_eq!(json.at("thresholds").list()[0].names(), ["option", "limit"]);

@@ -27,8 +27,10 @@ impl Ended {
         }
     }
 
+    /// A run that passed, of which nothing is said but, where a test compares a file with itself, that.
     pub fn passes(&self) -> &str {
-        assert_eq!((self.status, &self.err[..]), (0, ""));
+        let said: Vec<&str> = self.err.lines().filter(|line| !line.ends_with(" are one file")).collect();
+        assert_eq!((self.status, &said[..]), (0, &[][..]));
         &self.out
     }
 }
