@@ -1,4 +1,4 @@
-//! The transform's steps as document 01 has them, over wide numbers, run forward and undone: a second time, with no regard to the product.
+//! The steps of SCOPE, "The transform", over wide numbers, run forward and undone: a second time, with no regard to the product.
 
 use Part::{Half, Times, Whole};
 use Step::{From, Less, Plus};

@@ -1,4 +1,4 @@
-//! What document 01 says of roots and of planes, written a second time, with no regard to the product.
+//! What SCOPE says of roots and of planes, written a second time, with no regard to the product.
 
 /// The refusal of a root.
 pub const VALUE: u8 = 12;

@@ -1,10 +1,10 @@
-//! Numbers of document 01 that the published Rust gives too: they show that stand-ins and probes are sound.
+//! Numbers of SCOPE, "Numbers to hold it to", that the published Rust gives too: they show that stand-ins and probes are sound.
 
 use crate::family::Run;
 use published::plane::Plane;
 use published::video::{psnr, psnr_hvs, ssim};
 
-/// MS-SSIM's own kernel, as document 01 has it.
+/// MS-SSIM's own kernel, as SCOPE, "What a plane may be", has it.
 const KERNEL: [i64; 9] = [8, 37, 112, 218, 274, 218, 112, 37, 8];
 
 pub fn compare(_: Run) -> bool {

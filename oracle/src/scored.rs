@@ -64,7 +64,7 @@ impl Samples {
     }
 }
 
-/// Document 01's three samples and three; four zeros and four of the largest; any; and any that suit the least depth.
+/// SCOPE's three samples and three; four zeros and four of the largest; any; and any that suit the least depth.
 fn samples(r: &mut Random, max: u16, low: u16) -> Vec<u16> {
     let mut list = vec![10, 20, 30, 13, 20, 26, 0, 0, 0, 0, max, max, max, max];
     list.extend((0..46).map(|_| r.within(0, usize::from(max)) as u16));

@@ -1,4 +1,4 @@
-//! Series of records, against the rules of document 01 in wide whole numbers.
+//! Series of records, against the rules of SCOPE, "When the desk says no" and "Squared error", in wide whole numbers.
 
 use crate::family::{number, run, Family, Run};
 use crate::plane::less;
