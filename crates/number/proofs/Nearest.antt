@@ -3,7 +3,7 @@
 -- y is farther from it than r is where the root lies on r's side of half way: (y + r)² < 4 * n * 2 ^ 1074 for a y below r, and the other
 -- way round for one above. Both hold without equality, so no y is as near. Assumes nothing.
 use mathlib.Core.Path.{_≡_, refl, sym, ap, _∙_, subst}
-use mathlib.Core.Bool.{Bool, false, _&&_}
+use mathlib.Core.Bool.{Bool, true, false, _&&_}
 use Prim.Native.Nat.{ℕ, zero, suc, _+_, _-_, _*_, _/_, _%_, _^_, _≤_, _<_, zero-le}
 use native.Mathlib.Nat.{lt-of-le-of-lt, lt-of-lt-of-le, le-trans, le-of-lt, le-refl, zero-lt-suc, mul-assoc, mul-one, add-mul, mul-mul-mul-comm, mul-right-comm}
 use native.Mathlib.Nat.{mul-pos, mul-le-mul, mul-le-mul-right, mul-lt-mul-of-pos-left, mul-lt-mul-of-pos-right, lt-of-mul-lt-mul-right, mul-div-cancel, div-one, div-mul-le-self, zero-mul, zero-div}
@@ -12,10 +12,14 @@ use native.Mathlib.Omega.{arith}
 use lib.Dec.{T, eqb, leb, ltb, leb→le, ltb→lt}
 use lib.IntN.{ℤ, pos, negsuc}
 use lib.Pow.{pow-add, pow-pos, pow-mono, pow-lt, shl-lt}
-use lib.Ieee.{Float, fin, binary64, up, down, low, emax, prec, fits, size}
+use lib.Ieee.{Float, nan, inf, fin, binary64, up, down, low, emax, prec, fits, size, units}
 use lib.Ieee.Digits.{size-lt, size-reaches, size-le}
 use lib.Ieee.Fits.{and-l, and-r, down-pos}
-use Rattle.number.specs.Root.{nearestRoot, unitsOf, rootOfUnits}
+use lib.Ieee.Exact.{HasValue}
+use Rattle.refusal.specs.Numbers.{valueNo}
+use Rattle.number.specs.declared.Rooted.{Rooted}
+use Rattle.number.specs.declared.Rooted.the-variants.{Root, Refused}
+use Rattle.number.specs.Root.{nearestRoot, unitsOf, rootOfUnits, rootOf}
 use Rattle.number.proofs.Whole.{Near, Scaled, shifted, near-from, near-upto, nearest-near, above-square, below-square, sorted}
 use Rattle.number.proofs.Doubles.{units-are, units-value, units-fit, scaled-root, other-scale, scale-from}
 
@@ -165,6 +169,55 @@ leading c n q d p =
     some (yes l) = l
     some (no l) = let z : size (d .digits) ≡ 0 = omega arith in absurd (omega (arith, subst (λ (x : ℕ). d .digits < 2 ^ x) z (size-lt (d .digits))))
 
+-- ---- the law's own words
+
+-- finite, and its sign is plus
+abbrev pub NotBelow : Float → Type 0
+NotBelow nan = ⊥
+NotBelow (inf s) = ⊥
+NotBelow (fin true m e) = ⊥
+NotBelow (fin false m e) = Unit {0}
+
+-- y is farther from the root of A units than r units are, unless it is r: half way between the two lies on r's side of the root. Of a y
+-- below zero that is r - |y| < 2√A. What is not finite is no number, and is not compared.
+abbrev pub Beyond : ℕ → Float → ℕ → Type 0
+Beyond A nan r = Unit {0}
+Beyond A (inf s) r = Unit {0}
+Beyond A (fin false m e) r = Farther A (unitsOf (fin false m e)) r
+Beyond A (fin true m e) r = (r - unitsOf (fin true m e)) * (r - unitsOf (fin true m e)) < 4 * A
+
+-- r is the double nearest the exact root of x, and no other is as near
+pub record Nearest (x r : Float) : Type 0 where
+  pub double : T (fits binary64 r)
+  pub sign : NotBelow r
+  pub only : (y : Float) → T (fits binary64 y) → Beyond (unitsOf x * 2 ^ low binary64) y (unitsOf r)
+
+-- what the answer to a root must be, for every double: a positive one's nearest root, +0 for +0, and 12 for all others
+abbrev pub Right : Float → Rooted → Type 0
+Right nan a = a ≡ Refused valueNo
+Right (inf s) a = a ≡ Refused valueNo
+Right (fin true m e) a = a ≡ Refused valueNo
+Right (fin false zero e) a = a ≡ Root (fin false 0 (pos 0))
+Right (fin false (suc m) e) (Root r) = Nearest (fin false (suc m) e) r
+Right (fin false (suc m) e) (Refused k) = ⊥
+
+value-positive : (v : Float) (a : ℕ) → HasValue v false a (2 ^ low binary64) → NotBelow v
+value-positive nan a h = h
+value-positive (inf t) a h = h
+value-positive (fin true m k) a h = let z : _≡_ {A = ℕ} 0 1 = cc (h .0) in absurd (omega arith)
+value-positive (fin false m k) a h = tt
+
+-- a y below zero, from what is known of +0
+below-zero : (A y r : ℕ) → 0 < A → (0 < r → (0 + r) * (0 + r) < 4 * A) → (r - y) * (r - y) < 4 * A
+below-zero A y r p h = go (decLt 0 r)
+  where
+    shorter : r - y ≤ 0 + r
+    shorter = omega arith
+
+    go : Dec (0 < r) → (r - y) * (r - y) < 4 * A
+    go (yes l) = lt-of-le-of-lt (mul-le-mul shorter shorter) (h l)
+    go (no l) = let z : r - y ≡ 0 = omega arith in rw z (omega (arith, p))
+
 -- ---- the law
 
 module _ (c n m w : ℕ) (q : c ≡ 1022) (e : n * 2 ^ c ≡ m * 2 ^ w) (from : 2 ^ 52 ≤ m) (upto : m < 2 ^ 53) (least : 970 ≤ w) (most : w < 3072) where
@@ -186,6 +239,11 @@ module _ (c n m w : ℕ) (q : c ≡ 1022) (e : n * 2 ^ c ≡ m * 2 ^ w) (from : 
 
   root-fits : T (fits binary64 (rootOfUnits n))
   root-fits = subst (λ (v : Float). T (fits binary64 v)) (sym (scaled-root n m c w e from upto q least)) (units-fit (w / 2) S (omega (arith, most)) (near-from X S scaled near) (near-upto X S scaled near))
+
+  root-positive : NotBelow (rootOfUnits n)
+  root-positive =
+      subst (λ (v : Float). NotBelow v) (sym (scaled-root n m c w e from upto q least))
+      (value-positive (units binary64 false S (w / 2)) (S * 2 ^ (w / 2)) (units-value (w / 2) S (omega (arith, most)) (near-from X S scaled near) (near-upto X S scaled near)))
 
   square-units : (l : ℕ) → l ≡ c + 52 → n * 2 ^ l ≡ X * (2 ^ (w / 2) * 2 ^ (w / 2))
   square-units l h =
@@ -222,20 +280,66 @@ units-in m e h =
     let D = ltb (suc m * up e) (2 ^ suc (emax binary64) * down e) in
     below-top (low binary64) (2 ^ suc (emax binary64)) _ (suc m) (up e) (down e) (down-pos e) refl (ltb→lt _ _ (and-r (A && B && C) D h))
 
--- The root of a positive finite double x is a double, and every other finite double y is farther from the exact root. (A y below zero is
--- farther still than +0 is, so its size stands for it here.)
-pub root-nearest : (m : ℕ) (e : ℤ) → T (fits binary64 (fin false (suc m) e)) → (s : Bool) (i : ℕ) (k : ℤ) → T (fits binary64 (fin s i k))
-    → let n = unitsOf (fin false (suc m) e) in
-    T (fits binary64 (rootOfUnits n)) × Farther (n * 2 ^ low binary64) (unitsOf (fin s i k)) (unitsOf (rootOfUnits n))
-root-nearest m e h s i k g =
-    let n = unitsOf (fin false (suc m) e) in
-    let d = shape false (suc m) e h in
-    let v = leading 1022 n refl (d .0) (subst (λ (x : ℕ). 0 < x) (sym (d .1)) (zero-lt-suc m)) in
-    let most = places-in (low binary64) (suc (emax binary64)) 1022 n (v .w) refl refl (units-in m e h) (scale-from n (v .m) 1022 (v .w) (v .is) 52 (v .w - 970) (v .from) (places (v .w) (v .least))) (v .least) in
-    let far = farther 1022 n (v .m) (v .w) refl (v .is) (v .from) (v .upto) (v .least) most (unitsOf (fin s i k)) (shape s i k g .0) in (
-      root-fits 1022 n (v .m) (v .w) refl (v .is) (v .from) (v .upto) (v .least) most,
-      rw (square-units 1022 n (v .m) (v .w) refl (v .is) (v .from) (v .upto) (v .least) most (low binary64) refl, root-units 1022 n (v .m) (v .w) refl (v .is) (v .from) (v .upto) (v .least) most) far,
-    )
-  where
-    places : (w : ℕ) → 970 ≤ w → 52 + w ≡ w - 970 + 1022
-    places w l = omega arith
+-- the root of a positive finite double: it is a double, not below zero, and every other is farther from the exact root
+module _ (m : ℕ) (e : ℤ) (h : T (fits binary64 (fin false (suc m) e))) where
+  abbrev given : ℕ
+  given = unitsOf (fin false (suc m) e)
+
+  drawn : Leading 1022 given
+  drawn = let d = shape false (suc m) e h in leading 1022 given refl (d .0) (subst (λ (x : ℕ). 0 < x) (sym (d .1)) (zero-lt-suc m))
+
+  in-range : drawn .w < 3072
+  in-range =
+      places-in (low binary64) (suc (emax binary64)) 1022 given (drawn .w) refl refl (units-in m e h)
+      (scale-from given (drawn .m) 1022 (drawn .w) (drawn .is) 52 (drawn .w - 970) (drawn .from) (places (drawn .w) (drawn .least))) (drawn .least)
+    where
+      places : (w : ℕ) → 970 ≤ w → 52 + w ≡ w - 970 + 1022
+      places w l = omega arith
+
+  is-double : T (fits binary64 (rootOfUnits given))
+  is-double = root-fits 1022 given (drawn .m) (drawn .w) refl (drawn .is) (drawn .from) (drawn .upto) (drawn .least) in-range
+
+  is-positive : NotBelow (rootOfUnits given)
+  is-positive = root-positive 1022 given (drawn .m) (drawn .w) refl (drawn .is) (drawn .from) (drawn .upto) (drawn .least) in-range
+
+  others-farther : (s : Bool) (i : ℕ) (k : ℤ) → T (fits binary64 (fin s i k)) → Farther (given * 2 ^ low binary64) (unitsOf (fin s i k)) (unitsOf (rootOfUnits given))
+  others-farther s i k g =
+      rw (
+        square-units 1022 given (drawn .m) (drawn .w) refl (drawn .is) (drawn .from) (drawn .upto) (drawn .least) in-range (low binary64) refl,
+        root-units 1022 given (drawn .m) (drawn .w) refl (drawn .is) (drawn .from) (drawn .upto) (drawn .least) in-range,
+      )
+      (farther 1022 given (drawn .m) (drawn .w) refl (drawn .is) (drawn .from) (drawn .upto) (drawn .least) in-range (unitsOf (fin s i k)) (shape s i k g .0))
+
+  some-square : 0 < given * 2 ^ low binary64
+  some-square =
+      let d = shape false (suc m) e h in
+      mul-pos (subst (λ (x : ℕ). 0 < x) (sym (d .0 .is)) (mul-pos (subst (λ (x : ℕ). 0 < x) (sym (d .1)) (zero-lt-suc m)) (pow-pos (d .0 .places)))) (pow-pos (low binary64))
+
+  zero-fits : T (fits binary64 (fin false 0 (pos 0)))
+  unfolding fits
+  zero-fits = tt
+
+  zero-farther : (A r : ℕ) → Farther A (unitsOf (fin false 0 (pos 0))) r → 0 < r → (0 + r) * (0 + r) < 4 * A
+  unfolding Farther unitsOf
+  zero-farther A r f = f .0
+
+  nearest-of-all : Nearest (fin false (suc m) e) (rootOfUnits given)
+  nearest-of-all = record { double = is-double; sign = is-positive; only = only }
+    where
+      only : (y : Float) → T (fits binary64 y) → Beyond (given * 2 ^ low binary64) y (unitsOf (rootOfUnits given))
+      only nan g = tt
+      only (inf s) g = tt
+      only (fin false i k) g = others-farther false i k g
+      only (fin true i k) g =
+          below-zero (given * 2 ^ low binary64) (unitsOf (fin true i k)) (unitsOf (rootOfUnits given)) some-square
+          (zero-farther _ _ (others-farther false 0 (pos 0) zero-fits))
+
+-- What the call answers is right for every double: the root of a positive one is a double that is not below zero, and every other double is
+-- farther from the exact root; +0 has the root +0; nothing else has one.
+pub root-nearest : (x : Float) → T (fits binary64 x) → Right x (rootOf x)
+unfolding rootOf
+root-nearest nan h = refl
+root-nearest (inf s) h = refl
+root-nearest (fin true m e) h = refl
+root-nearest (fin false zero e) h = refl
+root-nearest (fin false (suc m) e) h = nearest-of-all m e h

@@ -54,7 +54,7 @@ pub block-samples : (size : Size) (p : Plane) (x y : ℕ) → Legible size p →
 unfolding blockAt
 block-samples size p x y h i =
     samples-list (sampleIn p x y) 64
-    (λ (k : ℕ) (l : k < 64). record { above = tt; small = h .small (x + k % 8) (y + k / 8) (omega arith) (omega arith) })
+    (λ (k : ℕ) (l : k < 64). record { above = tt; small = h .small (y + k / 8) (x + k % 8) (omega arith) (omega arith) })
 
 -- ---- one more block, and one more row of them
 module _ (csf mask : List (List Float)) (p : Planes) where
