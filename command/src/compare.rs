@@ -168,15 +168,15 @@ impl Walk<'_> {
 
     fn walk<T: Stored>(&mut self, sources: [Source; 2]) -> Result<FrameScores, Stop> {
         let format = sources[0].format;
-        let files = format!("{} and {}", sources[0].name(), sources[1].name());
+        let names = [sources[0].name().to_string(), sources[1].name().to_string()];
+        let files = names.join(" and ");
         let wanted = self.asked.frames;
         let mut run = Run::new(format.shapes().len(), format.chroma.get_chroma_weight());
         jobs::each::<T>(sources, self.asked.metrics, self.asked.jobs, |scored| {
             if wanted == Some(self.frames) {
                 return Err(Fault::new(format!("{} have more than {} frames (--frames)", files, self.frames)).into());
             }
-            let place = format!("frame {}", self.frames);
-            let scores = scored.map_err(|refused| refused.at(&place))?;
+            let scores = scored.map_err(|refused| refused.of_files(self.frames, &names, &format))?;
             run.add(&scores).map_err(|refused| refused.at("the run"))?;
             self.tell(&scores)
         })?;

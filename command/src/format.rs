@@ -57,6 +57,16 @@ impl Format {
         Ok(())
     }
 
+    /// A word on files that a well-known tool writes otherwise than their headers say, where this may be one of them.
+    pub fn odd_words(&self) -> &'static str {
+        let halved = matches!(self.chroma, Chroma::Cs420 | Chroma::Cs422);
+        if self.wide() && halved && self.width % 2 == 1 {
+            " (ffmpeg writes the chroma of Y4M files of odd width and more than 8 bits with each row a byte short; see docs/COMMAND.md)"
+        } else {
+            ""
+        }
+    }
+
     pub fn show(&self) -> String {
         format!("{}x{}, depth {}, chroma {}", self.width, self.height, self.depth, self.chroma_name())
     }

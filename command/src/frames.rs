@@ -58,7 +58,7 @@ impl Source {
                 let (name, have) = (PLANES[number], plane.len());
                 let what =
                     format!("frame {} is cut short: plane {} has {} of {} samples", self.read, name, have, count);
-                return Err(self.input.fault(&what));
+                return Err(self.input.fault(&(what + self.odd_words())));
             }
         }
         self.read += 1;
@@ -69,7 +69,17 @@ impl Source {
         if self.raw {
             Ok(!self.input.ahead()?.is_empty())
         } else {
-            y4m::frame(&mut self.input, self.read)
+            let hint = if self.read > 0 { self.odd_words() } else { "" };
+            y4m::frame(&mut self.input, self.read, hint)
+        }
+    }
+
+    /// Only the headers of Y4M files are taken to tell less than they say.
+    fn odd_words(&self) -> &'static str {
+        if self.raw {
+            ""
+        } else {
+            self.format.odd_words()
         }
     }
 }

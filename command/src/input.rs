@@ -28,7 +28,7 @@ pub enum Line {
 }
 
 /// A sample as files hold it.
-pub trait Stored: fuavelino::Sample + Send + 'static {
+pub trait Stored: fuavelino::Sample + Into<u32> + Send + 'static {
     const BYTES: usize;
     /// Appends the samples of whole bytes; words have their low byte first.
     fn take(bytes: &[u8], out: &mut Vec<Self>);

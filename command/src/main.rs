@@ -1,5 +1,6 @@
 //! Compares a decoded video with its original by proved scores, and passes only what is shown to be good.
 
+mod above;
 mod args;
 mod clip;
 mod compare;

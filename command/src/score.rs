@@ -1,7 +1,9 @@
 //! The scores of a frame: each plane's by the library's calls, and their combination.
 
+use crate::above::Above;
 use crate::format::{Format, COMBINED, PLANES};
 use crate::frames::Frame;
+use crate::input::Stored;
 use crate::stop::Fault;
 use fuavelino::{Kernel, Pair, Plane, PlaneKind, PsnrMetrics, Refusal, Sample, Scratch, Shape};
 
@@ -53,16 +55,32 @@ pub struct Refused {
     plane: &'static str,
     score: &'static str,
     refusal: Refusal,
+    /// The sample that it is about, where it is about one.
+    above: Option<Above>,
 }
 
 impl Refused {
     pub fn of(plane: &'static str, score: &'static str) -> impl FnOnce(Refusal) -> Refused {
-        move |refusal| Refused { plane, score, refusal }
+        move |refusal| Refused { plane, score, refusal, above: None }
     }
 
     /// With where it was: a frame, or the run.
     pub fn at(&self, place: &str) -> Fault {
-        Fault::refused(&format!("{}, plane {}: {}", place, self.plane, self.score), self.refusal)
+        let place = format!("{}, plane {}: {}", place, self.plane, self.score);
+        match self.refusal {
+            // the room is the command's own, so that it is short only where none could be had
+            Refusal::Scratch => Fault::out_of_memory(&place),
+            refusal => Fault::refused(&place, refusal),
+        }
+    }
+
+    /// The same of a frame of these files, with the sample that it is about.
+    pub fn of_files(&self, frame: u64, files: &[String; 2], format: &Format) -> Fault {
+        let mut fault = self.at(&format!("frame {}", frame));
+        if let Some(above) = &self.above {
+            fault.message = format!("{}: {}{}", fault.message, above.show(&files[above.file]), format.odd_words());
+        }
+        fault
     }
 }
 
@@ -82,13 +100,19 @@ impl Scorer {
         Scorer { metrics, weight: format.chroma.get_chroma_weight(), shapes, kernels, scratch: Scratch::new() }
     }
 
-    pub fn frame<T: Sample>(&mut self, original: &Frame<T>, decoded: &Frame<T>) -> Result<FrameScores, Refused> {
+    pub fn frame<T: Stored>(&mut self, original: &Frame<T>, decoded: &Frame<T>) -> Result<FrameScores, Refused> {
         let mut planes = Vec::with_capacity(self.shapes.len());
         for number in 0..self.shapes.len() {
             let stride = self.shapes[number].width;
             let a = Plane { data: &original.planes[number][..], stride };
             let b = Plane { data: &decoded.planes[number][..], stride };
-            planes.push(self.plane(number, a, b)?);
+            let scores = self.plane(number, a, b).map_err(|mut refused| {
+                if refused.refusal == Refusal::Sample {
+                    refused.above = Above::find([a.data, b.data], self.shapes[number]);
+                }
+                refused
+            });
+            planes.push(scores?);
         }
         let mut combined = combine(&planes, self.weight, 1.0)?;
         if self.metrics.error {

@@ -24,6 +24,12 @@ impl Fault {
         Fault { message, refusal: None }
     }
 
+    /// The library refuses with 8 where it is lent too little room.
+    pub fn out_of_memory(place: &str) -> Fault {
+        let message = format!("{}: out of memory: no room for this score's working numbers (refusal 8)", place);
+        Fault { message, refusal: Some(Refusal::Scratch) }
+    }
+
     /// The refusal of something at a place.
     pub fn refused(place: &str, refusal: Refusal) -> Fault {
         Fault { message: format!("{}: {}", place, refusal), refusal: Some(refusal) }

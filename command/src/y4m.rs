@@ -69,15 +69,15 @@ pub fn header(input: &mut Input) -> Result<(Format, Asides), Fault> {
     }
 }
 
-/// Reads the line before a frame; none is there at the file's end.
-pub fn frame(input: &mut Input, number: u64) -> Result<bool, Fault> {
+/// Reads the line before a frame; none is there at the file's end. Where it is wrong the hint is given too.
+pub fn frame(input: &mut Input, number: u64, hint: &str) -> Result<bool, Fault> {
     let at = input.at;
     match input.line()? {
         Line::Whole(line) if begins(&line, FRAME) => Ok(true),
         Line::Cut(line) if line.is_empty() => Ok(false),
         Line::Long => Err(long(input, at)),
         Line::Whole(_) | Line::Cut(_) => {
-            let what = format!("no whole line FRAME before frame {}; bytes that are no frame follow", number);
+            let what = format!("no whole line FRAME before frame {}; bytes that are no frame follow{}", number, hint);
             Err(input.fault_at(at, &what))
         }
     }

@@ -169,7 +169,58 @@ fn refusals_say_frame_plane_score_and_rule() {
     let a = room.file("a.y4m", &high.y4m());
     let ended = run(&words!["compare", &a, &a, "--json"]);
     ended.says(3, &["frame 1, plane v: squared error: refusal 6: a visible sample is above the depth's largest"]);
+    ended.says(3, &["a.y4m has 1024 at row 12, column 8, both counted from 0; the largest of 10 bits is 1023\n"]);
     assert!(ended.out.contains("\"refusal\":6}") && ended.out.contains("\"run\":null"));
+    // in the decoded file only
+    let good = room.file("good.y4m", &Video::new(16, 16, 10, "444", 2, 4).y4m());
+    for metrics in ["error", "ssim", "scales", "hvs"] {
+        let ended = run(&words!["compare", &good, &a, "--metrics", metrics]);
+        ended.says(3, &["frame 1, plane v: ", "refusal 6", "a.y4m has 1024 at row 12, column 8"]);
+        assert!(!ended.err.contains("good.y4m"));
+    }
+}
+
+/// Chroma whose rows are a byte short, as ffmpeg writes it where the width is odd and samples are words.
+#[test]
+fn short_rows_of_odd_widths_are_explained() {
+    let room = Room::new("odd");
+    let written = |samples: u16| {
+        let mut video = Video::new(17, 16, 10, "420", 2, 5);
+        video.frames.iter_mut().flatten().for_each(|plane| plane.samples.fill(samples));
+        let mut bytes = video.header().into_bytes();
+        for frame in &video.frames {
+            bytes.extend(b"FRAME\n");
+            for plane in frame {
+                let short = usize::from(plane.width != 17);
+                for row in plane.samples.chunks(plane.width) {
+                    let row: Vec<u8> = row.iter().flat_map(|sample| sample.to_le_bytes()).collect();
+                    bytes.extend(&row[..row.len() - short]);
+                }
+            }
+        }
+        bytes
+    };
+    let explained = "with each row a byte short; see docs/COMMAND.md)";
+    // 0x03FF becomes 0xFF03 where a byte is missing; all zeros stay zeros, until what follows the chroma is not there
+    let a = room.file("a.y4m", &written(0x03ff));
+    run(&words!["compare", &a, &a, "--metrics=error"]).says(3, &["frame 0, plane u", "refusal 6", explained]);
+    let zeros = written(0);
+    let frame = zeros.len() / 2;
+    let a = room.file("a.y4m", &zeros[..frame]);
+    run(&words!["compare", &a, &a, "--metrics=error"]).says(3, &["frame 0 is cut short: plane v", explained]);
+    let more = [&zeros[..frame], &[0; 2_000]].concat();
+    let a = room.file("a.y4m", &more);
+    run(&words!["compare", &a, &a, "--metrics=error"]).says(3, &["no whole line FRAME before frame 1", explained]);
+    // of bytes, of even widths and of raw files nothing is said
+    let cut = |video: Video| room.file("a.y4m", &video.y4m()[..video.y4m().len() - 9]);
+    for video in
+        [Video::new(17, 16, 8, "420", 1, 6), Video::new(18, 16, 10, "420", 1, 6), Video::new(17, 16, 10, "444", 1, 6)]
+    {
+        let a = cut(video);
+        let ended = run(&words!["compare", &a, &a, "--metrics=error"]);
+        ended.says(3, &["frame 0 is cut short"]);
+        assert!(!ended.err.contains("a byte short"));
+    }
 }
 
 #[test]

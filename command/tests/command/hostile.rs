@@ -22,6 +22,21 @@ fn great_claims_are_refused_at_once() {
     run_in(&script, &[&a]).says(3, &["byte 40: frame 0 is cut short: plane y has 2 of 67108864 samples"]);
 }
 
+/// Room for the frames, and none for the five scales of such a plane: 2 times 4 × 4,096 × 4,096 bytes.
+#[test]
+fn out_of_memory_is_said() {
+    let room = Room::new("memory");
+    let a = room.file("a.yuv", &vec![0; 4_096 * 4_096]);
+    let format = "--size=4096x4096 --depth=8 --chroma=400 --jobs=1";
+    let script = format!("ulimit -v 100000; exec \"$0\" compare \"$1\" \"$1\" {} --metrics=scales --json", format);
+    let ended = run_in(&script, &[&a]);
+    ended.says(3, &["frame 0, plane y: five scales: out of memory: no room", "(refusal 8)"]);
+    assert!(!ended.err.contains("lent scratch"));
+    assert_eq!(Json::read(&ended.out).at("error").at("refusal").number(), 8.0);
+    // with more room it is scored
+    run_in(&script.replace("100000", "1000000"), &[&a]).passes();
+}
+
 #[test]
 fn numbers_must_be_decimal() {
     let room = Room::new("decimal");
