@@ -1,6 +1,6 @@
 //! The published files, and thin stand-ins for what they name and do not hold.
 //!
-//! `tools/oracle` lays this folder out anew below target/ and puts each published file, with its probe
+//! `tools/published` lays this folder out anew below target/ and puts each published file, with its probe
 //! appended, beside `video/mod.rs`.
 #![allow(dead_code)]
 

@@ -3,6 +3,8 @@
 //! clip ORIGINAL DECODED: prints `SCOPE PLANE FIELD BITS` for each figure; SCOPE is a frame's number, or run. The files are
 //! the tests' own, so that they are trusted to be sound.
 
+mod five;
+
 use published::plane::Plane;
 use published::video::pixel::Pixel;
 use published::video::{psnr, psnr_hvs, ssim};
@@ -116,25 +118,12 @@ fn added(sums: &[f64], next: &[f64]) -> Vec<f64> {
 
 /// SSIM's pair, the five scales' pairs, PSNR-HVS.
 fn figures<T: Pixel>(a: &Plane<T>, b: &Plane<T>, kind: usize, depth: usize) -> Vec<f64> {
-    let (mut w, mut h) = (a.cfg.width, a.cfg.height);
-    let wide = |plane: &Plane<T>| plane.data.iter().map(|s| u32::from(s.word())).collect::<Vec<u32>>();
-    let (mut x, mut y) = (wide(a), wide(b));
-    let mut max = (1u64 << depth) - 1;
+    let (w, h, max) = (a.cfg.width, a.cfg.height, (1u64 << depth) - 1);
+    let planes = [a, b].map(|plane| plane.data.iter().map(|s| u32::from(s.word())).collect::<Vec<u32>>());
     let kernel = ssim::probe_kernel(h as f64 * 1.5 / 256.0, w.min(h), 256);
-    let pair = ssim::probe_pair(&x, &y, w, h, max, &kernel);
+    let pair = ssim::probe_pair(&planes[0], &planes[1], w, h, max, &kernel);
     let mut list = vec![pair.0, pair.1];
-    let kernel = ssim::probe_kernel(1.5, 5, 1024);
-    for scale in 0..5 {
-        if scale > 0 {
-            x = ssim::probe_downscale(&x, w, h);
-            y = ssim::probe_downscale(&y, w, h);
-            w /= 2;
-            h /= 2;
-            max *= 4;
-        }
-        let pair = ssim::probe_pair(&x, &y, w, h, max, &kernel);
-        list.extend([pair.0, pair.1]);
-    }
+    list.extend(five::pairs(planes, w, h, max));
     list.push(psnr_hvs::probe_plane(a, b, kind, depth));
     list
 }

@@ -245,7 +245,7 @@ fn weight(r: &mut Random) -> u64 {
         0 => r.next(),
         1 => r.pick(&WEIGHTS),
         2 => r.pick(&WEIGHTS[..6]).wrapping_add(r.below(5) as u64).wrapping_sub(2),
-        3 => r.below(1_023) as u64 * (1 << 52) | r.next() >> 12,
+        3 => (r.below(1_023) as u64 * (1 << 52)) | (r.next() >> 12),
         4..=9 => r.pick(&[0, 0x3FD0_0000_0000_0000, 0x3FE0_0000_0000_0000, ONE]),
         _ => unit(r).to_bits(),
     }

@@ -99,14 +99,7 @@ fn places(c: &Case, which: usize) -> usize {
     (needed(&c.pair, which) as isize + c.over[which]).max(0) as usize
 }
 
-fn asked<T: Sample>(
-    c: &Case,
-    scratch: &mut [i64],
-    x: &mut [u32],
-    y: &mut [u32],
-    a: &[T],
-    b: &[T],
-) -> (u8, [u64; 10]) {
+fn asked<T: Sample>(c: &Case, scratch: &mut [i64], x: &mut [u32], y: &mut [u32], a: &[T], b: &[T]) -> (u8, [u64; 10]) {
     let before = f64::from_bits(BEFORE);
     let mut out = [fuavelino::Pair { ssim: before, cs: before }; 5];
     let (a, b, shape) = (c.pair.plane(0, a), c.pair.plane(1, b), c.pair.shape());
@@ -137,7 +130,9 @@ fn model(c: &Case) -> (u8, [u64; 10]) {
 fn listed() -> Vec<Case> {
     let mut r = Random::of(0, "scales, listed", 0);
     let mut list = Vec::new();
-    for (width, height) in [(15, 16), (16, 15), (16, 16), (17, 31), (33, 16), (95, 63), (320, 180), (8_192, 16), (16, 8_193)] {
+    for (width, height) in
+        [(15, 16), (16, 15), (16, 16), (17, 31), (33, 16), (95, 63), (320, 180), (8_192, 16), (16, 8_193)]
+    {
         list.push(Case { pair: sound(&mut r, width, height), over: [0; 3] });
     }
     for depth in 1..=12 {

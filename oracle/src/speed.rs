@@ -91,7 +91,7 @@ fn root() {
 
 #[inline(never)]
 fn guess(x: f64) -> u64 {
-    let bits = x.to_bits() % (1 << 53) | 0x3FE0_0000_0000_0000;
+    let bits = (x.to_bits() % (1 << 53)) | 0x3FE0_0000_0000_0000;
     let x = f64::from_bits(bits);
     let step = |y: f64| y * (1.5 - 0.5 * x * y * y);
     let y = step(step(step(f64::from_bits(0x5FE6_EB50_C7B5_37A9 - bits / 2))));

@@ -41,7 +41,8 @@ impl Family for Transforms {
 
     fn judge(&mut self, c: &Case) -> Result<u8, String> {
         let (answer, out) = asked(c.back, &c.values, c.places);
-        let lawful = c.values.len() == 64 && c.places == 64 && c.values.iter().all(|v| v.unsigned_abs() <= limit(c.back) as u32);
+        let lawful =
+            c.values.len() == 64 && c.places == 64 && c.values.iter().all(|v| v.unsigned_abs() <= limit(c.back) as u32);
         let wanted = if !lawful {
             vec![BEFORE; c.places]
         } else if c.back {
@@ -149,7 +150,9 @@ fn any(r: &mut Random) -> Case {
     let count = if r.once_in(64) { r.pick(&[0, 1, 63, 65, 128]) } else { 64 };
     let places = if r.once_in(64) { r.pick(&[0, 1, 63, 65, 128]) } else { 64 };
     let ends = r.once_in(4);
-    let mut values: Vec<i32> = (0..count).map(|_| if ends { r.pick(&[most, -most]) } else { r.within(0, 2 * most as usize) as i32 - most }).collect();
+    let mut values: Vec<i32> = (0..count)
+        .map(|_| if ends { r.pick(&[most, -most]) } else { r.within(0, 2 * most as usize) as i32 - most })
+        .collect();
     if count > 0 && r.once_in(64) {
         let at = r.below(count);
         values[at] = r.pick(&[limit(back) + 1, -limit(back) - 1, i32::MAX, i32::MIN]);

@@ -63,10 +63,7 @@ trait VideoMetric {
         chroma_sampling: ChromaSampling,
     ) -> Result<Self::FrameResult, Box<dyn Error>>;
 
-    fn aggregate_frame_results(
-        &self,
-        metrics: &[Self::FrameResult],
-    ) -> Result<Self::VideoResult, Box<dyn Error>>;
+    fn aggregate_frame_results(&self, metrics: &[Self::FrameResult]) -> Result<Self::VideoResult, Box<dyn Error>>;
 
     /// Frame loops are no part of what is compared.
     fn process_video<D: Decoder, F: Fn(usize) + Send>(
