@@ -75,5 +75,5 @@ held-widened max width height old new p h f e =
     record { long = omega (arith, e); small = λ i. go i (decLt i (height * width)) }
   where
     go : (i : ℕ) → Dec (i < height * width) → at new i ≤ max
-    go i (yes l) = rows-all (λ (v : ℕ). v ≤ max) old new width (sampleAt p) height f (λ r c k m. h c r m k) i l
+    go i (yes l) = rows-all (λ (v : ℕ). v ≤ max) old new width (sampleAt p) height f h i l
     go i (no l) = rw (List·getD-eq-default new 0 {n = i} (omega (arith, e))) (omega arith)
