@@ -48,7 +48,7 @@ class Clause:
 
 
 class Function:
-    """A public function: where it stands, what it takes and answers, and its clauses."""
+    """A public function: where it stands, what it takes and answers, its clauses, and how many lines all that has."""
 
     def __init__(self, text, match):
         self.name = match.group("name")
@@ -59,7 +59,8 @@ class Function:
         self.parameters = [p.split(":", 1) for p in between(text[start + 1 : end]) if ":" in p]
         head = re.compile(r"\s*(?:->\s*(?P<result>.*?)\s*)?(?=\b(?:requires|ensures)\b|\{)", re.S).match(text, end + 1)
         self.result = head.group("result") or ""
-        self.clauses = read_clauses(text, head.end())
+        self.clauses, body = read_clauses(text, head.end())
+        self.size = text[match.start() : body].count("\n") + 1
 
     def written(self):
         """The names of the places that it is lent to write."""
@@ -79,14 +80,14 @@ def between(text):
 
 
 def read_clauses(text, start):
-    """The clauses from `start` on, up to the body."""
+    """The clauses from `start` on, and where they end."""
     clauses = []
     while True:
         found = re.compile(r"\s*(?:(requires|ensures)\b\s*[\w-]*\s*)?\{").match(text, start)
         if not found:
             raise ValueError("neither a clause nor a body: " + text[start : start + 60])
         if not found.group(1):
-            return clauses
+            return clauses, start
         end = closing(text, found.end() - 1)
         clauses.append(Clause(found.group(1), text[found.end() : end]))
         start = end + 1
