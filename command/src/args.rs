@@ -5,7 +5,7 @@ use crate::format::{decimal, Chroma, Format, CHROMAS};
 use crate::jobs;
 use crate::score::Metrics;
 use crate::stop::Stop;
-use crate::thresholds::{Threshold, KINDS};
+use crate::thresholds::{limit, Threshold, KINDS};
 use std::ffi::{OsStr, OsString};
 use std::path::PathBuf;
 
@@ -16,7 +16,7 @@ fuavelino: compares a decoded video with its original, and passes only what is s
       Two Y4M files, or two raw planar files of one format; - is standard input, for one of them.
       --size WxH --depth D --chroma 420|422|444|400
                          both files are raw, of this format; words (depths 9 to 12) have their low byte first
-      --metrics LIST     of error,ssim,scales,hvs (default: all)
+      --metrics LIST     of error,ssim,scales,msssim,hvs (default: all)
       --json, --csv      all digits, for programs; without them a table for people
       --jobs N           on so many threads (default: as many as there are cores); the report is the same
       --output FILE      where the report goes; without it, or with -, to standard output
@@ -24,13 +24,21 @@ fuavelino: compares a decoded video with its original, and passes only what is s
       --strict           what is noted of the files is a fault: that they are one, or that rate, interlacing or colour range differ
       --require-threshold
                          wrong use without a threshold
-    Thresholds, each held for every plane of every frame and for every frame's combination:
+    Thresholds, each held for every plane of every frame and for every frame's combination; with y=X, u=X, v=X or combined=X
+    for X, for that plane alone (once for each plane, and once without):
       --max-error X      squared error per sample, at most X
       --min-psnr X       PSNR in decibels, at least X (identical planes meet any)
       --min-ssim X       SSIM, at least X
       --min-cs X         SSIM without luminance, at least X
+      --min-ssim-db X    SSIM in decibels, at least X
       --min-scale X      SSIM of each of the five scales, at least X
-      --max-hvs X        PSNR-HVS score, at most X
+      --min-msssim X     MS-SSIM, at least X
+      --min-msssim-db X  MS-SSIM in decibels, at least X
+      --max-hvs X        PSNR-HVS score, at most X; the combination, which is scaled, only by combined=X
+      --min-hvs-db X     PSNR-HVS in decibels, at least X; the combination likewise
+      --run-max-error X, --run-min-psnr X, --run-min-ssim X, --run-min-cs X, --run-min-ssim-db X, --run-min-scale X,
+      --run-min-msssim X, --run-min-msssim-db X, --run-max-hvs X, --run-min-hvs-db X
+                         the same of the whole run's figures
 
   fuavelino clip pattern|damaged FILE [--size WxH] [--depth D] [--chroma C] [--frames N]
       Writes a small Y4M clip: a moving pattern, or the same with a damaged patch in one plane of one frame.
@@ -81,7 +89,7 @@ pub fn parse(words: impl Iterator<Item = OsString>) -> Result<Asked, Stop> {
         Some("--help" | "-h" | "help" | "--version" | "-V") if !words.is_empty() => Err(stands_alone(&first)),
         Some("--help" | "-h" | "help") => Ok(Asked::Help),
         Some("--version" | "-V") => Ok(Asked::Version),
-        Some("compare") => compare(Words::of(words, COMPARE)?),
+        Some("compare") => compare(Words::of(words, &known())?),
         Some("clip") => clip(Words::of(words, CLIP)?),
         _ => Err(usage(&format!("no command {:?}; there are compare and clip", first))),
     }
@@ -112,19 +120,19 @@ const COMPARE: &[Known] = &[
     ("--frames", true),
     ("--require-threshold", false),
     ("--strict", false),
-    ("--max-error", true),
-    ("--min-psnr", true),
-    ("--min-ssim", true),
-    ("--min-cs", true),
-    ("--min-scale", true),
-    ("--max-hvs", true),
     ("-h", false),
 ];
+
+/// The options of a comparison, the thresholds' among them.
+fn known() -> Vec<Known> {
+    let thresholds = KINDS.iter().flat_map(|kind| kind.options).map(|option| (option, true));
+    COMPARE.iter().copied().chain(thresholds).collect()
+}
 
 const CLIP: &[Known] =
     &[("--help", false), ("--size", true), ("--depth", true), ("--chroma", true), ("--frames", true), ("-h", false)];
 
-/// Options with their values, each at most once, and the other words in order.
+/// Options with their values, each at most once but for thresholds, and the other words in order.
 struct Words {
     options: Vec<(&'static str, OsString)>,
     others: Vec<OsString>,
@@ -156,7 +164,8 @@ impl Words {
                 (false, None) => OsString::new(),
                 (false, Some(_)) => return Err(usage(&format!("{} takes no value", name))),
             };
-            if sorted.get(name).is_some() {
+            let repeats = KINDS.iter().any(|kind| kind.options.contains(&name));
+            if sorted.has(name) && !repeats {
                 return Err(usage(&format!("{} is given twice", name)));
             }
             sorted.options.push((name, value));
@@ -234,7 +243,7 @@ fn compare(words: Words) -> Result<Asked, Stop> {
         (false, true) => Form::Csv,
         (true, true) => return Err(usage("--json or --csv, not both")),
     };
-    let metrics = words.value("--metrics", "a list of error,ssim,scales,hvs", metrics)?.unwrap_or(Metrics::ALL);
+    let metrics = words.value("--metrics", "a list of error,ssim,scales,msssim,hvs", metrics)?.unwrap_or(Metrics::ALL);
     let thresholds = thresholds(&words, &metrics)?;
     if thresholds.is_empty() && words.has("--require-threshold") {
         return Err(usage(
@@ -269,7 +278,7 @@ fn raw(words: &Words) -> Result<Option<Format>, Stop> {
 }
 
 fn metrics(list: &str) -> Option<Metrics> {
-    let mut asked = [false; 4];
+    let mut asked = [false; 5];
     for name in list.split(',') {
         let number = Metrics::NAMES.iter().position(|known| *known == name)?;
         if asked[number] {
@@ -277,23 +286,31 @@ fn metrics(list: &str) -> Option<Metrics> {
         }
         asked[number] = true;
     }
-    let [error, ssim, scales, hvs] = asked;
-    Some(Metrics { error, ssim, scales, hvs })
+    let [error, ssim, scales, msssim, hvs] = asked;
+    Some(Metrics { error, ssim, scales, msssim, hvs })
 }
 
-/// A limit must be a finite number, and the scores that it is held against must be asked for: one that is never judged
-/// would pass everything.
+/// Each option may be given once for each plane and once without one. The scores that it is held against must be asked for:
+/// a limit that is never judged would pass everything.
 fn thresholds(words: &Words, metrics: &Metrics) -> Result<Vec<Threshold>, Stop> {
-    let mut list = Vec::new();
-    for kind in &KINDS {
-        let number = |text: &str| text.parse::<f64>().ok().filter(|limit| limit.is_finite());
-        if let Some(limit) = words.value(kind.option, "a finite number", number)? {
-            let (asked, name) = kind.needs(metrics);
-            if !asked {
-                return Err(usage(&format!("{} needs {} among --metrics", kind.option, name)));
-            }
-            list.push(Threshold { kind, limit });
+    let mut list: Vec<Threshold> = Vec::new();
+    for (option, given) in &words.options {
+        let (kind, run) = match KINDS.iter().find(|kind| kind.options.contains(option)) {
+            Some(kind) => (kind, kind.options[1] == *option),
+            None => continue,
+        };
+        let what = "a finite number, or one for a plane as in y=0.9";
+        let read = given.to_str().and_then(limit);
+        let (plane, limit) = read.ok_or_else(|| usage(&format!("{} takes {}, not {:?}", option, what, given)))?;
+        if list.iter().any(|other| (other.option(), other.plane) == (*option, plane)) {
+            let plane = plane.map_or(String::new(), |plane| format!(" for {}", plane));
+            return Err(usage(&format!("{} is given twice{}", option, plane)));
         }
+        let (asked, name) = kind.needs(metrics);
+        if !asked {
+            return Err(usage(&format!("{} needs {} among --metrics", option, name)));
+        }
+        list.push(Threshold { kind, run, plane, limit });
     }
     Ok(list)
 }

@@ -14,7 +14,7 @@ use crate::report::{End, Job, Report, Worst};
 use crate::score::FrameScores;
 use crate::stop::{Fault, Stop, BROKEN, FAULT, PASSED};
 use crate::table::Table;
-use crate::thresholds;
+use crate::thresholds::{self, Broken};
 use crate::totals::Run;
 use std::fs;
 use std::io::{self, Write};
@@ -65,7 +65,7 @@ fn unfinished(asked: &Compare) -> io::Result<Vec<u8>> {
     begin(&mut *report, &mut text, asked, (None, &[]))?;
     let fault = Fault::new("the comparison has not ended, or was ended from outside".to_string());
     let (worst, fault) = (&Worst::default(), Some(&fault));
-    report.end(&mut text, &End { frames: 0, run: None, worst, broken: 0, fault, status: FAULT })?;
+    report.end(&mut text, &End { frames: 0, run: None, run_broken: &[], worst, broken: 0, fault, status: FAULT })?;
     Ok(text)
 }
 
@@ -76,7 +76,11 @@ fn open(asked: &Compare) -> Result<[Source; 2], Fault> {
     }
     let sources = [Source::open(&asked.original, asked.raw)?, Source::open(&asked.decoded, asked.raw)?];
     alike(&sources[0], &sources[1])?;
-    Ok(sources)
+    let planes = sources[0].format.shapes().len();
+    match asked.thresholds.iter().find(|held| held.is_never_held(planes)) {
+        Some(held) => Err(Fault::new(format!("{}: {} has no such plane", held.show(), sources[0].name()))),
+        None => Ok(sources),
+    }
 }
 
 /// Rate, aspect and the rest of a header have no bearing on the scores: where they differ is noted, and no more.
@@ -150,6 +154,9 @@ impl Walk<'_> {
             Err(Stop::Fault(fault)) => (None, Some(fault)),
             Err(stop) => return Err(stop),
         };
+        let held = |run: &FrameScores| thresholds::broken(&self.asked.thresholds, None, run);
+        let run_broken = run.as_ref().map_or(Vec::new(), held);
+        self.count(&run_broken);
         // passed is what is left when nothing else can be said: a run with its figures, and nothing broken
         let status = match (&run, self.broken) {
             (Some(_), 0) => PASSED,
@@ -160,7 +167,8 @@ impl Walk<'_> {
             say(&fault.message);
         }
         let (frames, worst, broken) = (self.frames, &self.worst, self.broken);
-        let end = End { frames, run: run.as_ref(), worst, broken, fault: fault.as_ref(), status };
+        let (run, run_broken, fault) = (run.as_ref(), &run_broken[..], fault.as_ref());
+        let end = End { frames, run, run_broken, worst, broken, fault, status };
         let report = &mut self.report;
         self.out.write(|to| report.end(to, &end))?;
         Ok(status)
@@ -192,17 +200,22 @@ impl Walk<'_> {
 
     /// Reports a frame, and says which thresholds it breaks.
     fn tell(&mut self, scores: &FrameScores) -> Result<(), Stop> {
-        let broken = thresholds::broken(&self.asked.thresholds, self.frames, scores);
+        let broken = thresholds::broken(&self.asked.thresholds, Some(self.frames), scores);
         self.worst.add(self.frames, scores);
         let (report, frame) = (&mut self.report, self.frames);
         self.out.write(|to| report.frame(to, frame, scores, &broken))?;
-        for one in &broken {
+        self.count(&broken);
+        self.frames += 1;
+        self.progress.at(self.frames);
+        Ok(())
+    }
+
+    /// Says what is broken.
+    fn count(&mut self, broken: &[Broken]) {
+        for one in broken {
             self.progress.clear();
             say(&one.show());
         }
         self.broken += broken.len() as u64;
-        self.frames += 1;
-        self.progress.at(self.frames);
-        Ok(())
     }
 }

@@ -33,7 +33,7 @@ type Scored = Result<FrameScores, Refused>;
 /// What stands in a frame's place.
 enum Outcome<T> {
     /// Its scores or its refusal, or a panic on the way to them.
-    Scored(thread::Result<Scored>, Pair<T>),
+    Scored(Box<thread::Result<Scored>>, Pair<T>),
     /// There is no such frame: both files ended, or something is wrong.
     Ended(Result<(), Fault>),
 }
@@ -135,7 +135,7 @@ fn score<T: Stored>(
     while let Some((number, pair)) = next() {
         // a panic goes on where the frame is told, so that the command ends as with one job
         let scored = catch_unwind(AssertUnwindSafe(|| scorer.frame(&pair[0], &pair[1])));
-        if hand.send((number, Outcome::Scored(scored, pair))).is_err() {
+        if hand.send((number, Outcome::Scored(Box::new(scored), pair))).is_err() {
             break;
         }
     }
@@ -153,7 +153,7 @@ fn gather<T>(
         match early.remove(&number) {
             Some(Outcome::Ended(ended)) => return Ok(ended?),
             Some(Outcome::Scored(scored, pair)) => {
-                tell(scored.unwrap_or_else(|panic| resume_unwind(panic)))?;
+                tell((*scored).unwrap_or_else(|panic| resume_unwind(panic)))?;
                 number += 1;
                 // a reader that is gone wants no more
                 let _ = lend.send(pair);
@@ -177,7 +177,7 @@ mod tests {
 
     fn scored(planes: usize) -> Outcome<u8> {
         let planes = vec![Default::default(); planes];
-        Outcome::Scored(Ok(Ok(FrameScores { planes, combined: Default::default() })), none())
+        Outcome::Scored(Box::new(Ok(Ok(FrameScores { planes, combined: Default::default() }))), none())
     }
 
     /// What is told of outcomes that come in this order, each frame known by its count of planes.
@@ -216,6 +216,6 @@ mod tests {
     #[test]
     #[should_panic(expected = "of a job")]
     fn a_panic_of_a_job_is_the_callers() {
-        let _ = told(vec![(0, Outcome::Scored(Err(Box::new("of a job")), none()))]);
+        let _ = told(vec![(0, Outcome::Scored(Box::new(Err(Box::new("of a job"))), none()))]);
     }
 }

@@ -10,7 +10,7 @@ use std::io::{self, Write};
 
 #[derive(Default)]
 pub struct Json {
-    asked: [bool; 4],
+    asked: [bool; 5],
     json: Writer,
 }
 
@@ -28,7 +28,8 @@ impl Report for Json {
         }
         json.close().name("thresholds").list();
         for threshold in job.thresholds {
-            json.object().field("option", threshold.kind.option).field("limit", threshold.limit).close();
+            json.object().field("option", threshold.option()).field("plane", threshold.plane);
+            json.field("limit", threshold.limit).close();
         }
         json.close().name("notes").list();
         for note in job.notes {
@@ -40,10 +41,8 @@ impl Report for Json {
 
     fn frame(&mut self, out: &mut dyn Write, number: u64, scores: &FrameScores, broken: &[Broken]) -> io::Result<()> {
         self.json.object().field("frame", number);
-        self.scores(scores);
-        self.json.name("broken").list();
-        broken.iter().for_each(|one| breach(&mut self.json, one));
-        self.json.close().close();
+        self.scores(scores, broken);
+        self.json.close();
         self.out(out)
     }
 
@@ -52,7 +51,7 @@ impl Report for Json {
         match end.run {
             Some(run) => {
                 self.json.object().field("frames", end.frames);
-                self.scores(run);
+                self.scores(run, end.run_broken);
                 self.json.close();
             }
             None => {
@@ -84,7 +83,8 @@ impl Json {
         out.write_all(self.json.take().as_bytes())
     }
 
-    fn scores(&mut self, scores: &FrameScores) {
+    /// The figures of a frame or of the run, and what they break.
+    fn scores(&mut self, scores: &FrameScores, broken: &[Broken]) {
         self.json.name("planes").list();
         for (plane, scores) in scores.named().take(scores.planes.len()) {
             self.json.object().field("plane", plane);
@@ -93,6 +93,8 @@ impl Json {
         }
         self.json.close().name("combined").object();
         self.figures(&scores.combined);
+        self.json.close().name("broken").list();
+        broken.iter().for_each(|one| breach(&mut self.json, one));
         self.json.close();
     }
 

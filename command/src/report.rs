@@ -1,6 +1,6 @@
 //! What every form of report tells: the job, each frame as it is scored, and the end.
 
-use crate::decibels;
+use crate::decibels::{mean_error, Decibels};
 use crate::format::Format;
 use crate::score::{FrameScores, Metrics, Scores};
 use crate::stop::Fault;
@@ -24,6 +24,8 @@ pub struct End<'a> {
     pub frames: u64,
     /// The run's figures, where every frame had its scores.
     pub run: Option<&'a FrameScores>,
+    /// The thresholds that the run's own figures break.
+    pub run_broken: &'a [Broken],
     pub worst: &'a Worst,
     /// How many times a threshold was broken.
     pub broken: u64,
@@ -85,7 +87,7 @@ pub enum Value {
 }
 
 /// The names of a plane's figures, in order.
-pub const FIELDS: [&str; 20] = [
+pub const FIELDS: [&str; 23] = [
     "sq_err",
     "n_pixels",
     "sample_max",
@@ -94,6 +96,7 @@ pub const FIELDS: [&str; 20] = [
     "psnr_db",
     "ssim",
     "cs",
+    "ssim_db",
     "scale1_ssim",
     "scale1_cs",
     "scale2_ssim",
@@ -104,6 +107,8 @@ pub const FIELDS: [&str; 20] = [
     "scale4_cs",
     "scale5_ssim",
     "scale5_cs",
+    "msssim",
+    "msssim_db",
     "hvs",
     "hvs_db",
 ];
@@ -111,25 +116,27 @@ pub const FIELDS: [&str; 20] = [
 /// The figures under those names.
 pub fn values(scores: &Scores) -> Vec<Value> {
     let double = |value: Option<f64>| value.map_or(Value::None, Value::Double);
+    let decibels = |value: Option<Decibels>| double(value.map(Decibels::told));
     let mut list = match &scores.error {
         Some(record) => vec![
             Value::Double(record.sq_err),
             Value::Whole(record.n_pixels),
             Value::Whole(u64::from(record.sample_max)),
             Value::Truth(record.is_identical()),
-            Value::Double(decibels::mean_error(record)),
-            double(decibels::psnr(*record)),
+            Value::Double(mean_error(record)),
+            decibels(scores.psnr_db),
         ],
         None => (0..6).map(|_| Value::None).collect(),
     };
     list.push(double(scores.ssim.map(|pair| pair.ssim)));
     list.push(double(scores.ssim.map(|pair| pair.cs)));
+    list.push(decibels(scores.ssim_db));
     for scale in 0..5 {
         list.push(double(scores.scales.map(|pairs| pairs[scale].ssim)));
         list.push(double(scores.scales.map(|pairs| pairs[scale].cs)));
     }
-    list.push(double(scores.hvs));
-    list.push(double(scores.hvs.and_then(decibels::hvs)));
+    list.extend([double(scores.msssim), decibels(scores.msssim_db)]);
+    list.extend([double(scores.hvs), decibels(scores.hvs_db)]);
     list
 }
 
@@ -137,8 +144,9 @@ pub fn values(scores: &Scores) -> Vec<Value> {
 pub fn metric_of(field: usize) -> usize {
     match field {
         0..=5 => 0,
-        6..=7 => 1,
-        8..=17 => 2,
-        _ => 3,
+        6..=8 => 1,
+        9..=18 => 2,
+        19..=20 => 3,
+        _ => 4,
     }
 }

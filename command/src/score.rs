@@ -1,10 +1,12 @@
 //! The scores of a frame: each plane's by the library's calls, and their combination.
 
 use crate::above::Above;
+use crate::decibels::{self, Decibels};
 use crate::format::{Format, COMBINED, PLANES};
 use crate::frames::Frame;
 use crate::input::Stored;
 use crate::stop::Fault;
+use fuavelino::video::ssim::product;
 use fuavelino::{Kernel, Pair, Plane, PlaneKind, PsnrMetrics, Refusal, Sample, Scratch, Shape};
 
 /// Which scores are asked for.
@@ -13,26 +15,32 @@ pub struct Metrics {
     pub error: bool,
     pub ssim: bool,
     pub scales: bool,
+    pub msssim: bool,
     pub hvs: bool,
 }
 
 impl Metrics {
-    pub const NAMES: [&'static str; 4] = ["error", "ssim", "scales", "hvs"];
-    pub const ALL: Metrics = Metrics { error: true, ssim: true, scales: true, hvs: true };
+    pub const NAMES: [&'static str; 5] = ["error", "ssim", "scales", "msssim", "hvs"];
+    pub const ALL: Metrics = Metrics { error: true, ssim: true, scales: true, msssim: true, hvs: true };
 
     /// Whether each of `NAMES` is asked for.
-    pub fn asked(&self) -> [bool; 4] {
-        [self.error, self.ssim, self.scales, self.hvs]
+    pub fn asked(&self) -> [bool; 5] {
+        [self.error, self.ssim, self.scales, self.msssim, self.hvs]
     }
 }
 
-/// The scores of a plane, or of all planes combined, of a frame or of the run. Each that was asked for is there.
+/// The figures of a plane, or of all planes combined, of a frame or of the run. Each that was asked for is there.
 #[derive(Clone, Copy, Debug, Default)]
 pub struct Scores {
     pub error: Option<PsnrMetrics>,
+    pub psnr_db: Option<Decibels>,
     pub ssim: Option<Pair>,
+    pub ssim_db: Option<Decibels>,
     pub scales: Option<[Pair; 5]>,
+    pub msssim: Option<f64>,
+    pub msssim_db: Option<Decibels>,
     pub hvs: Option<f64>,
+    pub hvs_db: Option<Decibels>,
 }
 
 /// The planes' scores in order, and their combination.
@@ -54,14 +62,19 @@ impl FrameScores {
 pub struct Refused {
     plane: &'static str,
     score: &'static str,
-    refusal: Refusal,
+    /// The library's refusal; none where what is worked out from its scores is no number.
+    refusal: Option<Refusal>,
     /// The sample that it is about, where it is about one.
     above: Option<Above>,
 }
 
 impl Refused {
     pub fn of(plane: &'static str, score: &'static str) -> impl FnOnce(Refusal) -> Refused {
-        move |refusal| Refused { plane, score, refusal, above: None }
+        move |refusal| Refused { plane, score, refusal: Some(refusal), above: None }
+    }
+
+    fn no_number(plane: &'static str, score: &'static str) -> impl FnOnce() -> Refused {
+        move || Refused { plane, score, refusal: None, above: None }
     }
 
     /// With where it was: a frame, or the run.
@@ -69,8 +82,9 @@ impl Refused {
         let place = format!("{}, plane {}: {}", place, self.plane, self.score);
         match self.refusal {
             // the room is the command's own, so that it is short only where none could be had
-            Refusal::Scratch => Fault::out_of_memory(&place),
-            refusal => Fault::refused(&place, refusal),
+            Some(Refusal::Scratch) => Fault::out_of_memory(&place),
+            Some(refusal) => Fault::refused(&place, refusal),
+            None => Fault::new(format!("{}: not a number", place)),
         }
     }
 
@@ -107,18 +121,16 @@ impl Scorer {
             let a = Plane { data: &original.planes[number][..], stride };
             let b = Plane { data: &decoded.planes[number][..], stride };
             let scores = self.plane(number, a, b).map_err(|mut refused| {
-                if refused.refusal == Refusal::Sample {
+                if refused.refusal == Some(Refusal::Sample) {
                     refused.above = Above::find([a.data, b.data], self.shapes[number]);
                 }
                 refused
             });
             planes.push(scores?);
         }
-        let mut combined = combine(&planes, self.weight, 1.0)?;
-        if self.metrics.error {
-            let records: Vec<PsnrMetrics> = planes.iter().filter_map(|plane| plane.error).collect();
-            combined.error = Some(fuavelino::series(&records).map_err(Refused::of(COMBINED, "squared error"))?);
-        }
+        let records: Option<Vec<PsnrMetrics>> = planes.iter().map(|plane| plane.error).collect();
+        let total = records.map(|records| fuavelino::series(&records).map_err(Refused::of(COMBINED, "squared error")));
+        let combined = combine(&planes, total.transpose()?, self.weight, 1.0)?;
         Ok(FrameScores { planes, combined })
     }
 
@@ -134,64 +146,117 @@ impl Scorer {
             let pair = fuavelino::ssim(a, b, shape, &self.kernels[number], &mut self.scratch);
             scores.ssim = Some(pair.map_err(Refused::of(name, "SSIM"))?);
         }
-        if self.metrics.scales {
+        if self.metrics.scales || self.metrics.msssim {
             let pairs = fuavelino::msssim(a, b, shape, &mut self.scratch);
-            scores.scales = Some(pairs.map_err(Refused::of(name, "five scales"))?);
+            let pairs = pairs.map_err(Refused::of(name, "five scales"))?;
+            scores.scales = Some(pairs).filter(|_| self.metrics.scales);
+            if self.metrics.msssim {
+                let one = Some(product(&pairs)).filter(|one| one.is_finite());
+                scores.msssim = Some(one.ok_or_else(Refused::no_number(name, "MS-SSIM (a negative contrast)"))?);
+            }
         }
         if self.metrics.hvs {
             let score = fuavelino::psnr_hvs(a, b, shape, kind);
             scores.hvs = Some(score.map_err(Refused::of(name, "PSNR-HVS"))?);
         }
-        Ok(scores)
+        figures(&scores, 1.0, 1.0, name)
     }
 }
 
-/// The planes' SSIM, scales and PSNR-HVS combined. Each plane holds sums over `count` frames.
-pub fn combine(planes: &[Scores], weight: f64, count: f64) -> Result<Scores, Refused> {
-    let mut combined = Scores::default();
-    if planes.iter().all(|plane| plane.ssim.is_some()) {
-        let pairs = planes.iter().filter_map(|plane| plane.ssim).collect::<Vec<Pair>>();
-        combined.ssim = Some(pair(&pairs, weight, count).map_err(Refused::of(COMBINED, "SSIM"))?);
+/// The figures of sums over `count` frames. SSIM and its like could at best come to `best`: their decibels are made from the
+/// sum and from that, as av-metrics does.
+pub fn figures(sums: &Scores, best: f64, count: f64, plane: &'static str) -> Result<Scores, Refused> {
+    let over = |sum: f64, by: f64, score| finite(sum / by).map_err(Refused::of(plane, score));
+    let pair = |sum: Pair, score| -> Result<Pair, Refused> {
+        Ok(Pair { ssim: over(sum.ssim, best, score)?, cs: over(sum.cs, best, score)? })
+    };
+    let told = |decibels: Option<Decibels>, score| decibels.ok_or_else(Refused::no_number(plane, score)).map(Some);
+    let mut scores = Scores { error: sums.error, ..Scores::default() };
+    if let Some(record) = sums.error {
+        scores.psnr_db = told(decibels::psnr(record), "decibels of PSNR")?;
     }
-    if planes.iter().all(|plane| plane.scales.is_some()) {
+    if let Some(sum) = sums.ssim {
+        scores.ssim = Some(pair(sum, "SSIM")?);
+        scores.ssim_db = told(decibels::ssim(sum.ssim, best), "decibels of SSIM")?;
+    }
+    if let Some(mut five) = sums.scales {
+        for sum in five.iter_mut() {
+            *sum = pair(*sum, "five scales")?;
+        }
+        scores.scales = Some(five);
+    }
+    if let Some(sum) = sums.msssim {
+        scores.msssim = Some(over(sum, best, "MS-SSIM")?);
+        scores.msssim_db = told(decibels::ssim(sum, best), "decibels of MS-SSIM")?;
+    }
+    if let Some(sum) = sums.hvs {
+        let score = over(sum, count, "PSNR-HVS")?;
+        (scores.hvs, scores.hvs_db) = (Some(score), told(decibels::hvs(score), "decibels of PSNR-HVS")?);
+    }
+    Ok(scores)
+}
+
+/// The planes' figures combined, under their total of squared errors. Each plane holds sums over `count` frames.
+pub fn combine(planes: &[Scores], total: Option<PsnrMetrics>, weight: f64, count: f64) -> Result<Scores, Refused> {
+    let all = Weighed { planes, weight };
+    let best = all.best().map_err(Refused::of(COMBINED, "weight"))? * count;
+    let mut sums = Scores { error: total, ..Scores::default() };
+    sums.ssim = all.pair(|plane| plane.ssim).map_err(Refused::of(COMBINED, "SSIM"))?;
+    sums.scales = all.scales().map_err(Refused::of(COMBINED, "five scales"))?;
+    sums.msssim = all.sum(|plane| plane.msssim).map_err(Refused::of(COMBINED, "MS-SSIM"))?;
+    if let Some([y, u, v]) = all.three(|plane| plane.hvs) {
+        sums.hvs = Some(fuavelino::combine_hvs(weight, y, u, v).map_err(Refused::of(COMBINED, "PSNR-HVS"))?);
+    }
+    figures(&sums, best, count, COMBINED)
+}
+
+/// Planes, and what chroma weighs among them.
+struct Weighed<'a> {
+    planes: &'a [Scores],
+    weight: f64,
+}
+
+impl Weighed<'_> {
+    /// A figure of each plane, where each has it. Planes that are not there count as 0; their weight is 0.
+    fn three(&self, of: impl Fn(&Scores) -> Option<f64>) -> Option<[f64; 3]> {
+        let mut all = [0.0; 3];
+        for (place, plane) in all.iter_mut().zip(self.planes) {
+            *place = of(plane)?;
+        }
+        Some(all)
+    }
+
+    /// The library's weighted sum.
+    fn sum(&self, of: impl Fn(&Scores) -> Option<f64>) -> Result<Option<f64>, Refusal> {
+        let sum = |[y, u, v]: [f64; 3]| fuavelino::combine_ssim(self.weight, y, u, v).map(|(sum, _)| sum);
+        self.three(of).map(sum).transpose()
+    }
+
+    fn pair(&self, of: impl Fn(&Scores) -> Option<Pair>) -> Result<Option<Pair>, Refusal> {
+        let (ssim, cs) =
+            (self.sum(|plane| of(plane).map(|pair| pair.ssim))?, self.sum(|plane| of(plane).map(|pair| pair.cs))?);
+        Ok(ssim.zip(cs).map(|(ssim, cs)| Pair { ssim, cs }))
+    }
+
+    fn scales(&self) -> Result<Option<[Pair; 5]>, Refusal> {
         let mut five = [Pair::default(); 5];
         for (scale, place) in five.iter_mut().enumerate() {
-            let pairs = planes.iter().filter_map(|plane| plane.scales.map(|pairs| pairs[scale])).collect::<Vec<Pair>>();
-            *place = pair(&pairs, weight, count).map_err(Refused::of(COMBINED, "five scales"))?;
+            match self.pair(|plane| plane.scales.map(|pairs| pairs[scale]))? {
+                Some(pair) => *place = pair,
+                None => return Ok(None),
+            }
         }
-        combined.scales = Some(five);
+        Ok(Some(five))
     }
-    if planes.iter().all(|plane| plane.hvs.is_some()) {
-        let [y, u, v] = three(planes.iter().filter_map(|plane| plane.hvs));
-        let score = fuavelino::combine_hvs(weight, y, u, v).and_then(|score| finite(score / count));
-        combined.hvs = Some(score.map_err(Refused::of(COMBINED, "PSNR-HVS"))?);
+
+    /// What the sum of one frame could at best come to: the library's weight.
+    fn best(&self) -> Result<f64, Refusal> {
+        fuavelino::combine_ssim(self.weight, 1.0, 1.0, 1.0).map(|(_, weight)| weight)
     }
-    Ok(combined)
-}
-
-fn pair(pairs: &[Pair], weight: f64, count: f64) -> Result<Pair, Refusal> {
-    let ssim = average(three(pairs.iter().map(|pair| pair.ssim)), weight, count)?;
-    let cs = average(three(pairs.iter().map(|pair| pair.cs)), weight, count)?;
-    Ok(Pair { ssim, cs })
-}
-
-/// The library's weighted sum over its weight, times the count.
-fn average([y, u, v]: [f64; 3], weight: f64, count: f64) -> Result<f64, Refusal> {
-    let (sum, over) = fuavelino::combine_ssim(weight, y, u, v)?;
-    finite(sum / (over * count))
-}
-
-/// Planes that are not there count as 0; their weight is 0.
-fn three(given: impl Iterator<Item = f64>) -> [f64; 3] {
-    let mut all = [0.0; 3];
-    for (place, value) in all.iter_mut().zip(given) {
-        *place = value;
-    }
-    all
 }
 
 /// Nothing that is not a finite number is ever reported.
-pub fn finite(value: f64) -> Result<f64, Refusal> {
+fn finite(value: f64) -> Result<f64, Refusal> {
     if value.is_finite() {
         Ok(value)
     } else {

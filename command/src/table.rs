@@ -1,6 +1,6 @@
 //! The report for people: a row for each plane of each frame, then the run, then where it was worst.
 
-use crate::decibels;
+use crate::decibels::{self, Decibels};
 use crate::report::{End, Job, Report};
 use crate::score::{FrameScores, Scores};
 use crate::stop::PASSED;
@@ -8,14 +8,14 @@ use crate::thresholds::Broken;
 use std::io::{self, Write};
 
 const FOOT: &str = "
-Each plane's scores and each frame's combination come from proved calls. Not proved: decibels (dB), the squared error
-per sample (mse), the division by the weight in a combined SSIM, and a run's means over its frames.
+Each plane's scores and each frame's combination come from proved calls. Not proved: decibels (dB), MS-SSIM's product of
+the scales, the squared error per sample (mse), the division by the weight in a combined SSIM, a run's means over its frames.
 Figures are rounded here; --json and --csv give all digits.
 ";
 
 #[derive(Default)]
 pub struct Table {
-    asked: [bool; 4],
+    asked: [bool; 5],
     thresholds: usize,
 }
 
@@ -32,19 +32,12 @@ impl Report for Table {
     }
 
     fn frame(&mut self, out: &mut dyn Write, number: u64, scores: &FrameScores, broken: &[Broken]) -> io::Result<()> {
-        let frame = number.to_string();
-        for (plane, scores) in scores.named() {
-            let mark = if broken.iter().any(|broken| broken.plane == plane) { "  broken" } else { "" };
-            writeln!(out, "{}{}", self.row(&frame, plane, scores), mark)?;
-        }
-        Ok(())
+        self.rows(out, &number.to_string(), scores, broken)
     }
 
     fn end(&mut self, out: &mut dyn Write, end: &End<'_>) -> io::Result<()> {
         if let Some(run) = end.run {
-            for (plane, scores) in run.named() {
-                writeln!(out, "{}", self.row("run", plane, scores))?;
-            }
+            self.rows(out, "run", run, end.run_broken)?;
         }
         writeln!(out)?;
         self.summary(out, end)?;
@@ -58,15 +51,18 @@ impl Report for Table {
 impl Table {
     fn heads(&self) -> String {
         let mut line = format!("{:>6} {:<8}", "frame", "plane");
-        let [error, ssim, scales, hvs] = self.asked;
+        let [error, ssim, scales, msssim, hvs] = self.asked;
         if error {
             line += &format!(" {:>12} {:>10} {:>9}", "sq_err", "mse", "PSNR dB");
         }
         if ssim {
-            line += &format!(" {:>9} {:>9}", "SSIM", "CS");
+            line += &format!(" {:>9} {:>9} {:>8}", "SSIM", "CS", "SSIM dB");
         }
         if scales {
             (1..=5).for_each(|scale| line += &format!(" {:>9}", format!("scale {}", scale)));
+        }
+        if msssim {
+            line += &format!(" {:>9} {:>10}", "MS-SSIM", "MS-SSIM dB");
         }
         if hvs {
             line += &format!(" {:>10} {:>8}", "HVS", "HVS dB");
@@ -74,28 +70,31 @@ impl Table {
         line
     }
 
+    fn rows(&self, out: &mut dyn Write, frame: &str, scores: &FrameScores, broken: &[Broken]) -> io::Result<()> {
+        for (plane, scores) in scores.named() {
+            let mark = if broken.iter().any(|broken| broken.plane == plane) { "  broken" } else { "" };
+            writeln!(out, "{}{}", self.row(frame, plane, scores), mark)?;
+        }
+        Ok(())
+    }
+
     fn row(&self, frame: &str, plane: &str, scores: &Scores) -> String {
         let mut line = format!("{:>6} {:<8}", frame, plane);
         if let Some(record) = &scores.error {
-            let psnr = match decibels::psnr(*record) {
-                _ if record.is_identical() => "identical".to_string(),
-                Some(told) => format!("{:.3}", told),
-                None => "none".to_string(),
-            };
+            let psnr = shown(scores.psnr_db, "identical");
             line += &format!(" {:>12.0} {:>10.4} {:>9}", record.sq_err, decibels::mean_error(record), psnr);
         }
         if let Some(pair) = scores.ssim {
-            line += &format!(" {:>9.6} {:>9.6}", pair.ssim, pair.cs);
+            line += &format!(" {:>9.6} {:>9.6} {:>8}", pair.ssim, pair.cs, shown(scores.ssim_db, "perfect"));
         }
         for pair in scores.scales.iter().flatten() {
             line += &format!(" {:>9.6}", pair.ssim);
         }
+        if let Some(score) = scores.msssim {
+            line += &format!(" {:>9.6} {:>10}", score, shown(scores.msssim_db, "perfect"));
+        }
         if let Some(score) = scores.hvs {
-            let told = match decibels::hvs(score) {
-                Some(told) if score > 0.0 => format!("{:.3}", told),
-                _ => "no error".to_string(),
-            };
-            line += &format!(" {:>10.3e} {:>8}", score, told);
+            line += &format!(" {:>10.3e} {:>8}", score, shown(scores.hvs_db, "no error"));
         }
         line
     }
@@ -124,5 +123,14 @@ impl Table {
 
     fn foot(&self, out: &mut dyn Write) -> io::Result<()> {
         write!(out, "{}", FOOT)
+    }
+}
+
+/// Decibels, or a word where nothing is better.
+fn shown(decibels: Option<Decibels>, perfect: &str) -> String {
+    match decibels {
+        Some(Decibels::Of(told)) => format!("{:.3}", told),
+        Some(Decibels::Perfect) => perfect.to_string(),
+        None => "none".to_string(),
     }
 }

@@ -1,8 +1,8 @@
 //! Thresholds: only a comparison that is true passes.
 
-use crate::decibels;
+use crate::decibels::{mean_error, Decibels};
+use crate::format::{COMBINED, PLANES};
 use crate::score::{FrameScores, Metrics, Scores};
-use fuavelino::PsnrMetrics;
 
 /// What a threshold is held against.
 #[derive(Clone, Copy, Debug, PartialEq, Eq)]
@@ -11,24 +11,37 @@ pub enum Figure {
     Psnr,
     Ssim,
     Cs,
+    SsimDb,
     Scale,
+    MsSsim,
+    MsSsimDb,
     Hvs,
+    HvsDb,
 }
 
-/// An option, what it is held against, and whether it is the least that is good; else it is the most.
+/// What an option is held against, and whether it is the least that is good; else it is the most.
 pub struct Kind {
-    pub option: &'static str,
+    /// The option that holds for frames, and the one that holds for the run's own figures.
+    pub options: [&'static str; 2],
     pub figure: Figure,
     pub least: bool,
 }
 
-pub const KINDS: [Kind; 6] = [
-    Kind { option: "--max-error", figure: Figure::MeanError, least: false },
-    Kind { option: "--min-psnr", figure: Figure::Psnr, least: true },
-    Kind { option: "--min-ssim", figure: Figure::Ssim, least: true },
-    Kind { option: "--min-cs", figure: Figure::Cs, least: true },
-    Kind { option: "--min-scale", figure: Figure::Scale, least: true },
-    Kind { option: "--max-hvs", figure: Figure::Hvs, least: false },
+const fn kind(frame: &'static str, run: &'static str, figure: Figure, least: bool) -> Kind {
+    Kind { options: [frame, run], figure, least }
+}
+
+pub const KINDS: [Kind; 10] = [
+    kind("--max-error", "--run-max-error", Figure::MeanError, false),
+    kind("--min-psnr", "--run-min-psnr", Figure::Psnr, true),
+    kind("--min-ssim", "--run-min-ssim", Figure::Ssim, true),
+    kind("--min-cs", "--run-min-cs", Figure::Cs, true),
+    kind("--min-ssim-db", "--run-min-ssim-db", Figure::SsimDb, true),
+    kind("--min-scale", "--run-min-scale", Figure::Scale, true),
+    kind("--min-msssim", "--run-min-msssim", Figure::MsSsim, true),
+    kind("--min-msssim-db", "--run-min-msssim-db", Figure::MsSsimDb, true),
+    kind("--max-hvs", "--run-max-hvs", Figure::Hvs, false),
+    kind("--min-hvs-db", "--run-min-hvs-db", Figure::HvsDb, true),
 ];
 
 impl Kind {
@@ -36,24 +49,70 @@ impl Kind {
     pub fn needs(&self, metrics: &Metrics) -> (bool, &'static str) {
         match self.figure {
             Figure::MeanError | Figure::Psnr => (metrics.error, "error"),
-            Figure::Ssim | Figure::Cs => (metrics.ssim, "ssim"),
+            Figure::Ssim | Figure::Cs | Figure::SsimDb => (metrics.ssim, "ssim"),
             Figure::Scale => (metrics.scales, "scales"),
-            Figure::Hvs => (metrics.hvs, "hvs"),
+            Figure::MsSsim | Figure::MsSsimDb => (metrics.msssim, "msssim"),
+            Figure::Hvs | Figure::HvsDb => (metrics.hvs, "hvs"),
         }
     }
 }
 
+#[derive(Clone, Copy)]
 pub struct Threshold {
     pub kind: &'static Kind,
+    /// Whether it is held against the run's own figures, and not against each frame's.
+    pub run: bool,
+    /// The one plane that it is about, or the combination.
+    pub plane: Option<&'static str>,
     pub limit: f64,
 }
 
-/// A threshold that a figure of a frame does not meet. A figure that is not there meets none.
+impl Threshold {
+    pub fn option(&self) -> &'static str {
+        self.kind.options[usize::from(self.run)]
+    }
+
+    pub fn show(&self) -> String {
+        let plane = self.plane.map_or(String::new(), |plane| format!("{}=", plane));
+        format!("{} {}{:?}", self.option(), plane, self.limit)
+    }
+
+    /// Whether it is about a plane that is not among the first so many: it would pass whatever comes.
+    pub fn is_never_held(&self, planes: usize) -> bool {
+        let there = |plane| plane == COMBINED || PLANES[..planes].contains(&plane);
+        self.plane.map_or(false, |plane| !there(plane))
+    }
+
+    /// Without a plane's name it holds for each and for their combination; but that of PSNR-HVS is scaled, so that one limit
+    /// cannot suit both.
+    fn holds_for(&self, plane: &str) -> bool {
+        match self.plane {
+            Some(own) => own == plane,
+            None => plane != COMBINED || !matches!(self.kind.figure, Figure::Hvs | Figure::HvsDb),
+        }
+    }
+}
+
+/// A limit as it is written: a finite number, perhaps with a plane before it, as in `y=0.98`.
+pub fn limit(text: &str) -> Option<(Option<&'static str>, f64)> {
+    let (plane, number) = match text.split_once('=') {
+        Some((name, number)) => {
+            let mut names = PLANES.iter().chain([&COMBINED]);
+            (Some(*names.find(|known| **known == name)?), number)
+        }
+        None => (None, text),
+    };
+    let limit = number.parse::<f64>().ok().filter(|limit| limit.is_finite())?;
+    Some((plane, limit))
+}
+
+/// A threshold that a figure of a frame or of the run does not meet. A figure that is not there meets none.
 #[derive(Debug, PartialEq)]
 pub struct Broken {
     pub option: &'static str,
     pub limit: f64,
-    pub frame: u64,
+    /// None for the run.
+    pub frame: Option<u64>,
     pub plane: &'static str,
     pub field: &'static str,
     pub value: Option<f64>,
@@ -62,20 +121,22 @@ pub struct Broken {
 impl Broken {
     pub fn show(&self) -> String {
         let value = self.value.map_or("not given".to_string(), |value| format!("{:?}", value));
-        let Broken { frame, plane, field, option, limit, .. } = self;
-        format!("frame {}, plane {}: {} is {}, which breaks {} {:?}", frame, plane, field, value, option, limit)
+        let place = self.frame.map_or("the run".to_string(), |frame| format!("frame {}", frame));
+        let Broken { plane, field, option, limit, .. } = self;
+        format!("{}, plane {}: {} is {}, which breaks {} {:?}", place, plane, field, value, option, limit)
     }
 }
 
-/// Which thresholds a frame breaks, in its planes or in their combination.
-pub fn broken(thresholds: &[Threshold], frame: u64, scores: &FrameScores) -> Vec<Broken> {
+/// Which thresholds a frame breaks, or the run where there is no frame, in its planes or in their combination.
+pub fn broken(thresholds: &[Threshold], frame: Option<u64>, scores: &FrameScores) -> Vec<Broken> {
     let mut list = Vec::new();
     for (plane, scores) in scores.named() {
-        for threshold in thresholds {
-            let Threshold { kind, limit } = threshold;
-            for (field, value) in figures(kind.figure, scores) {
+        let held = thresholds.iter().filter(|held| held.run == frame.is_none() && held.holds_for(plane));
+        for threshold in held {
+            for (field, value) in figures(threshold.kind.figure, scores) {
                 if !met(threshold, value) {
-                    list.push(Broken { option: kind.option, limit: *limit, frame, plane, field, value });
+                    let (option, limit) = (threshold.option(), threshold.limit);
+                    list.push(Broken { option, limit, frame, plane, field, value });
                 }
             }
         }
@@ -94,27 +155,24 @@ fn met(threshold: &Threshold, value: Option<f64>) -> bool {
 
 const SCALES: [&str; 5] = ["scale1_ssim", "scale2_ssim", "scale3_ssim", "scale4_ssim", "scale5_ssim"];
 
-/// The figures of a kind, by the names that reports give them.
+/// The figures of a kind, by the names that reports give them. Perfect decibels meet every limit.
 pub fn figures(figure: Figure, scores: &Scores) -> Vec<(&'static str, Option<f64>)> {
+    let one = |field, value| vec![(field, value)];
+    let decibels = |field, decibels: Option<Decibels>| vec![(field, decibels.map(Decibels::held))];
     match figure {
-        Figure::MeanError => vec![("mse", scores.error.map(|record| decibels::mean_error(&record)))],
-        Figure::Psnr => vec![("psnr_db", scores.error.and_then(psnr_to_hold))],
-        Figure::Ssim => vec![("ssim", scores.ssim.map(|pair| pair.ssim))],
-        Figure::Cs => vec![("cs", scores.ssim.map(|pair| pair.cs))],
+        Figure::MeanError => one("mse", scores.error.map(|record| mean_error(&record))),
+        Figure::Psnr => decibels("psnr_db", scores.psnr_db),
+        Figure::Ssim => one("ssim", scores.ssim.map(|pair| pair.ssim)),
+        Figure::Cs => one("cs", scores.ssim.map(|pair| pair.cs)),
+        Figure::SsimDb => decibels("ssim_db", scores.ssim_db),
         Figure::Scale => {
             let of = |scale: usize| scores.scales.map(|pairs| pairs[scale].ssim);
             SCALES.iter().enumerate().map(|(scale, name)| (*name, of(scale))).collect()
         }
-        Figure::Hvs => vec![("hvs", scores.hvs)],
-    }
-}
-
-/// PSNR for a threshold: identical planes, whose error of 0 is proved, meet every one, above 100 too.
-fn psnr_to_hold(record: PsnrMetrics) -> Option<f64> {
-    if record.is_identical() {
-        Some(f64::INFINITY)
-    } else {
-        decibels::psnr(record)
+        Figure::MsSsim => one("msssim", scores.msssim),
+        Figure::MsSsimDb => decibels("msssim_db", scores.msssim_db),
+        Figure::Hvs => one("hvs", scores.hvs),
+        Figure::HvsDb => decibels("hvs_db", scores.hvs_db),
     }
 }
 
@@ -123,7 +181,8 @@ mod tests {
     use super::*;
 
     fn threshold(option: &str, limit: f64) -> Threshold {
-        Threshold { kind: KINDS.iter().find(|kind| kind.option == option).unwrap(), limit }
+        let kind = KINDS.iter().find(|kind| kind.options[0] == option).unwrap();
+        Threshold { kind, run: false, plane: None, limit }
     }
 
     #[test]
@@ -144,7 +203,7 @@ mod tests {
     fn what_is_not_a_number_or_not_there_meets_nothing() {
         for kind in &KINDS {
             for limit in [-1e300, 0.0, 1e300, f64::NAN] {
-                let threshold = Threshold { kind, limit };
+                let threshold = Threshold { kind, run: false, plane: None, limit };
                 assert!(!met(&threshold, Some(f64::NAN)));
                 assert!(!met(&threshold, None));
             }
@@ -156,7 +215,26 @@ mod tests {
     fn a_score_that_is_missing_breaks_its_threshold() {
         let nothing = FrameScores { planes: vec![Scores::default()], combined: Scores::default() };
         for kind in &KINDS {
-            assert!(!broken(&[Threshold { kind, limit: 0.0 }], 0, &nothing).is_empty());
+            for frame in [Some(0), None] {
+                let threshold = Threshold { kind, run: frame.is_none(), plane: None, limit: 0.0 };
+                assert!(!broken(&[threshold], frame, &nothing).is_empty());
+                // one of the run is not held against frames, nor the other way round
+                assert!(broken(&[Threshold { run: frame.is_some(), ..threshold }], frame, &nothing).is_empty());
+            }
         }
+    }
+
+    #[test]
+    fn a_plane_that_is_named_is_judged_alone() {
+        let bad = |hvs| Scores { hvs: Some(hvs), ..Scores::default() };
+        let scores = FrameScores { planes: vec![bad(3.0), bad(2.0), bad(4.0)], combined: bad(9.0) };
+        let planes = |plane, limit| -> Vec<&str> {
+            let held = Threshold { plane, ..threshold("--max-hvs", limit) };
+            broken(&[held], Some(7), &scores).iter().map(|one| one.plane).collect()
+        };
+        assert_eq!(planes(None, 2.5), ["y", "v"]);
+        assert_eq!(planes(Some("u"), 1.5), ["u"]);
+        assert_eq!(planes(Some("combined"), 8.0), ["combined"]);
+        assert!(planes(Some("combined"), 9.0).is_empty() && planes(Some("v"), 4.0).is_empty());
     }
 }

@@ -1,7 +1,7 @@
 //! The figures of a whole run, gathered frame by frame in memory that does not grow with their number.
 
 use crate::format::{COMBINED, PLANES};
-use crate::score::{combine, finite, FrameScores, Refused, Scores};
+use crate::score::{combine, figures, FrameScores, Refused, Scores};
 use fuavelino::{Pair, PsnrMetrics, Refusal};
 
 /// The most records that the library takes in one series.
@@ -33,6 +33,12 @@ impl Total {
             Some(earlier) => joined(earlier, last),
             None => Ok(last),
         }
+    }
+
+    /// The total under a plane's name, where anything was added.
+    fn told(&self, plane: &'static str) -> Result<Option<PsnrMetrics>, Refused> {
+        let any = !self.records.is_empty();
+        any.then(|| self.so_far().map_err(Refused::of(plane, "squared error"))).transpose()
     }
 }
 
@@ -78,18 +84,12 @@ impl Run {
     /// The run's figures: totals of squared errors, means of the others.
     pub fn end(&self) -> Result<FrameScores, Refused> {
         let count = self.count as f64;
-        let mut combined = combine(&self.sums, self.weight, count)?;
         let mut planes = Vec::with_capacity(self.sums.len());
-        for (number, sums) in self.sums.iter().enumerate() {
-            planes.push(mean(sums, count).map_err(Refused::of(PLANES[number], "mean"))?);
+        for (number, (sums, total)) in self.sums.iter().zip(&self.totals).enumerate() {
+            let error = total.told(PLANES[number])?;
+            planes.push(figures(&Scores { error, ..*sums }, count, count, PLANES[number])?);
         }
-        if !self.total.records.is_empty() {
-            combined.error = Some(self.total.so_far().map_err(Refused::of(COMBINED, "squared error"))?);
-            for (number, total) in self.totals.iter().enumerate() {
-                let total = total.so_far().map_err(Refused::of(PLANES[number], "squared error"))?;
-                planes[number].error = Some(total);
-            }
-        }
+        let combined = combine(&self.sums, self.total.told(COMBINED)?, self.weight, count)?;
         Ok(FrameScores { planes, combined })
     }
 }
@@ -103,29 +103,12 @@ fn sum(so_far: &Scores, next: &Scores) -> Scores {
         sums
     });
     Scores {
-        error: None,
         ssim: next.ssim.map(|b| pair(so_far.ssim.unwrap_or_default(), b)),
         scales,
+        msssim: next.msssim.map(|b| so_far.msssim.unwrap_or_default() + b),
         hvs: next.hvs.map(|b| so_far.hvs.unwrap_or_default() + b),
+        ..Scores::default()
     }
-}
-
-fn mean(sums: &Scores, count: f64) -> Result<Scores, Refusal> {
-    let pair = |sum: Pair| Ok(Pair { ssim: finite(sum.ssim / count)?, cs: finite(sum.cs / count)? });
-    let mut mean = Scores::default();
-    if let Some(sum) = sums.ssim {
-        mean.ssim = Some(pair(sum)?);
-    }
-    if let Some(mut five) = sums.scales {
-        for sum in five.iter_mut() {
-            *sum = pair(*sum)?;
-        }
-        mean.scales = Some(five);
-    }
-    if let Some(sum) = sums.hvs {
-        mean.hvs = Some(finite(sum / count)?);
-    }
-    Ok(mean)
 }
 
 #[cfg(test)]

@@ -99,7 +99,7 @@ fn score<T: Pixel>(a: &File, b: &File, sample: fn(&[u8]) -> T) {
         errors(&scope, &records[frame..]);
         let figures: Vec<Vec<f64>> = pairs().enumerate().map(|(k, (x, y))| figures(x, y, k, a.depth)).collect();
         for (plane, list) in figures.iter().enumerate() {
-            told(&scope, plane, list);
+            told(&scope, plane, list, 1.0);
         }
         combined(&scope, &figures, a.weight(), 1.0);
         sums = if frame == 0 { figures } else { sums.iter().zip(&figures).map(|(s, f)| added(s, f)).collect() };
@@ -107,7 +107,7 @@ fn score<T: Pixel>(a: &File, b: &File, sample: fn(&[u8]) -> T) {
     errors("run", &records);
     let count = records.len() as f64;
     for (plane, list) in sums.iter().enumerate() {
-        told("run", plane, &list.iter().map(|sum| sum / count).collect::<Vec<_>>());
+        told("run", plane, list, count);
     }
     combined("run", &sums, a.weight(), count);
 }
@@ -116,7 +116,7 @@ fn added(sums: &[f64], next: &[f64]) -> Vec<f64> {
     sums.iter().zip(next).map(|(sum, value)| sum + value).collect()
 }
 
-/// SSIM's pair, the five scales' pairs, PSNR-HVS.
+/// SSIM's pair, the five scales' pairs, MS-SSIM, PSNR-HVS.
 fn figures<T: Pixel>(a: &Plane<T>, b: &Plane<T>, kind: usize, depth: usize) -> Vec<f64> {
     let (w, h, max) = (a.cfg.width, a.cfg.height, (1u64 << depth) - 1);
     let planes = [a, b].map(|plane| plane.data.iter().map(|s| u32::from(s.word())).collect::<Vec<u32>>());
@@ -124,11 +124,12 @@ fn figures<T: Pixel>(a: &Plane<T>, b: &Plane<T>, kind: usize, depth: usize) -> V
     let pair = ssim::probe_pair(&planes[0], &planes[1], w, h, max, &kernel);
     let mut list = vec![pair.0, pair.1];
     list.extend(five::pairs(planes, w, h, max));
+    list.push(ssim::probe_product(a, b, depth));
     list.push(psnr_hvs::probe_plane(a, b, kind, depth));
     list
 }
 
-const FIELDS: [&str; 13] = [
+const FIELDS: [&str; 14] = [
     "ssim",
     "cs",
     "scale1_ssim",
@@ -141,18 +142,34 @@ const FIELDS: [&str; 13] = [
     "scale4_cs",
     "scale5_ssim",
     "scale5_cs",
+    "msssim",
     "hvs",
 ];
 
-fn told(scope: &str, plane: usize, figures: &[f64]) {
-    for (field, value) in FIELDS.iter().zip(figures) {
-        line(scope, ["y", "u", "v"][plane], field, *value);
+/// A plane's figures: sums over `count` frames.
+fn told(scope: &str, plane: usize, sums: &[f64], count: f64) {
+    for (field, sum) in FIELDS.iter().zip(sums) {
+        let name = ["y", "u", "v"][plane];
+        line(scope, name, field, sum / count);
+        if *field == "hvs" {
+            seen(scope, name, sum / count);
+        } else {
+            decibels(scope, name, field, *sum, count);
+        }
     }
-    decibels(scope, ["y", "u", "v"][plane], figures[FIELDS.len() - 1]);
 }
 
-/// Of PSNR-HVS. No error is infinite decibels in the Rust, which the command does not report.
-fn decibels(scope: &str, plane: &str, score: f64) {
+/// Decibels of SSIM and MS-SSIM, from a sum and what it could at best come to. Where nothing is left to better, the Rust has
+/// no finite ones, which the command does not report.
+fn decibels(scope: &str, plane: &str, field: &str, sum: f64, best: f64) {
+    let told = ssim::probe_decibels(sum, best);
+    if ["ssim", "msssim"].contains(&field) && told.is_finite() {
+        line(scope, plane, &format!("{}_db", field), told);
+    }
+}
+
+/// Decibels of PSNR-HVS. No error is infinite decibels in the Rust, likewise.
+fn seen(scope: &str, plane: &str, score: f64) {
     if score > 0.0 {
         line(scope, plane, "hvs_db", psnr_hvs::probe_decibels(score));
     }
@@ -164,10 +181,12 @@ fn combined(scope: &str, planes: &[Vec<f64>], weight: f64, count: f64) {
         let of = |plane: usize| planes.get(plane).map_or(0.0, |list| list[at]);
         let sum = of(0) + weight * (of(1) + of(2));
         let whole = 1.0 + 2.0 * weight;
-        let value = if *field == "hvs" { whole * sum / count } else { sum / (whole * count) };
-        line(scope, "combined", field, value);
         if *field == "hvs" {
-            decibels(scope, "combined", value);
+            line(scope, "combined", field, whole * sum / count);
+            seen(scope, "combined", whole * sum / count);
+        } else {
+            line(scope, "combined", field, sum / (whole * count));
+            decibels(scope, "combined", field, sum, whole * count);
         }
     }
 }

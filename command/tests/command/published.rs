@@ -43,8 +43,8 @@ fn every_figure_has_the_published_bits() {
         let report = Json::read(run(&words!["compare", &a, &b, "--json"]).passes());
         let wanted = scored(&program, &a, &b);
         let planes = original.frames[0].len();
-        // three frames and the run: 13 figures and PSNR of each plane and of the combination
-        assert!(wanted.len() > 3 * (planes + 1) * 14, "{} lines", wanted.len());
+        // three frames and the run: 14 figures, and decibels of each plane and of the combination
+        assert!(wanted.len() > 3 * (planes + 1) * 17, "{} lines", wanted.len());
         for [scope, plane, field, bits] in wanted {
             let told = match &scope[..] {
                 "run" => report.at("run"),

@@ -7,8 +7,9 @@ use crate::words;
 use std::ffi::OsString;
 use std::fs;
 
-const COLUMNS: &str = "scope,frame,plane,sq_err,n_pixels,sample_max,identical,mse,psnr_db,ssim,cs,\
-scale1_ssim,scale1_cs,scale2_ssim,scale2_cs,scale3_ssim,scale3_cs,scale4_ssim,scale4_cs,scale5_ssim,scale5_cs,hvs,hvs_db";
+const COLUMNS: &str = "scope,frame,plane,sq_err,n_pixels,sample_max,identical,mse,psnr_db,ssim,cs,ssim_db,\
+scale1_ssim,scale1_cs,scale2_ssim,scale2_cs,scale3_ssim,scale3_cs,scale4_ssim,scale4_cs,scale5_ssim,scale5_cs,\
+msssim,msssim_db,hvs,hvs_db";
 
 fn files(room: &Room) -> [OsString; 3] {
     let original = Video::new(33, 33, 8, "420", 2, 41);
@@ -55,11 +56,11 @@ fn scores_that_are_not_asked_are_empty_or_absent() {
     let compare = files(&room);
     let csv = run(&[&compare[..], &words!["--csv", "--metrics=hvs"]].concat());
     let row: Vec<&str> = csv.passes().lines().nth(1).unwrap().split(',').collect();
-    assert!(row[3..21].iter().all(|cell| cell.is_empty()));
-    assert!(row[21].parse::<f64>().unwrap() > 0.0 && row[22].parse::<f64>().unwrap() > 0.0);
+    assert!(row[3..24].iter().all(|cell| cell.is_empty()));
+    assert!(row[24].parse::<f64>().unwrap() > 0.0 && row[25].parse::<f64>().unwrap() > 0.0);
     let json = Json::read(run(&[&compare[..], &words!["--json", "--metrics=hvs,ssim"]].concat()).passes());
     assert_eq!(json.at("metrics").list().len(), 2);
-    assert_eq!(json.at("run").at("combined").names(), ["ssim", "cs", "hvs", "hvs_db"]);
+    assert_eq!(json.at("run").at("combined").names(), ["ssim", "cs", "ssim_db", "hvs", "hvs_db"]);
     let table = run(&[&compare[..], &words!["--metrics=scales"]].concat());
     assert!(table.passes().contains("scale 5") && !table.out.contains("HVS dB") && !table.out.contains("sq_err"));
 }
@@ -83,7 +84,8 @@ fn json_has_its_documented_names() {
     ];
     assert_eq!(json.names(), [&names[..], &["error", "status", "passed"]].concat());
     assert_eq!(json.at("frames").list()[0].names(), ["frame", "planes", "combined", "broken"]);
-    assert_eq!(json.at("thresholds").list()[0].names(), ["option", "limit"]);
+    assert_eq!(json.at("run").names(), ["frames", "planes", "combined", "broken"]);
+    assert_eq!(json.at("thresholds").list()[0].names(), ["option", "plane", "limit"]);
     assert_eq!(json.at("worst").list()[0].names(), ["field", "frame", "plane", "value"]);
     assert_eq!(json.at("error"), &Json::Null);
 }

@@ -1,5 +1,6 @@
 //! Wrong use: status 2, a message, and nothing compared.
 
+use crate::limits;
 use crate::run::{run, Room};
 use crate::video::Video;
 use crate::words;
@@ -36,6 +37,9 @@ fn wrong(a: &str) -> Vec<(Vec<&str>, &'static str)> {
         (vec!["compare", a, a, "--metrics", "ssim", "--max-error", "0.5"], "needs error"),
         (vec!["compare", a, a, "--metrics", "ssim", "--min-psnr", "0.5"], "needs error"),
         (vec!["compare", a, a, "--metrics", "ssim", "--max-hvs", "0.5"], "needs hvs"),
+        (vec!["compare", a, a, "--metrics", "ssim", "--run-min-hvs-db", "0.5"], "needs hvs"),
+        (vec!["compare", a, a, "--metrics", "scales", "--min-msssim", "0.5"], "needs msssim"),
+        (vec!["compare", a, a, "--metrics", "scales", "--min-ssim-db", "y=0.5"], "needs ssim"),
         (vec!["compare", a, a, "--jobs", "0"], "--jobs takes a number from 1"),
         (vec!["compare", a, a, "--jobs", "1025"], "--jobs takes a number from 1"),
         (vec!["compare", a, a, "--jobs", "-2"], "--jobs takes a number from 1"),
@@ -81,12 +85,16 @@ fn wrong_words_are_told() {
 fn a_threshold_must_be_a_finite_number() {
     let room = Room::new("numbers");
     let a = room.file("a.y4m", &Video::new(32, 32, 8, "420", 1, 32).y4m());
-    for option in ["--max-error", "--min-psnr", "--min-ssim", "--min-cs", "--min-scale", "--max-hvs"] {
-        for number in ["nan", "NaN", "-nan", "inf", "-inf", "infinity", "1e999", "-1e999", "", "x", "0,9", "1 "] {
-            let ended = run(&words!["compare", &a, &a, option, number]);
-            ended.says(2, &[option, "takes a finite number"]);
+    for option in limits::options() {
+        for number in
+            ["nan", "-nan", "inf", "infinity", "1e999", "-1e999", "", "x", "0,9", "1 ", "y=nan", "y=", "=1", "w=1"]
+        {
+            let ended = run(&words!["compare", &a, &a, &option, number]);
+            ended.says(2, &[&option, "takes a finite number"]);
             assert_eq!(ended.out, "");
         }
+        let twice = [&words!["compare", &a, &a][..], &["y=0", "0", "y=1"].map(|x| format!("{}={}", option, x).into())];
+        run(&twice.concat()).says(2, &[&format!("{} is given twice for y", option)]);
     }
 }
 
