@@ -1,18 +1,19 @@
--- What each test says where it passes, and `accepted`: where no test refuses, every fact of `Accepted` holds. Assumes nothing.
-use mathlib.Core.Path.{_≡_}
+-- What each test says where it passes; `accepted`: where no test refuses, every fact of `Accepted` holds; and `passes`, the other way
+-- round: where they hold, no test refuses. Assumes nothing.
+use mathlib.Core.Path.{_≡_, refl}
 use mathlib.Core.Bool.{Bool, true, _&&_}
 use mathlib.Core.List.{List, [], _∷_}
 use Prim.Native.Nat.{ℕ, _≤_, _<_}
-use borrow.Author.Tests.{leb-true}
+use borrow.Author.Tests.{leb-true, le-leb}
 use lib.Dec.{leb, lit≤}
-use Rattle.refusal.proofs.Chain.{and-left, and-right, Named, passed}
+use Rattle.refusal.proofs.Chain.{and-left, and-right, Named, passed, none-broken}
 use Rattle.plane.specs.Limits.{sideLimit, strideLimit}
 use Rattle.plane.specs.declared.Size.{Size}
 use Rattle.plane.specs.Plane.{Plane, Long, maxOf, sampleAt, every}
 use Rattle.plane.specs.Tests.{sideSuits, sidesSuit, sidesReach, strideSuits, longEnough, rowSuits, samplesSuit}
 use Rattle.plane.specs.Tests.{depthSuits, sizeTests, layoutTests, planeTests, planeRefusal}
 use Rattle.plane.specs.Inner.Lawful.{Lawful, Sized, Each, Accepted}
-use Rattle.plane.proofs.All.{all-at, none-at}
+use Rattle.plane.proofs.All.{all-at, all-holds, none-at, none-holds}
 use Rattle.plane.proofs.Depth.{depth-says}
 
 -- ---- each test
@@ -95,3 +96,39 @@ accepted size planes least e =
       sized = sized size least (t .0) (t .1 .0) (t .1 .1 .0);
       each = each-lawful size planes (t .1 .1 .1 .0) (t .1 .1 .1 .1 .0) (t .1 .1 .1 .1 .1 .0);
     }
+
+-- ---- and back
+pair-suits : (a b c d : ℕ) → a ≤ b → c ≤ d → (leb a b && leb c d) ≡ true
+pair-suits a b c d l m = rw (le-leb a b l, le-leb c d m)
+
+module _ (size : Size) where
+  each-passes : (planes : List Plane) → Each (Lawful size) planes
+      → (every (λ (p : Plane). strideSuits (size .width) (p .stride)) planes ≡ true)
+      × ((every (longEnough size) planes ≡ true) × (every (samplesSuit size) planes ≡ true))
+  unfolding strideSuits longEnough samplesSuit rowSuits
+  each-passes [] e = (refl, (refl, refl))
+  each-passes (p ∷ more) e =
+      let rest = each-passes more (e .1) in
+      let b = e .0 .bounded in (
+        rw (pair-suits (size .width) (p .stride) (p .stride) strideLimit (e .0 .stride-least) (e .0 .stride-most)) (rest .0),
+        (
+          rw (le-leb _ _ (b .long)) (rest .1 .0),
+          rw (all-holds _ (size .height) (λ r lr. none-holds _ _ (size .width) (λ c lc. b .small r c lr lc))) (rest .1 .1),
+        ),
+      )
+
+pub passes : (size : Size) (planes : List Plane) (least : ℕ) → Accepted size planes least → planeRefusal size planes least ≡ 0
+unfolding sizeTests layoutTests depthSuits sidesSuit sidesReach
+passes size planes least a =
+    let s = a .sized in
+    let e = each-passes size planes (a .each) in
+    none-broken (planeTests size planes least) (
+      pair-suits _ _ _ _ (s .depth-least) (s .depth-most),
+      (
+        rw (
+          pair-suits 1 (size .width) (size .width) sideLimit (s .width-least) (s .width-most),
+          pair-suits 1 (size .height) (size .height) sideLimit (s .height-least) (s .height-most),
+        ),
+        (pair-suits _ _ _ _ (s .width-reaches) (s .height-reaches), (e .0, (e .1 .0, (e .1 .1, tt)))),
+      ),
+    )

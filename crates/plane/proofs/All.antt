@@ -1,5 +1,5 @@
 -- Laws of `allTo` and of `noneAbove`. Assumes nothing.
-use mathlib.Core.Path.{_≡_, refl}
+use mathlib.Core.Path.{_≡_, refl, _∙_}
 use mathlib.Core.Bool.{Bool, true, false, _&&_, and-false}
 use Prim.Native.Nat.{ℕ, zero, suc, _+_, _≤_, _<_}
 use native.Mathlib.Nat.{not-suc-le-zero}
@@ -50,6 +50,9 @@ unfolding allTo
 all-ext f g zero h = refl
 all-ext f g (suc n) h = rw (all-ext f g n (λ (i : ℕ) (l : i < n). h i (omega arith)), h n (omega arith))
 
+pub all-holds : (f : ℕ → Bool) (n : ℕ) → ((i : ℕ) → i < n → f i ≡ true) → allTo f n ≡ true
+all-holds f n h = all-ext f (λ (i : ℕ). true) n h ∙ all-true (λ (i : ℕ). true) n (λ i. refl)
+
 pub none-none : (max : ℕ) (f : ℕ → ℕ) → noneAbove max f 0 ≡ true
 unfolding noneAbove
 none-none max f = all-none _
@@ -69,3 +72,7 @@ none-true max f n h = all-true _ n (λ (i : ℕ). le-leb (f i) max (h i))
 pub none-ext : (max : ℕ) (f g : ℕ → ℕ) (n : ℕ) → ((i : ℕ) → i < n → f i ≡ g i) → noneAbove max f n ≡ noneAbove max g n
 unfolding noneAbove
 none-ext max f g n h = all-ext _ _ n (λ (i : ℕ) (l : i < n). rw (h i l))
+
+pub none-holds : (max : ℕ) (f : ℕ → ℕ) (n : ℕ) → ((i : ℕ) → i < n → f i ≤ max) → noneAbove max f n ≡ true
+unfolding noneAbove
+none-holds max f n h = all-holds _ n (λ i l. le-leb (f i) max (h i l))

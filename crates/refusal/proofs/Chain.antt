@@ -39,6 +39,10 @@ passed [] named e = tt
 passed ((n, true) ∷ later) named e = (refl, passed later (named .1) e)
 passed ((n, false) ∷ later) named e = absurd (omega (arith, named .0, e))
 
+pub none-broken : (ts : List (ℕ × Bool)) → Passed ts → firstBroken ts ≡ 0
+none-broken [] p = refl
+none-broken ((n, b) ∷ later) p = rw (p .0) (none-broken later (p .1))
+
 -- a call's tests go on after those of another call, which answered n
 rest : (ts more : List (ℕ × Bool)) → Named ts → firstBroken ts ≡ 0 → firstBroken (ts ++ more) ≡ firstBroken more
 rest [] more named e = refl
