@@ -13,6 +13,7 @@ use crate::progress::{is_terminal, say, Progress, STANDARD_OUTPUT};
 use crate::report::{End, Job, Report, Worst};
 use crate::score::FrameScores;
 use crate::stop::{Fault, Stop, BROKEN, FAULT, PASSED};
+use crate::summary::Summary;
 use crate::table::Table;
 use crate::thresholds::{self, Broken};
 use crate::totals::Run;
@@ -30,6 +31,7 @@ pub fn compare(asked: &Compare) -> Result<u8, Stop> {
         out: &mut out,
         progress: Progress::new(!rows_are_seen),
         worst: Worst::default(),
+        summary: Summary::default(),
         frames: 0,
         broken: 0,
     };
@@ -64,8 +66,9 @@ fn unfinished(asked: &Compare) -> io::Result<Vec<u8>> {
     let mut report = report(asked.form);
     begin(&mut *report, &mut text, asked, (None, &[]))?;
     let fault = Fault::new("the comparison has not ended, or was ended from outside".to_string());
-    let (worst, fault) = (&Worst::default(), Some(&fault));
-    report.end(&mut text, &End { frames: 0, run: None, run_broken: &[], worst, broken: 0, fault, status: FAULT })?;
+    let (worst, fault, status) = (&Worst::default(), Some(&fault), FAULT);
+    let none = End { frames: 0, run: None, run_broken: &[], summary: None, worst, broken: 0, fault, status };
+    report.end(&mut text, &none)?;
     Ok(text)
 }
 
@@ -125,6 +128,7 @@ struct Walk<'a> {
     out: &'a mut Output,
     progress: Progress,
     worst: Worst,
+    summary: Summary,
     frames: u64,
     broken: u64,
 }
@@ -168,7 +172,8 @@ impl Walk<'_> {
         }
         let (frames, worst, broken) = (self.frames, &self.worst, self.broken);
         let (run, run_broken, fault) = (run.as_ref(), &run_broken[..], fault.as_ref());
-        let end = End { frames, run, run_broken, worst, broken, fault, status };
+        let summary = run.map(|_| &self.summary);
+        let end = End { frames, run, run_broken, summary, worst, broken, fault, status };
         let report = &mut self.report;
         self.out.write(|to| report.end(to, &end))?;
         Ok(status)
@@ -202,6 +207,7 @@ impl Walk<'_> {
     fn tell(&mut self, scores: &FrameScores) -> Result<(), Stop> {
         let broken = thresholds::broken(&self.asked.thresholds, Some(self.frames), scores);
         self.worst.add(self.frames, scores);
+        self.summary.add(scores);
         let (report, frame) = (&mut self.report, self.frames);
         self.out.write(|to| report.frame(to, frame, scores, &broken))?;
         self.count(&broken);

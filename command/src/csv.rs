@@ -1,9 +1,10 @@
-//! The report as CSV: a row for each plane of each frame and for their combination, then the run's rows, then one that says
-//! whether it passed. Every column is always there; what was not asked for is empty.
+//! The report as CSV: a row for each plane of each frame and for their combination, then of the worst frames, the summary and
+//! the run, then one that says whether it passed. Every column is always there; what was not asked for is empty.
 
 use crate::report::{values, End, Job, Report, Value, FIELDS};
 use crate::score::FrameScores;
 use crate::stop::PASSED;
+use crate::summary::{spaced, STATISTICS};
 use crate::thresholds::Broken;
 use std::io::{self, Write};
 
@@ -19,6 +20,15 @@ impl Report for Csv {
     }
 
     fn end(&mut self, out: &mut dyn Write, end: &End<'_>) -> io::Result<()> {
+        for place in end.worst.places().flatten() {
+            let cells = FIELDS.map(|field| if field == place.field { Value::Double(place.value) } else { Value::None });
+            row(out, &format!("worst,{}", place.frame), place.plane, &cells)?;
+        }
+        for (name, statistic) in STATISTICS {
+            for (plane, told) in end.summary.iter().flat_map(|summary| summary.told(statistic)) {
+                row(out, &format!("{},", name), plane, &spaced(&told))?;
+            }
+        }
         if let Some(run) = end.run {
             rows(out, "run,", run)?;
         }
@@ -29,10 +39,14 @@ impl Report for Csv {
 
 fn rows(out: &mut dyn Write, start: &str, scores: &FrameScores) -> io::Result<()> {
     for (plane, scores) in scores.named() {
-        let cells: Vec<String> = values(scores).iter().map(shown).collect();
-        writeln!(out, "{},{},{}", start, plane, cells.join(","))?;
+        row(out, start, plane, &values(scores))?;
     }
     Ok(())
+}
+
+fn row(out: &mut dyn Write, start: &str, plane: &str, values: &[Value]) -> io::Result<()> {
+    let cells: Vec<String> = values.iter().map(shown).collect();
+    writeln!(out, "{},{},{}", start, plane, cells.join(","))
 }
 
 fn shown(value: &Value) -> String {

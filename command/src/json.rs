@@ -1,9 +1,10 @@
 //! The report as one JSON object, written as the frames are scored.
 
-use crate::format::Format;
+use crate::format::{Format, COMBINED};
 use crate::report::{metric_of, values, End, Job, Place, Report, Value, FIELDS};
 use crate::score::{FrameScores, Metrics, Scores};
 use crate::stop::PASSED;
+use crate::summary::{Statistic, Summary, STATISTICS};
 use crate::thresholds::Broken;
 use crate::writer::{self, Writer};
 use std::io::{self, Write};
@@ -58,9 +59,10 @@ impl Report for Json {
                 self.json.null();
             }
         }
+        summary(self.json.name("summary"), end.summary);
         let json = &mut self.json;
         json.name("worst").list();
-        end.worst.places().for_each(|place| worst(json, place));
+        end.worst.places().flatten().for_each(|place| worst(json, place));
         json.close().field("broken", end.broken).name("error");
         match end.fault {
             Some(fault) => {
@@ -134,6 +136,36 @@ fn format(json: &mut Writer, told: Option<Format>) {
 fn breach(json: &mut Writer, broken: &Broken) {
     json.object().field("option", broken.option).field("limit", broken.limit);
     json.field("plane", broken.plane).field("field", broken.field).field("value", broken.value).close();
+}
+
+/// Each statistic in the form of the run's figures; none of a run that did not end well.
+fn summary(json: &mut Writer, told: Option<&Summary>) {
+    match told {
+        Some(told) => {
+            json.object();
+            STATISTICS.iter().for_each(|(name, statistic)| spread(json.name(name), told, *statistic));
+            json.close();
+        }
+        None => {
+            json.null();
+        }
+    }
+}
+
+fn spread(json: &mut Writer, told: &Summary, statistic: Statistic) {
+    json.object().name("planes").list();
+    for (plane, figures) in told.told(statistic) {
+        if plane == COMBINED {
+            json.close().name(plane).object();
+        } else {
+            json.object().field("plane", plane);
+        }
+        for (field, value) in figures {
+            json.field(FIELDS[field], value);
+        }
+        json.close();
+    }
+    json.close();
 }
 
 fn worst(json: &mut Writer, place: &Place) {

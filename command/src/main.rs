@@ -19,6 +19,7 @@ mod progress;
 mod report;
 mod score;
 mod stop;
+mod summary;
 mod table;
 mod thresholds;
 mod totals;

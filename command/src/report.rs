@@ -4,6 +4,7 @@ use crate::decibels::{mean_error, Decibels};
 use crate::format::Format;
 use crate::score::{FrameScores, Metrics, Scores};
 use crate::stop::Fault;
+use crate::summary::Summary;
 use crate::thresholds::{figures, Broken, Figure, Threshold};
 use std::io::{self, Write};
 
@@ -26,6 +27,8 @@ pub struct End<'a> {
     pub run: Option<&'a FrameScores>,
     /// The thresholds that the run's own figures break.
     pub run_broken: &'a [Broken],
+    /// What all frames come to, likewise.
+    pub summary: Option<&'a Summary>,
     pub worst: &'a Worst,
     /// How many times a threshold was broken.
     pub broken: u64,
@@ -39,7 +42,8 @@ pub trait Report {
     fn end(&mut self, out: &mut dyn Write, end: &End<'_>) -> io::Result<()>;
 }
 
-/// Where the worst figure of a kind was met, first.
+/// A frame, by the worst figure of a kind among its planes.
+#[derive(Clone, Debug, PartialEq)]
 pub struct Place {
     pub field: &'static str,
     pub frame: u64,
@@ -47,34 +51,55 @@ pub struct Place {
     pub value: f64,
 }
 
-/// The worst figures of single planes.
+/// How many frames are told for each figure.
+const TEN: usize = 10;
+
+/// The worst frames by each figure that is followed, the worst first.
 #[derive(Default)]
 pub struct Worst {
-    places: [Option<Place>; 4],
+    places: [Vec<Place>; 5],
 }
 
 /// The figures that are followed, and whether the least is the worst.
-const FOLLOWED: [(Figure, bool); 4] =
-    [(Figure::MeanError, false), (Figure::Ssim, true), (Figure::Scale, true), (Figure::Hvs, false)];
+const FOLLOWED: [(Figure, bool); 5] = [
+    (Figure::MeanError, false),
+    (Figure::Ssim, true),
+    (Figure::Scale, true),
+    (Figure::MsSsim, true),
+    (Figure::Hvs, false),
+];
 
 impl Worst {
-    pub fn places(&self) -> impl Iterator<Item = &Place> {
-        self.places.iter().flatten()
+    /// For each figure that was asked, its frames; the first in the video where several are alike.
+    pub fn places(&self) -> impl Iterator<Item = &[Place]> {
+        self.places.iter().filter(|places| !places.is_empty()).map(|places| &places[..])
     }
 
     pub fn add(&mut self, frame: u64, scores: &FrameScores) {
-        for (plane, scores) in scores.named().take(scores.planes.len()) {
-            for (kept, (figure, least)) in self.places.iter_mut().zip(FOLLOWED) {
-                for (field, value) in figures(figure, scores) {
-                    let worse =
-                        |than: f64| value.map_or(false, |value| if least { value < than } else { value > than });
-                    if kept.as_ref().map_or(true, |place| worse(place.value)) {
-                        *kept = value.map(|value| Place { field, frame, plane, value });
-                    }
-                }
+        for (kept, (figure, least)) in self.places.iter_mut().zip(FOLLOWED) {
+            let worse = |value: f64, than: f64| if least { value < than } else { value > than };
+            if let Some(place) = worst_of(frame, scores, figure, worse) {
+                let at = kept.iter().position(|other| worse(place.value, other.value)).unwrap_or(kept.len());
+                kept.insert(at, place);
+                kept.truncate(TEN);
             }
         }
     }
+}
+
+/// The worst figure of a kind among a frame's planes.
+fn worst_of(frame: u64, scores: &FrameScores, figure: Figure, worse: impl Fn(f64, f64) -> bool) -> Option<Place> {
+    let mut worst: Option<Place> = None;
+    for (plane, scores) in scores.named().take(scores.planes.len()) {
+        for (field, value) in figures(figure, scores) {
+            match (value, &worst) {
+                (Some(value), Some(other)) if !worse(value, other.value) => {}
+                (Some(value), _) => worst = Some(Place { field, frame, plane, value }),
+                (None, _) => {}
+            }
+        }
+    }
+    worst
 }
 
 /// A figure of scores as reports print it.

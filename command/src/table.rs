@@ -1,17 +1,48 @@
-//! The report for people: a row for each plane of each frame, then the run, then where it was worst.
+//! The report for people: a row for each plane of each frame, then the run, then what its frames come to and where it was worst.
 
-use crate::decibels::{self, Decibels};
-use crate::report::{End, Job, Report};
+use crate::decibels::Decibels;
+use crate::report::{metric_of, values, End, Job, Place, Report, Value, FIELDS};
 use crate::score::{FrameScores, Scores};
 use crate::stop::PASSED;
+use crate::summary::{spaced, STATISTICS};
 use crate::thresholds::Broken;
 use std::io::{self, Write};
 
 const FOOT: &str = "
 Each plane's scores and each frame's combination come from proved calls. Not proved: decibels (dB), MS-SSIM's product of
 the scales, the squared error per sample (mse), the division by the weight in a combined SSIM, a run's means over its frames.
-Figures are rounded here; --json and --csv give all digits.
+Of every hundred frames 5 are as bad as p5 or worse, and 1 as bad as p1. Figures are rounded here; --json and --csv give all
+digits.
 ";
+
+/// A column: its field, its head, its width, and how it rounds.
+type Column = (&'static str, &'static str, usize, fn(f64) -> String);
+
+const COLUMNS: [Column; 15] = [
+    ("sq_err", "sq_err", 12, |value| format!("{:.0}", value)),
+    ("mse", "mse", 10, |value| format!("{:.4}", value)),
+    ("psnr_db", "PSNR dB", 9, decibels),
+    ("ssim", "SSIM", 9, share),
+    ("cs", "CS", 9, share),
+    ("ssim_db", "SSIM dB", 8, decibels),
+    ("scale1_ssim", "scale 1", 9, share),
+    ("scale2_ssim", "scale 2", 9, share),
+    ("scale3_ssim", "scale 3", 9, share),
+    ("scale4_ssim", "scale 4", 9, share),
+    ("scale5_ssim", "scale 5", 9, share),
+    ("msssim", "MS-SSIM", 9, share),
+    ("msssim_db", "MS-SSIM dB", 10, decibels),
+    ("hvs", "HVS", 10, |value| format!("{:.3e}", value)),
+    ("hvs_db", "HVS dB", 8, decibels),
+];
+
+fn share(value: f64) -> String {
+    format!("{:.6}", value)
+}
+
+fn decibels(value: f64) -> String {
+    format!("{:.3}", value)
+}
 
 #[derive(Default)]
 pub struct Table {
@@ -28,7 +59,7 @@ impl Report for Table {
         for note in job.notes {
             writeln!(out, "note:     {}", note)?;
         }
-        writeln!(out, "\n{}", self.heads())
+        writeln!(out, "\n{}", self.row("frame", "plane", |_, column| column.1.to_string()))
     }
 
     fn frame(&mut self, out: &mut dyn Write, number: u64, scores: &FrameScores, broken: &[Broken]) -> io::Result<()> {
@@ -38,6 +69,12 @@ impl Report for Table {
     fn end(&mut self, out: &mut dyn Write, end: &End<'_>) -> io::Result<()> {
         if let Some(run) = end.run {
             self.rows(out, "run", run, end.run_broken)?;
+        }
+        for (name, statistic) in STATISTICS {
+            for (plane, told) in end.summary.iter().flat_map(|summary| summary.told(statistic)) {
+                let values = spaced(&told);
+                writeln!(out, "{}", self.row(name, plane, |field, column| rounded(&values[field], column)))?;
+            }
         }
         writeln!(out)?;
         self.summary(out, end)?;
@@ -49,52 +86,27 @@ impl Report for Table {
 }
 
 impl Table {
-    fn heads(&self) -> String {
-        let mut line = format!("{:>6} {:<8}", "frame", "plane");
-        let [error, ssim, scales, msssim, hvs] = self.asked;
-        if error {
-            line += &format!(" {:>12} {:>10} {:>9}", "sq_err", "mse", "PSNR dB");
-        }
-        if ssim {
-            line += &format!(" {:>9} {:>9} {:>8}", "SSIM", "CS", "SSIM dB");
-        }
-        if scales {
-            (1..=5).for_each(|scale| line += &format!(" {:>9}", format!("scale {}", scale)));
-        }
-        if msssim {
-            line += &format!(" {:>9} {:>10}", "MS-SSIM", "MS-SSIM dB");
-        }
-        if hvs {
-            line += &format!(" {:>10} {:>8}", "HVS", "HVS dB");
-        }
-        line
-    }
-
     fn rows(&self, out: &mut dyn Write, frame: &str, scores: &FrameScores, broken: &[Broken]) -> io::Result<()> {
         for (plane, scores) in scores.named() {
             let mark = if broken.iter().any(|broken| broken.plane == plane) { "  broken" } else { "" };
-            writeln!(out, "{}{}", self.row(frame, plane, scores), mark)?;
+            let values = values(scores);
+            let cell = |field: usize, column: &Column| match perfect(column.0, scores) {
+                Some(word) => word.to_string(),
+                None => rounded(&values[field], column),
+            };
+            writeln!(out, "{}{}", self.row(frame, plane, cell), mark)?;
         }
         Ok(())
     }
 
-    fn row(&self, frame: &str, plane: &str, scores: &Scores) -> String {
+    /// A row of the asked columns; a cell is made from the field's number and the column.
+    fn row(&self, frame: &str, plane: &str, cell: impl Fn(usize, &Column) -> String) -> String {
         let mut line = format!("{:>6} {:<8}", frame, plane);
-        if let Some(record) = &scores.error {
-            let psnr = shown(scores.psnr_db, "identical");
-            line += &format!(" {:>12.0} {:>10.4} {:>9}", record.sq_err, decibels::mean_error(record), psnr);
-        }
-        if let Some(pair) = scores.ssim {
-            line += &format!(" {:>9.6} {:>9.6} {:>8}", pair.ssim, pair.cs, shown(scores.ssim_db, "perfect"));
-        }
-        for pair in scores.scales.iter().flatten() {
-            line += &format!(" {:>9.6}", pair.ssim);
-        }
-        if let Some(score) = scores.msssim {
-            line += &format!(" {:>9.6} {:>10}", score, shown(scores.msssim_db, "perfect"));
-        }
-        if let Some(score) = scores.hvs {
-            line += &format!(" {:>10.3e} {:>8}", score, shown(scores.hvs_db, "no error"));
+        for column in &COLUMNS {
+            let field = FIELDS.iter().position(|field| *field == column.0);
+            if let Some(field) = field.filter(|field| self.asked[metric_of(*field)]) {
+                line += &format!(" {:>width$}", cell(field, column), width = column.2);
+            }
         }
         line
     }
@@ -104,9 +116,8 @@ impl Table {
         if same {
             writeln!(out, "every frame is identical (PSNR 100)")?;
         } else {
-            for place in end.worst.places() {
-                let (field, frame, plane) = (place.field, place.frame, place.plane);
-                writeln!(out, "worst {}: {:?} in frame {}, plane {}", field, place.value, frame, plane)?;
+            for places in end.worst.places() {
+                worst(out, places)?;
             }
         }
         let frames = match end.frames {
@@ -126,11 +137,43 @@ impl Table {
     }
 }
 
-/// Decibels, or a word where nothing is better.
-fn shown(decibels: Option<Decibels>, perfect: &str) -> String {
-    match decibels {
-        Some(Decibels::Of(told)) => format!("{:.3}", told),
-        Some(Decibels::Perfect) => perfect.to_string(),
-        None => "none".to_string(),
+/// The worst frame, and those that come next.
+fn worst(out: &mut dyn Write, places: &[Place]) -> io::Result<()> {
+    let next = |place: &Place| format!("{} ({}, {:.6})", place.frame, place.plane, place.value);
+    if let Some((first, others)) = places.split_first() {
+        let Place { field, frame, plane, value } = first;
+        writeln!(out, "worst {}: {:?} in frame {}, plane {}", field, value, frame, plane)?;
+        let others: Vec<String> = others.iter().filter(|place| harmed(place)).map(next).collect();
+        if !others.is_empty() {
+            writeln!(out, "    then frames {}", others.join(", "))?;
+        }
     }
+    Ok(())
+}
+
+/// Whether anything could be better.
+fn harmed(place: &Place) -> bool {
+    match place.field {
+        "mse" | "hvs" => place.value > 0.0,
+        _ => place.value < 1.0,
+    }
+}
+
+fn rounded(value: &Value, column: &Column) -> String {
+    match value {
+        Value::Double(value) => column.3(*value),
+        _ => String::new(),
+    }
+}
+
+/// A word in the place of decibels that nothing can better.
+fn perfect(field: &str, scores: &Scores) -> Option<&'static str> {
+    let (decibels, word) = match field {
+        "psnr_db" => (scores.psnr_db, "identical"),
+        "ssim_db" => (scores.ssim_db, "perfect"),
+        "msssim_db" => (scores.msssim_db, "perfect"),
+        "hvs_db" => (scores.hvs_db, "no error"),
+        _ => (None, ""),
+    };
+    decibels.filter(|decibels| *decibels == Decibels::Perfect).map(|_| word)
 }

@@ -12,5 +12,6 @@ mod published;
 mod reports;
 mod run;
 mod scores;
+mod summary;
 mod usage;
 mod video;

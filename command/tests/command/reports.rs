@@ -23,7 +23,8 @@ fn json_and_csv_say_the_same() {
     let compare = files(&room);
     let csv = run(&[&compare[..], &words!["--csv"]].concat());
     let json = Json::read(run(&[&compare[..], &words!["--json"]].concat()).passes());
-    let mut lines = csv.passes().lines();
+    let told = |line: &&str| !["worst,", "mean,", "p5,", "p1,"].iter().any(|scope| line.starts_with(scope));
+    let mut lines = csv.passes().lines().filter(told);
     assert_eq!(lines.next(), Some(COLUMNS));
     let names: Vec<&str> = COLUMNS.split(',').collect();
     let mut scopes: Vec<(String, &Json)> = Vec::new();
@@ -79,6 +80,7 @@ fn json_has_its_documented_names() {
         "notes",
         "frames",
         "run",
+        "summary",
         "worst",
         "broken",
     ];

@@ -224,7 +224,8 @@ fn raw_files_and_a_pipe_give_what_y4m_gives() {
         let raw = run(&[&words!["compare", &a, &b][..], &told].concat());
         let fed = run_fed(&[&words!["compare", "-", &b][..], &told].concat(), &original.raw());
         assert_eq!(raw.passes(), fed.passes());
-        assert_eq!(raw.out.lines().count(), 1 + 4 * (original.frames[0].len() + 1) + 1);
+        let rows = raw.out.lines().filter(|line| line.starts_with("frame,") || line.starts_with("run,"));
+        assert_eq!(rows.count(), 4 * (original.frames[0].len() + 1));
         if depth >= 8 {
             let (c, d) = (room.file("a.y4m", &original.y4m()), room.file("b.y4m", &decoded.y4m()));
             assert_eq!(run(&words!["compare", &c, &d, "--csv"]).passes(), raw.out);
