@@ -6,3 +6,6 @@ pub mod Doubles
 pub mod Nearest
 pub mod Worked
 pub mod Folds
+pub mod Order
+pub mod Swap
+pub mod Overflow

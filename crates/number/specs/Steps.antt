@@ -20,7 +20,7 @@ infixl 60 _⊕_
 infixl 60 _⊖_
 infixl 70 _⊗_
 infixl 70 _⊘_
--- the double nearest a whole number, ties to even; it is the number itself up to 2 ^ 53
+-- the double nearest a whole number, ties to even; it is the number itself up to `exactLimit`
 abbrev pub double : ℕ → Float
 double n = ofInt binary64 (pos n)
 

@@ -2,9 +2,10 @@
 ghost use mathlib.Core.Path.{_≡_};
 ghost use Prim.Native.Nat.{_+_, _*_, _/_, _%_, _^_, _≤_, _<_};
 ghost use mathlib.Core.Bool.{false};
-ghost use lib.IntN.{pos};
-ghost use lib.Ieee.{binary64, ofInt, units};
+ghost use lib.Ieee.{binary64, units};
 ghost use lib.Ieee.Scale as Scale;
+ghost use Rattle.number.specs.Limits.{exactLimit};
+ghost use Rattle.number.specs.Steps.{double};
 ghost use Rattle.number.specs.Root.{nearestRoot, rootOf};
 
 mod near;
@@ -12,6 +13,11 @@ pub mod wide;
 
 // 2^52: a double's digits below its leading one stand below this, and it is what the leading one counts.
 const LEADING: u64 = 0x10_0000_0000_0000;
+
+// 2^53: up to here every whole number is a double. The second is that double.
+pub const EXACT_LIMIT: u64 = 0x20_0000_0000_0000;
+
+pub const EXACT_LIMIT_DOUBLE: f64 = 9007199254740992.0;
 
 // What asking for a root answers.
 pub enum Rooted {
@@ -54,10 +60,10 @@ fn scaled_root(m: u64, w: u64) -> f64
     f64::from_bits(w / 2 * LEADING + s)
 }
 
-// The double that equals n: up to 2^53 none is left out, and this is one machine conversion.
+// The double that equals n, by one machine conversion.
 pub fn exact(n: u64) -> f64
-    requires { ⌜ n ≤ 2 ^ 53 ⌝ }
-    ensures { λ r. ⌜ r ≡ ofInt binary64 (pos n) ⌝ }
+    requires { ⌜ n ≤ exactLimit ⌝ }
+    ensures { λ r. ⌜ r ≡ double n ⌝ }
 {
     (n as i64) as f64
 }

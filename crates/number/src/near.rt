@@ -3,6 +3,8 @@ ghost use mathlib.Core.Path.{_≡_};
 ghost use Prim.Native.Nat.{_+_, _-_, _*_, _/_, _^_, _≤_, _<_};
 ghost use Rattle.number.specs.Root.{isNearest, nearestRoot, wholeRoot};
 ghost use Rattle.number.specs.Wide.{valueOf};
+use crate::EXACT_LIMIT;
+use crate::LEADING;
 use crate::wide;
 use crate::wide::Wide;
 
@@ -21,7 +23,7 @@ pub fn nearest(m: u64, odd: u64) -> u64
     if is_nearest(n, t) {
         return t;
     }
-    searched(wide::product(n, 0x10_0000_0000_0000))
+    searched(wide::product(n, LEADING))
 }
 
 // Whether s is the whole number nearest the root of n * 2^52: s * s - s < n * 2^52 <= s * s + s. Of n * 2^52 the low 52 digits are 0,
@@ -60,7 +62,7 @@ fn ends_of(s: u64) -> Ends
     let cross = 2 * (a * b);
     let low = b * b;
     Ends {
-        below: high + (cross + (low + (0x20_0000_0000_0000 - s)) / 0x400_0000) / 0x400_0000,
+        below: high + (cross + (low + (EXACT_LIMIT - s)) / 0x400_0000) / 0x400_0000,
         above: high + (cross + (low + s) / 0x400_0000) / 0x400_0000,
     }
 }
@@ -71,7 +73,7 @@ fn guess(m: u64, odd: u64) -> u64
     requires { ⌜ (2 ^ 52 ≤ m) × (m < 2 ^ 53) × (odd < 2) ⌝ }
     ensures { λ r. ⌜ (2 ^ 52 ≤ r) × (r < 2 ^ 53) ⌝ }
 {
-    let bits = (1022 + odd) * 0x10_0000_0000_0000 + m;
+    let bits = (1022 + odd) * LEADING + m;
     let x = f64::from_bits(bits);
     let h = 0.5 * x;
     let y = f64::from_bits(0x5fe6_eb50_c7b5_37a9 - bits / 2);
@@ -90,9 +92,9 @@ fn digits_of(s: f64) -> u64
     ensures { λ r. ⌜ (2 ^ 52 ≤ r) × (r < 2 ^ 53) ⌝ }
 {
     if 1.0 <= s && s < 2.0 {
-        f64::to_bits(s) % 0x10_0000_0000_0000 + 0x10_0000_0000_0000
+        f64::to_bits(s) % LEADING + LEADING
     } else {
-        0x10_0000_0000_0000
+        LEADING
     }
 }
 
@@ -115,7 +117,7 @@ fn whole_root(n: Wide) -> u64
     ensures { λ r. ⌜ r ≡ wholeRoot 53 (valueOf n) ⌝ }
 {
     let mut low: u64 = 0;
-    let mut high: u64 = 0x20_0000_0000_0000;
+    let mut high: u64 = EXACT_LIMIT;
     while low + 1 < high {
         let mid = (low + high) / 2;
         if wide::less(n, wide::product(mid, mid)) {

@@ -5,3 +5,4 @@ pub mod Depth
 pub mod Rows
 pub mod Accept
 pub mod Several
+pub mod Exchange

@@ -4,6 +4,7 @@ use mathlib.Core.List.{List, [], _∷_}
 use Prim.Native.Nat.{ℕ, zero, suc, _+_, _*_, _-_, _^_, _≤_}
 use lib.ListN.{length, getD}
 use denote.Ref.{RefT, now}
+use Rattle.plane.specs.Limits.{mostDepth}
 use Rattle.plane.specs.declared.Size.{Size}
 use Rattle.plane.specs.declared.Layout.{Layout}
 
@@ -57,6 +58,10 @@ called wide a b width height strideA strideB depth = planesOf (sizeOf wide width
 -- "sample_max is 2^depth - 1"
 unfoldable pub maxOf : ℕ → ℕ
 maxOf depth = 2 ^ depth - 1
+
+-- the largest sample of any depth
+abbrev pub sampleLimit : ℕ
+sampleLimit = maxOf (mostDepth true)
 
 -- what stands at a place of a list
 abbrev pub at : List ℕ → ℕ → ℕ

@@ -15,6 +15,8 @@ ghost use Rattle.plane.specs.Tests.{noneAbove, rowSuits, samplesSuit, si
 pub const SIDE_LIMIT: usize = 8192;
 // The largest stride.
 pub const STRIDE_LIMIT: usize = 16384;
+// The largest depth of any sample, which is that of words.
+pub const DEPTH_LIMIT: u32 = 12;
 
 // What two planes share: whether their samples are words, their sides in samples, and their depth.
 pub struct Size {
@@ -40,7 +42,7 @@ pub fn depth_suits(wide: bool, depth: u32) -> bool
 {
     match depth {
         1..=8 => !wide,
-        9..=12 => wide,
+        9..=DEPTH_LIMIT => wide,
         _ => false,
     }
 }

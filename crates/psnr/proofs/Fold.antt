@@ -14,20 +14,20 @@ use Rattle.refusal.specs.Numbers.{totalNo}
 use Rattle.refusal.specs.First.{unless}
 use Rattle.refusal.proofs.Chain.{and-left, and-right}
 use Rattle.psnr.specs.declared.Record.{Record}
-use Rattle.psnr.specs.declared.Sums.{Sums}
+use Rattle.psnr.specs.declared.Tally.{Tally}
 use Rattle.psnr.specs.declared.Run.{Run}
 use Rattle.psnr.specs.declared.Run.the-variants.{Sound, Spoiled}
 use Rattle.psnr.specs.Limits.{countLimit, recordLimit, totalLimit}
 use Rattle.psnr.specs.Record.{joins}
-use Rattle.psnr.specs.Series.{allJoin, runSuits, errorTotal, countTotal, summed, seriesOf}
-use Rattle.psnr.specs.Fold.{noneYet, added, addBy, addOf, startOf, stepOf, foldFrom, finishOf}
-use Rattle.psnr.proofs.Lawful.{joins-lawful, lawful-count}
+use Rattle.psnr.specs.Series.{allJoin, runSuits, errorTotal, countTotal, seriesAnswer, seriesOf}
+use Rattle.psnr.specs.Inner.Fold.{tallyNone, tallyMore, runIf, runWith, runStart, runStep, runFrom, runFinish}
+use Rattle.psnr.proofs.Records.{joins-suits, suits-count}
 
 -- ---- a run cut in two: the second part goes on from what the first left
-pub fold-cut : (s : Run) (xs ys : List Record) → foldFrom s (xs ++ ys) ≡ foldFrom (foldFrom s xs) ys
-unfolding foldFrom
+pub fold-cut : (s : Run) (xs ys : List Record) → runFrom s (xs ++ ys) ≡ runFrom (runFrom s xs) ys
+unfolding runFrom
 fold-cut s [] ys = refl
-fold-cut s (x ∷ xs) ys = fold-cut (stepOf s x) xs ys
+fold-cut s (x ∷ xs) ys = fold-cut (runStep s x) xs ys
 
 pub error-cut : (xs ys : List Record) → errorTotal (xs ++ ys) ≡ errorTotal xs + errorTotal ys
 unfolding errorTotal
@@ -40,20 +40,20 @@ count-cut [] ys = omega arith
 count-cut (x ∷ xs) ys = omega (arith, count-cut xs ys)
 
 -- ---- what is spoiled stays so
-fold-spoiled : (rs : List Record) → foldFrom Spoiled rs ≡ Spoiled
-unfolding foldFrom stepOf
+fold-spoiled : (rs : List Record) → runFrom Spoiled rs ≡ Spoiled
+unfolding runFrom runStep
 fold-spoiled [] = refl
 fold-spoiled (r ∷ rs) = fold-spoiled rs
 
--- ---- sums of which each is within its cap
-record Held (s : Sums) : Type 0 where
+-- ---- a tally of which each number is within its cap
+record Capped (s : Tally) : Type 0 where
   few : s .records ≤ recordLimit
   low : s .error ≤ totalLimit + 1
   short : s .n ≤ recordLimit * countLimit
 
--- the sums with all of rs
-abbrev grown : Sums → List Record → Sums
-grown s rs =
+-- the tally with all of rs
+abbrev tallyAll : Tally → List Record → Tally
+tallyAll s rs =
     record {
       records = s .records + length rs;
       error = min (s .error + errorTotal rs) (totalLimit + 1);
@@ -61,37 +61,33 @@ grown s rs =
       «sample_max» = s .«sample_max»;
     }
 
-same : (max : ℕ) {a b c a′ b′ c′ : ℕ} → a ≡ a′ → b ≡ b′ → c ≡ c′
-    → _≡_ {A = Sums} (record { records = a; error = b; n = c; «sample_max» = max }) (record { records = a′; error = b′; n = c′; «sample_max» = max })
-same max p q r = λ i. record { records = p i; error = q i; n = r i; «sample_max» = max }
+tally-same : (max : ℕ) {a b c a′ b′ c′ : ℕ} → a ≡ a′ → b ≡ b′ → c ≡ c′
+    → _≡_ {A = Tally} (record { records = a; error = b; n = c; «sample_max» = max }) (record { records = a′; error = b′; n = c′; «sample_max» = max })
+tally-same max p q r = λ i. record { records = p i; error = q i; n = r i; «sample_max» = max }
 
-grown-none : (s : Sums) → Held s → grown s [] ≡ s
+tallyAll-none : (s : Tally) → Capped s → tallyAll s [] ≡ s
 unfolding errorTotal countTotal
-grown-none s h = same (s .«sample_max») (omega arith) (omega (arith, h .low)) (omega (arith, h .short))
+tallyAll-none s h = tally-same (s .«sample_max») (omega arith) (omega (arith, h .low)) (omega (arith, h .short))
 
-grown-more : (s : Sums) (r : Record) (rs : List Record) → grown (added s r) rs ≡ grown s (r ∷ rs)
+tallyAll-more : (s : Tally) (r : Record) (rs : List Record) → tallyAll (tallyMore s r) rs ≡ tallyAll s (r ∷ rs)
 unfolding errorTotal countTotal
-grown-more s r rs = same (s .«sample_max») (omega arith) (omega arith) (omega arith)
+tallyAll-more s r rs = tally-same (s .«sample_max») (omega arith) (omega arith) (omega arith)
 
--- sound while no record is bad and none too many
-abbrev runBy : Bool → Sums → Run
-runBy true s = Sound s
-runBy false s = Spoiled
-
-fold-is : (rs : List Record) (s : Sums) → Held s
-    → foldFrom (Sound s) rs ≡ runBy (leb (s .records + length rs) recordLimit && allJoin (s .«sample_max») rs) (grown s rs)
-unfolding foldFrom stepOf addOf allJoin
-fold-is [] s h = rw (le-leb (s .records + 0) recordLimit (omega (arith, h .few))) (ap Sound (sym (grown-none s h)))
-fold-is (r ∷ rs) s h = go (fold-is rs (added s r)) (ltb (s .records) recordLimit) refl (joins (s .«sample_max») r) refl
+-- the run is sound while no record is bad and none too many
+fold-is : (rs : List Record) (s : Tally) → Capped s
+    → runFrom (Sound s) rs ≡ runIf (leb (s .records + length rs) recordLimit && allJoin (s .«sample_max») rs) (tallyAll s rs)
+unfolding runFrom runStep runWith allJoin
+fold-is [] s h = rw (le-leb (s .records + 0) recordLimit (omega (arith, h .few))) (ap Sound (sym (tallyAll-none s h)))
+fold-is (r ∷ rs) s h = go (fold-is rs (tallyMore s r)) (ltb (s .records) recordLimit) refl (joins (s .«sample_max») r) refl
   where
-    go : (Held (added s r) → foldFrom (Sound (added s r)) rs ≡ runBy (leb (s .records + 1 + length rs) recordLimit && allJoin (s .«sample_max») rs) (grown (added s r) rs))
+    go : (Capped (tallyMore s r) → runFrom (Sound (tallyMore s r)) rs ≡ runIf (leb (s .records + 1 + length rs) recordLimit && allJoin (s .«sample_max») rs) (tallyAll (tallyMore s r) rs))
         → (a : Bool) → ltb (s .records) recordLimit ≡ a → (b : Bool) → joins (s .«sample_max») r ≡ b
-        → foldFrom (addBy (a && b) s r) rs ≡ runBy (leb (s .records + length (r ∷ rs)) recordLimit && (b && allJoin (s .«sample_max») rs)) (grown s (r ∷ rs))
+        → runFrom (runIf (a && b) (tallyMore s r)) rs ≡ runIf (leb (s .records + length (r ∷ rs)) recordLimit && (b && allJoin (s .«sample_max») rs)) (tallyAll s (r ∷ rs))
     go more false p b q = fold-spoiled rs ∙ rw (lt-leb (s .records + length (r ∷ rs)) recordLimit (omega (arith, ltb-false (s .records) recordLimit p))) refl
     go more true p false q = fold-spoiled rs ∙ rw (and-false (leb (s .records + length (r ∷ rs)) recordLimit)) refl
     go more true p true q =
         more (record { few = omega (arith, ltb-true (s .records) recordLimit p); low = omega arith; short = omega arith })
-        ∙ ap₂ (λ (k : ℕ) (t : Sums). runBy (leb k recordLimit && allJoin (s .«sample_max») rs) t) (omega arith) (grown-more s r rs)
+        ∙ ap₂ (λ (k : ℕ) (t : Tally). runIf (leb k recordLimit && allJoin (s .«sample_max») rs) t) (omega arith) (tallyAll-more s r rs)
 
 -- ---- the counts of sound records stay within their cap
 count-bound : (max : ℕ) (rs : List Record) → allJoin max rs ≡ true → countTotal rs ≤ length rs * countLimit
@@ -100,22 +96,22 @@ count-bound max [] j = omega arith
 count-bound max (r ∷ rs) j =
     omega (
       arith,
-      lawful-count r (joins-lawful max r (and-left (joins max r) (allJoin max rs) j)),
+      suits-count r (joins-suits max r (and-left (joins max r) (allJoin max rs) j)),
       count-bound max rs (and-right (joins max r) (allJoin max rs) j),
     )
 
 -- ---- the answer
--- the sums of no records
-held-none : (max : ℕ) → Held (noneYet max)
-held-none max = record { few = omega arith; low = omega arith; short = omega arith }
+-- the tally of no records
+capped-none : (max : ℕ) → Capped (tallyNone max)
+capped-none max = record { few = omega arith; low = omega arith; short = omega arith }
 
--- the answer of sums within their caps is that of the totals: one is above its limit exactly where the other is
+-- the answer of a tally within its caps is that of the totals: one is above its limit exactly where the other is
 module _ (E N max cap : ℕ) (l : N ≤ cap) where
   abbrev kept : ℕ
   kept = min (0 + E) (totalLimit + 1)
 
   capped : Dec (E ≤ totalLimit)
-      → summed (unless (leb kept totalLimit) totalNo 0) kept (min (0 + N) cap) max ≡ summed (unless (leb E totalLimit) totalNo 0) E N max
+      → seriesAnswer (unless (leb kept totalLimit) totalNo 0) kept (min (0 + N) cap) max ≡ seriesAnswer (unless (leb E totalLimit) totalNo 0) E N max
   capped (yes m) =
       let e : kept ≡ E = omega arith in
       let n : min (0 + N) cap ≡ N = omega arith in
@@ -135,8 +131,8 @@ module _ (r : Record) (rs : List Record) where
   unfolding runSuits
   suits = let e : 0 + length all ≡ length all = omega arith in rw (le-leb 1 (length all) (omega arith), e)
 
-  ended : (b : Bool) → (leb (0 + length all) recordLimit && allJoin max all) ≡ b → finishOf (runBy b (grown (noneYet max) all)) ≡ seriesOf all
-  unfolding finishOf seriesOf
+  ended : (b : Bool) → (leb (0 + length all) recordLimit && allJoin max all) ≡ b → runFinish (runIf b (tallyAll (tallyNone max) all)) ≡ seriesOf all
+  unfolding runFinish seriesOf
   ended false e = rw (suits, e)
   ended true e =
       let few : 0 + length all ≤ recordLimit = leb-true (0 + length all) recordLimit (and-left _ _ e) in
@@ -145,7 +141,7 @@ module _ (r : Record) (rs : List Record) where
       rw (suits, e) (capped (errorTotal all) (countTotal all) max (recordLimit * countLimit) cap (decLe (errorTotal all) totalLimit))
 
 -- the walk gives the answer of the definition, of every run
-pub series-is : (rs : List Record) → finishOf (foldFrom startOf rs) ≡ seriesOf rs
-unfolding finishOf foldFrom stepOf seriesOf runSuits
+pub series-is : (rs : List Record) → runFinish (runFrom runStart rs) ≡ seriesOf rs
+unfolding runFinish runFrom runStep seriesOf runSuits
 series-is [] = refl
-series-is (r ∷ rs) = ap finishOf (fold-is (r ∷ rs) (noneYet (r .«sample_max»)) (held-none (r .«sample_max»))) ∙ ended r rs _ refl
+series-is (r ∷ rs) = ap runFinish (fold-is (r ∷ rs) (tallyNone (r .«sample_max»)) (capped-none (r .«sample_max»))) ∙ ended r rs _ refl

@@ -1,27 +1,26 @@
--- What a user may count on, stated about the definitions: only visible samples count, equal planes differ by 0, it does not matter which
+-- What a user may count on, stated about the definitions: equal planes differ by 0, only visible samples count, it does not matter which
 -- plane comes first, and the record that a call answers is never bad. Assumes nothing.
 use mathlib.Core.Path.{_≡_, refl}
-use mathlib.Core.Bool.{Bool, true, false, _&&_}
-use mathlib.Core.List.{[], _∷_}
-use Prim.Native.Nat.{ℕ, _+_, _-_, _*_, _^_, _≤_, _<_}
-use native.Mathlib.Nat.{le-trans, mul-pos, mul-comm, mul-assoc}
+use mathlib.Core.Bool.{Bool, true, false}
+use Prim.Native.Nat.{ℕ, _+_, _-_, _*_, _≤_, _<_}
+use native.Mathlib.Nat.{le-trans, le-refl, le-of-lt, mul-pos, mul-comm, mul-assoc}
 use native.Mathlib.Omega.{arith}
 use borrow.Author.Tests.{eq-eqb, le-leb}
 use lib.Dec.{lit≤}
-use lib.IntN.{pos}
-use lib.Ieee.{binary64, ofInt}
 use Rattle.plane.specs.Limits.{sideLimit, leastDepth, mostDepth}
 use Rattle.plane.specs.declared.Size.{Size}
-use Rattle.plane.specs.Plane.{Plane, Planes, planesOf, maxOf, sampleAt, every}
+use Rattle.plane.specs.Plane.{Plane, Planes, planesOf, maxOf, sampleAt}
 use Rattle.plane.specs.Sums.{sumTo}
-use Rattle.plane.specs.Tests.{layoutTests, pairRefusal, longEnough, samplesSuit, strideSuits}
-use Rattle.plane.specs.Inner.Lawful.{AcceptedPair, Alike}
+use Rattle.plane.specs.Inner.Lawful.{AcceptedPair, Alike, Equivalent}
 use Rattle.plane.proofs.Sums.{sum-ext, sum-zero}
+use Rattle.plane.proofs.Exchange.{refusal-exchanged, refusal-equivalent}
+use Rattle.number.specs.Limits.{exactLimit}
+use Rattle.number.specs.Steps.{double}
 use Rattle.psnr.specs.Limits.{countLimit, totalLimit}
-use Rattle.psnr.specs.Squared.{squareOf, rowError, errorTo, errorOf, recordOf, squaredErrorOf}
-use Rattle.psnr.specs.Record.{countSuits, maxSuits, errorSuits, lawful}
+use Rattle.psnr.specs.Squared.{squareOf, rowError, errorTo, squaredErrorScore, recordOf, squaredErrorOf}
+use Rattle.psnr.specs.Record.{countSuits, maxSuits, errorSuits, recordSuits}
 use Rattle.psnr.proofs.Squares.{error-le, error-below, deepest, walkable, count-le}
-use Rattle.psnr.proofs.Lawful.{some-true}
+use Rattle.psnr.proofs.Records.{some-true}
 use Rattle.psnr.proofs.Whole.{whole-back}
 
 -- ---- one sample
@@ -35,44 +34,36 @@ square-swap a b = let z : a - b + (b - a) ≡ b - a + (a - b) = omega arith in r
 
 -- ---- the planes
 module _ (size : Size) where
-  abbrev rows : (f g : ℕ → ℕ → ℕ) → ((y x : ℕ) → y < size .height → x < size .width → f y x ≡ g y x)
+  rows : (f g : ℕ → ℕ → ℕ) → ((y x : ℕ) → y < size .height → x < size .width → f y x ≡ g y x)
       → sumTo (λ (y : ℕ). sumTo (f y) (size .width)) (size .height) ≡ sumTo (λ (y : ℕ). sumTo (g y) (size .width)) (size .height)
   rows f g h = sum-ext _ _ (size .height) (λ y ly. sum-ext _ _ (size .width) (λ x lx. h y x ly lx))
 
-  -- padding, strides and what comes after the last row do not count
-  pub visible-only : (a b a′ b′ : Plane) → Alike size a a′ → Alike size b b′ → errorOf (planesOf size a b) ≡ errorOf (planesOf size a′ b′)
-  unfolding errorTo rowError
-  visible-only a b a′ b′ p q = rows _ _ (λ y x ly lx. rw (p y x ly lx, q y x ly lx))
-
   -- equal planes give 0
-  pub equal-planes : (a b : Plane) → Alike size a b → errorOf (planesOf size a b) ≡ 0
+  pub equal-planes : (a b : Plane) → Alike size a b → squaredErrorScore (planesOf size a b) ≡ 0
   unfolding errorTo rowError
   equal-planes a b p =
       sum-zero _ (size .height) (λ y ly. sum-zero _ (size .width) (λ x lx. rw (p y x ly lx) (square-same (sampleAt b y x))))
 
-  -- the error is the same when the planes are exchanged
-  pub exchanged : (a b : Plane) → errorOf (planesOf size a b) ≡ errorOf (planesOf size b a)
+  -- padding, strides and what comes after the last row do not count
+  score-visible : (a b a′ b′ : Plane) → Alike size a a′ → Alike size b b′
+      → squaredErrorScore (planesOf size a b) ≡ squaredErrorScore (planesOf size a′ b′)
   unfolding errorTo rowError
-  exchanged a b = rows _ _ (λ y x ly lx. square-swap (sampleAt a y x) (sampleAt b y x))
+  score-visible a b a′ b′ p q = rows _ _ (λ y x ly lx. rw (p y x ly lx, q y x ly lx))
 
--- and so is the whole answer
-every-swap : (f : Plane → Bool) (a b : Plane) → every f (a ∷ b ∷ []) ≡ every f (b ∷ a ∷ [])
-every-swap f a b = go (f a) (f b)
-  where
-    go : (p q : Bool) → (p && (q && true)) ≡ (q && (p && true))
-    go true true = refl
-    go true false = refl
-    go false true = refl
-    go false false = refl
+  -- nor do they for the whole answer, its refusals with it: beside visible samples only tests 4 and 5 look at how a plane is lent
+  pub visible-only : {a b a′ b′ : Plane} → Equivalent size a a′ → Equivalent size b b′
+      → squaredErrorOf (planesOf size a b) ≡ squaredErrorOf (planesOf size a′ b′)
+  unfolding squaredErrorOf
+  visible-only {a} {b} {a′} {b′} p q = rw (refusal-equivalent size 0 p q, score-visible a b a′ b′ (p .alike) (q .alike))
 
-refusal-exchanged : (size : Size) (a b : Plane) (least : ℕ) → pairRefusal (planesOf size a b) least ≡ pairRefusal (planesOf size b a) least
-unfolding layoutTests
-refusal-exchanged size a b least =
-    rw (every-swap (λ (p : Plane). strideSuits (size .width) (p .stride)) a b, every-swap (longEnough size) a b, every-swap (samplesSuit size) a b)
+  -- which plane comes first does not count
+  score-exchanged : (a b : Plane) → squaredErrorScore (planesOf size a b) ≡ squaredErrorScore (planesOf size b a)
+  unfolding errorTo rowError
+  score-exchanged a b = rows _ _ (λ y x ly lx. square-swap (sampleAt a y x) (sampleAt b y x))
 
-pub answer-exchanged : (size : Size) (a b : Plane) → squaredErrorOf (planesOf size a b) ≡ squaredErrorOf (planesOf size b a)
-unfolding squaredErrorOf
-answer-exchanged size a b = rw (refusal-exchanged size a b 0, exchanged size a b)
+  pub exchanged : (a b : Plane) → squaredErrorOf (planesOf size a b) ≡ squaredErrorOf (planesOf size b a)
+  unfolding squaredErrorOf
+  exchanged a b = rw (refusal-exchanged size a b 0, score-exchanged a b)
 
 -- ---- the record
 -- no plane has more samples than a record may count: said of the limits, whatever they are
@@ -112,19 +103,19 @@ module _ {p : Planes} {least : ℕ} (c : AcceptedPair p least) where
       (omega (arith, c .sized .depth-least, c .sized .depth-most, one-depth wide, deepest wide))
       (rw e (eq-eqb top top refl))
 
-  most : errorOf p ≤ count * (top * top)
+  most : squaredErrorScore p ≤ count * (top * top)
   most =
       let l = error-le top p (size .height) (λ y ly x lx. c .each .0 .bounded .small y x ly lx) (λ y ly x lx. c .each .1 .0 .bounded .small y x ly lx) in
       rw (← (mul-assoc (size .height) (size .width) (top * top)), mul-comm (size .height) (size .width)) at l
 
-  error-ok : errorSuits (count * (top * top)) (ofInt binary64 (pos (errorOf p))) ≡ true
+  error-ok : errorSuits (count * (top * top)) (double (squaredErrorScore p)) ≡ true
   unfolding errorSuits totalLimit
   error-ok =
-      let l : errorOf p ≤ 2 ^ 53 = omega (arith, error-below (walkable c) (size .height) (omega arith)) in
-      let w = whole-back (errorOf p) l in
+      let l : squaredErrorScore p ≤ exactLimit = le-of-lt (error-below (walkable c) (le-refl _)) in
+      let w = whole-back (squaredErrorScore p) l in
       rw (w .0, w .1, le-leb _ _ most)
 
   -- the record that a call answers is never bad
-  pub record-lawful : lawful (recordOf p) ≡ true
-  unfolding lawful
-  record-lawful = rw (count-ok, max-ok, error-ok)
+  pub record-suits : recordSuits (recordOf p) ≡ true
+  unfolding recordSuits
+  record-suits = rw (count-ok, max-ok, error-ok)

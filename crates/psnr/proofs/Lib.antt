@@ -1,5 +1,6 @@
 pub mod Squares
 pub mod Whole
-pub mod Lawful
+pub mod Records
 pub mod Fold
 pub mod Laws
+pub mod Said

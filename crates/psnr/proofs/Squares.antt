@@ -1,4 +1,4 @@
--- How large the squared error can be, and what planes that no test refuses give the walk. Assumes nothing.
+-- How large the squared error can be, and that planes which no test refuses can be walked. Assumes nothing.
 use mathlib.Core.Path.{_≡_}
 use mathlib.Core.Bool.{Bool, true, false}
 use Prim.Native.Nat.{ℕ, _+_, _-_, _*_, _^_, _≤_, _<_}
@@ -7,14 +7,13 @@ use native.Mathlib.Omega.{arith}
 use lib.Dec.{lit<, lit≤}
 use Rattle.plane.specs.Limits.{sideLimit, mostDepth}
 use Rattle.plane.specs.declared.Size.{Size}
-use Rattle.plane.specs.Plane.{Plane, Planes, maxOf, sampleAt}
-use Rattle.plane.specs.Inner.Lawful.{Lawful, AcceptedPair}
+use Rattle.plane.specs.Plane.{Plane, Planes, maxOf, sampleLimit, sampleAt}
+use Rattle.plane.specs.Inner.Lawful.{Bounded, Lawful, AcceptedPair}
 use Rattle.plane.proofs.Depth.{max-grows}
-use Rattle.plane.proofs.Rows.{row-inside}
 use Rattle.plane.proofs.Sums.{sum-none, sum-more, sum-bound}
 use Rattle.psnr.specs.Limits.{totalLimit}
-use Rattle.psnr.specs.Rows.{topSample, RowThere, RowPair, PlanePair}
 use Rattle.psnr.specs.Squared.{apart, squareOf, rowError, errorTo}
+use Rattle.psnr.specs.Inner.Walk.{Walkable}
 
 -- ---- a sum counted up
 module _ (p : Planes) where
@@ -34,16 +33,16 @@ module _ (p : Planes) where
   unfolding errorTo
   error-more y = sum-more _ y
 
--- ---- how large it can be
-pub square-le : (m a b : ℕ) → a ≤ m → b ≤ m → squareOf a b ≤ m * m
+-- ---- how large it can be, where no sample is above m
+square-le : (m a b : ℕ) → a ≤ m → b ≤ m → squareOf a b ≤ m * m
 unfolding squareOf
 square-le m a b la lb = let l : apart a b ≤ m = omega arith in mul-le-mul l l
 
 -- none of the first n samples of row y is above m
-abbrev pub SmallRow : ℕ → ℕ → Plane → ℕ → Type 0
+abbrev SmallRow : ℕ → ℕ → Plane → ℕ → Type 0
 SmallRow m n p y = (x : ℕ) → x < n → sampleAt p y x ≤ m
 
-pub row-le : (m : ℕ) (p : Planes) (n y : ℕ) → SmallRow m n (p .a) y → SmallRow m n (p .b) y → rowError p n y ≤ n * (m * m)
+row-le : (m : ℕ) (p : Planes) (n y : ℕ) → SmallRow m n (p .a) y → SmallRow m n (p .b) y → rowError p n y ≤ n * (m * m)
 unfolding rowError
 row-le m p n y sa sb = sum-bound _ (m * m) n (λ (x : ℕ) (l : x < n). square-le m _ _ (sa x l) (sb x l))
 
@@ -52,11 +51,12 @@ pub error-le : (m : ℕ) (p : Planes) (n : ℕ) → ((y : ℕ) → y < n → Sma
 unfolding errorTo
 error-le m p n sa sb = sum-bound _ (p .size .width * (m * m)) n (λ (y : ℕ) (l : y < n). row-le m p (p .size .width) y (sa y l) (sb y l))
 
+-- ---- and at the limits
 -- the largest square
 abbrev top : ℕ
-top = topSample * topSample
+top = sampleLimit * sampleLimit
 
--- "At 8,192 by 8,192 and depth 12 it stays below 2^53", said of the limits, whatever they are
+-- the largest planes of the largest depth stay below the largest total: said of the limits, whatever they are
 pub limits-fit : sideLimit * (sideLimit * top) < totalLimit
 unfolding sideLimit mostDepth maxOf totalLimit
 limits-fit = lit< tt
@@ -70,21 +70,21 @@ pub total-fits : totalLimit < 2 ^ 64
 unfolding totalLimit
 total-fits = lit< tt
 
-pub row-room : {p : Planes} {y : ℕ} → RowPair p y → (x : ℕ) → x ≤ p .size .width → rowError p x y < 2 ^ 64
-row-room {p} {y} r x l =
+pub row-room : {p : Planes} {x y : ℕ} → Walkable p → x ≤ p .size .width → y < p .size .height → rowError p x y < 2 ^ 64
+row-room {p} {x} {y} w lx ly =
     lt-of-le-of-lt
-    (row-le topSample p x y (λ (k : ℕ) (m : k < x). r .first .small k (omega arith)) (λ (k : ℕ) (m : k < x). r .second .small k (omega arith)))
-    (lt-of-le-of-lt (mul-le-mul-right top (le-trans l (r .width-most))) row-fits)
+    (row-le sampleLimit p x y (λ k m. w .bounded .first .small y k ly (omega arith)) (λ k m. w .bounded .second .small y k ly (omega arith)))
+    (lt-of-le-of-lt (mul-le-mul-right top (le-trans lx (w .width-most))) row-fits)
 
 -- so that the double is exact
-module _ {p : Planes} (r : PlanePair p) (y : ℕ) (l : y ≤ p .size .height) where
+module _ {p : Planes} {y : ℕ} (w : Walkable p) (l : y ≤ p .size .height) where
   pub error-below : errorTo p y < totalLimit
   error-below =
       lt-of-le-of-lt
-      (error-le topSample p y
-      (λ (k : ℕ) (lk : k < y). r .rows k (omega arith) .first .small)
-      (λ (k : ℕ) (lk : k < y). r .rows k (omega arith) .second .small))
-      (lt-of-le-of-lt (mul-le-mul (le-trans l (r .height-most)) (mul-le-mul-right top (r .width-most))) limits-fit)
+      (error-le sampleLimit p y
+      (λ k lk x lx. w .bounded .first .small k x (omega arith) lx)
+      (λ k lk x lx. w .bounded .second .small k x (omega arith) lx))
+      (lt-of-le-of-lt (mul-le-mul (le-trans l (w .height-most)) (mul-le-mul-right top (w .width-most))) limits-fit)
 
   pub error-room : errorTo p y < 2 ^ 64
   error-room = omega (arith, error-below, total-fits)
@@ -95,22 +95,17 @@ unfolding mostDepth
 deepest true = lit≤ tt
 deepest false = lit≤ tt
 
-row-there : {size : Size} {y : ℕ} {p : Plane} → size .depth ≤ mostDepth true → Lawful size p → y < size .height → RowThere (size .width) p y
-row-there {size} {y} {p} d l m =
-    record {
-      long = row-inside (size .width) (p .stride) (l .bounded .long) m;
-      small = λ (x : ℕ) (lx : x < size .width). le-trans (l .bounded .small y x m lx) (max-grows d);
-    }
+-- no sample of a depth is above the largest of any
+below-limit : {size : Size} {p : Plane} → size .depth ≤ mostDepth true → Lawful size p → Bounded sampleLimit (size .width) (size .height) p
+below-limit d l = record { long = l .bounded .long; small = λ r c lr lc. le-trans (l .bounded .small r c lr lc) (max-grows d) }
 
-pub walkable : {p : Planes} {least : ℕ} → AcceptedPair p least → PlanePair p
+pub walkable : {p : Planes} {least : ℕ} → AcceptedPair p least → Walkable p
 walkable {p} c =
-    let size = p .size in
-    let d : size .depth ≤ mostDepth true = le-trans (c .sized .depth-most) (deepest (size .wide)) in
+    let d : p .size .depth ≤ mostDepth true = le-trans (c .sized .depth-most) (deepest (p .size .wide)) in
     record {
       width-most = c .sized .width-most;
       height-most = c .sized .height-most;
-      rows = λ (y : ℕ) (m : y < size .height).
-          record { width-most = c .sized .width-most; first = row-there d (c .each .0) m; second = row-there d (c .each .1 .0) m };
+      bounded = record { first = below-limit d (c .each .0); second = below-limit d (c .each .1 .0) };
     }
 
 -- ---- how large n can be

@@ -1,6 +1,6 @@
 pub mod Limits
-pub mod Rows
 pub mod Squared
 pub mod Record
 pub mod Series
-pub mod Fold
+pub mod Said
+pub mod Inner

@@ -1,5 +1,6 @@
 -- SCOPE, "When the desk says no": the limits of records and of a series, each number once, under a name. Definitions only.
-use Prim.Native.Nat.{ℕ, _^_}
+use Prim.Native.Nat.{ℕ}
+use Rattle.number.specs.Limits.{exactLimit}
 
 -- the largest n of a record
 unfoldable pub countLimit : ℕ
@@ -9,6 +10,6 @@ countLimit = 67108864
 unfoldable pub recordLimit : ℕ
 recordLimit = 65536
 
--- the largest total, up to which every whole number is a double
+-- the largest total: up to it the double is exact
 unfoldable pub totalLimit : ℕ
-totalLimit = 2 ^ 53
+totalLimit = exactLimit

@@ -8,7 +8,7 @@ use Rattle.plane.specs.Plane.{maxOf}
 use Rattle.psnr.specs.declared.Record.{Record}
 use Rattle.psnr.specs.Limits.{countLimit}
 
--- e is a whole number from 0 to 2 ^ 53; minus zero and not-a-number are none
+-- e is a whole number from 0 to the largest up to which all are doubles; minus zero and not-a-number are none
 abbrev pub isWhole : Float → Bool
 isWhole e = inUnsigned binary64 64 e
 
@@ -25,7 +25,7 @@ someTo f (suc n) = someTo f n || f n
 unfoldable pub countSuits : ℕ → Bool
 countSuits n = leb 1 n && leb n countLimit
 
--- max is 2^d - 1 for a d from 1 to 12
+-- max is 2^d - 1 for a d from 1 to the largest depth
 unfoldable pub maxSuits : ℕ → Bool
 maxSuits max = someTo (λ (i : ℕ). eqb max (maxOf (i + 1))) (mostDepth true)
 
@@ -33,10 +33,10 @@ maxSuits max = someTo (λ (i : ℕ). eqb max (maxOf (i + 1))) (mostDepth true)
 unfoldable pub errorSuits : ℕ → Float → Bool
 errorSuits most e = isWhole e && leb (wholeOf e) most
 
--- the record is not bad by itself: most is n × max², which stays below 2 ^ 53 (`squares-fit`)
-unfoldable pub lawful : Record → Bool
-lawful r = countSuits (r .n) && maxSuits (r .«sample_max») && errorSuits (r .n * (r .«sample_max» * r .«sample_max»)) (r .«sq_err»)
+-- the record is not bad by itself: its error is at most n × max², which stays below the largest total (`squares-fit`)
+unfoldable pub recordSuits : Record → Bool
+recordSuits r = countSuits (r .n) && maxSuits (r .«sample_max») && errorSuits (r .n * (r .«sample_max» * r .«sample_max»)) (r .«sq_err»)
 
 -- nor by a max unlike the first record's
 unfoldable pub joins : ℕ → Record → Bool
-joins max r = lawful r && eqb (r .«sample_max») max
+joins max r = recordSuits r && eqb (r .«sample_max») max

@@ -1,14 +1,13 @@
--- SCOPE, "Squared error": "A series takes a lent run of plane records and adds errors and counts, under their one max." Its
--- refusals are 10 and 11. Definitions only.
+-- SCOPE, "Squared error": the total of a run of records, their errors and counts added under their one max, and its refusals, 10
+-- and 11. Definitions only.
 use mathlib.Core.Bool.{Bool, true, _&&_}
 use mathlib.Core.List.{List, [], _∷_}
 use Prim.Native.Nat.{ℕ, zero, suc, _+_}
 use lib.Dec.{leb}
-use lib.IntN.{pos}
-use lib.Ieee.{binary64, ofInt}
 use lib.ListN.{length}
 use Rattle.refusal.specs.Numbers.{recordNo, totalNo}
 use Rattle.refusal.specs.First.{firstBroken}
+use Rattle.number.specs.Steps.{double}
 use Rattle.psnr.specs.declared.Record.{Record}
 use Rattle.psnr.specs.declared.Total.{Total}
 use Rattle.psnr.specs.declared.Summed.{Summed}
@@ -44,15 +43,18 @@ countTotal (r ∷ rs) = r .n + countTotal rs
 abbrev pub seriesTests : List Record → List (ℕ × Bool)
 seriesTests rs = (recordNo, runSuits rs) ∷ (totalNo, leb (errorTotal rs) totalLimit) ∷ []
 
--- the total of so large an error and count, under one max
-abbrev pub totalOf : ℕ → ℕ → ℕ → Total
-totalOf error n max = record { «sq_err» = ofInt binary64 (pos error); n = n; «sample_max» = max }
+abbrev pub seriesRefusal : List Record → ℕ
+seriesRefusal rs = firstBroken (seriesTests rs)
 
--- the answer, from the refusal, the error, the count and the max: "a total error of 0 says identical, 100 too"
-abbrev pub summed : ℕ → ℕ → ℕ → ℕ → Summed
-summed zero zero n max = Identical (totalOf 0 n max)
-summed zero (suc e) n max = Differs (totalOf (suc e) n max)
-summed (suc k) e n max = Refused (suc k)
+-- the total of so large an error and count, under one max
+abbrev pub seriesTotal : ℕ → ℕ → ℕ → Total
+seriesTotal error n max = record { «sq_err» = double error; n = n; «sample_max» = max }
+
+-- the answer, from the refusal, the error, the count and the max: a total error of 0 is told apart
+abbrev pub seriesAnswer : ℕ → ℕ → ℕ → ℕ → Summed
+seriesAnswer zero zero n max = Identical (seriesTotal 0 n max)
+seriesAnswer zero (suc e) n max = Differs (seriesTotal (suc e) n max)
+seriesAnswer (suc k) e n max = Refused (suc k)
 
 unfoldable pub seriesOf : List Record → Summed
-seriesOf rs = summed (firstBroken (seriesTests rs)) (errorTotal rs) (countTotal rs) (firstMax rs)
+seriesOf rs = seriesAnswer (seriesRefusal rs) (errorTotal rs) (countTotal rs) (firstMax rs)

@@ -1,8 +1,7 @@
 -- SCOPE, "Squared error": the sum, the record and the answer of a call. Definitions only.
 use Prim.Native.Nat.{ℕ, zero, suc, _+_, _-_, _*_}
-use lib.IntN.{pos}
-use lib.Ieee.{binary64, ofInt}
 use Rattle.refusal.specs.First.{byRefusal}
+use Rattle.number.specs.Steps.{double}
 use Rattle.plane.specs.Plane.{Planes, maxOf, sampleAt}
 use Rattle.plane.specs.Sums.{sumTo}
 use Rattle.plane.specs.Tests.{pairRefusal}
@@ -26,20 +25,23 @@ rowError p n y = sumTo (λ (x : ℕ). squareOf (sampleAt (p .a) y x) (sampleAt (
 unfoldable pub errorTo : Planes → ℕ → ℕ
 errorTo p n = sumTo (rowError p (p .size .width)) n
 
--- "Sum of (a - b)² over visible samples"
-abbrev pub errorOf : Planes → ℕ
-errorOf p = errorTo p (p .size .height)
+-- and over all visible samples
+abbrev pub squaredErrorScore : Planes → ℕ
+squaredErrorScore p = errorTo p (p .size .height)
 
--- "The record keeps squared error as a double, beside n and sample_max"
+-- the record: the squared error as a double, beside the count of samples and the largest that one can be
 abbrev pub recordOf : Planes → Record
 recordOf p =
-    record { «sq_err» = ofInt binary64 (pos (errorOf p)); n = p .size .width * p .size .height; «sample_max» = maxOf (p .size .depth) }
+    record { «sq_err» = double (squaredErrorScore p); n = p .size .width * p .size .height; «sample_max» = maxOf (p .size .depth) }
 
--- "with error 0 it says identical, 100 beside it"
+-- an error of 0 is told apart
 abbrev pub compared : ℕ → Record → SquaredError
 compared zero r = Identical r
 compared (suc e) r = Differs r
 
--- 3 does not belong to this call, so that the least side is 0
+-- the lowest of 1 2 4 5 6 that applies: 3 does not belong to this call, so that the least side is 0
+abbrev pub squaredErrorRefusal : Planes → ℕ
+squaredErrorRefusal p = pairRefusal p 0
+
 unfoldable pub squaredErrorOf : Planes → SquaredError
-squaredErrorOf p = let n = pairRefusal p 0 in byRefusal n (compared (errorOf p) (recordOf p)) (Refused n)
+squaredErrorOf p = let n = squaredErrorRefusal p in byRefusal n (compared (squaredErrorScore p) (recordOf p)) (Refused n)

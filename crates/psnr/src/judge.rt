@@ -1,14 +1,11 @@
 // Which record is bad, after SCOPE, "When the desk says no".
 ghost use mathlib.Core.Path.{_≡_};
 ghost use Prim.Native.Nat.{_+_, min};
-ghost use Rattle.psnr.specs.Record.{isWhole, countSuits, maxSuits, errorSuits, lawful, joins};
+ghost use Rattle.psnr.specs.Record.{isWhole, countSuits, maxSuits, errorSuits, recordSuits, joins};
 use crate::Record;
 
 // The largest n of a record.
 pub const COUNT_LIMIT: u64 = 67108864;
-
-// The largest depth of either sample width.
-const DEPTH_LIMIT: u32 = 12;
 
 // a + b, but no more than `cap`.
 pub fn capped_sum(a: u64, b: u64, cap: u64) -> u64
@@ -23,14 +20,15 @@ pub fn capped_sum(a: u64, b: u64, cap: u64) -> u64
     a + b
 }
 
-// Whether e is a whole number from 0 to 2^53, and not minus zero: one that comes back, bit for bit, when its fraction is cut off.
+// Whether e is a whole number, small enough that all are doubles, and not minus zero: one that comes back, bit for bit, when its fraction
+// is cut off.
 pub fn is_whole(e: f64) -> bool
     ensures { λ r. ⌜ r ≡ isWhole e ⌝ }
 {
     if !(-1.0 < e) {
         return false;
     }
-    if !(e <= 9007199254740992.0) {
+    if !(e <= number::EXACT_LIMIT_DOUBLE) {
         return false;
     }
     let n = std::num::truncating_f64_to_u64(e);
@@ -59,15 +57,15 @@ pub fn max_suits(max: u32) -> bool
     ensures { λ r. ⌜ r ≡ maxSuits max ⌝ }
 {
     let mut ok = false;
-    for i in 0..DEPTH_LIMIT {
+    for i in 0..plane::DEPTH_LIMIT {
         ok = ok | (max == plane::sample_max(i + 1));
     }
     ok
 }
 
 // Whether the record is not bad by itself. n and max are judged first, so that the product fits.
-pub fn is_lawful(r: Record) -> bool
-    ensures { λ b. ⌜ b ≡ lawful r ⌝ }
+pub fn record_suits(r: Record) -> bool
+    ensures { λ b. ⌜ b ≡ recordSuits r ⌝ }
 {
     let n = r.n;
     let max = r.sample_max;
@@ -84,5 +82,5 @@ pub fn is_lawful(r: Record) -> bool
 pub fn joins(max: u32, r: Record) -> bool
     ensures { λ b. ⌜ b ≡ joins max r ⌝ }
 {
-    is_lawful(r) & (r.sample_max == max)
+    record_suits(r) & (r.sample_max == max)
 }

@@ -2,9 +2,9 @@
 ghost use mathlib.Core.Path.{_≡_};
 ghost use mathlib.Core.Bool.{true, false};
 ghost use Rattle.plane.specs.Plane.{planes, called};
-ghost use Rattle.psnr.specs.Squared.{squaredErrorOf};
+ghost use Rattle.psnr.specs.Squared.{squaredErrorRefusal, squaredErrorOf};
 ghost use Rattle.psnr.specs.Series.{seriesOf};
-ghost use Rattle.psnr.specs.Fold.{addOf, startOf, stepOf, finishOf};
+ghost use Rattle.psnr.specs.Inner.Fold.{runWith, runStart, runStep, runFinish};
 use plane::Layout;
 use plane::Size;
 
@@ -13,10 +13,10 @@ pub mod walk;
 
 // The most records of a series.
 pub const RECORD_LIMIT: u64 = 65536;
-// The largest total, up to which every whole number is a double.
-pub const TOTAL_LIMIT: u64 = 0x20_0000_0000_0000;
+// The largest total: up to it the double is exact.
+pub const TOTAL_LIMIT: u64 = number::EXACT_LIMIT;
 
-// What a comparison of two planes leaves. The error is a whole number below 2^53.
+// What a comparison of two planes leaves. The error is a whole number, and exact.
 #[repr(C)]
 pub struct Record {
     pub sq_err: f64,
@@ -46,7 +46,7 @@ pub enum Summed {
 }
 
 // A series so far, in whole numbers: how many records, and what they add up to. An error above TOTAL_LIMIT is kept as one above it.
-pub struct Sums {
+pub struct Tally {
     pub records: u64,
     pub error: u64,
     pub n: u64,
@@ -56,21 +56,28 @@ pub struct Sums {
 // No record yet; sound ones only; or a bad one or one too many among them.
 pub enum Run {
     Empty,
-    Sound(Sums),
+    Sound(Tally),
     Spoiled,
 }
 
-// The squared error of two planes of either width, the samples of each as bytes and as words.
-fn squared_error(a8: &[u8], a16: &[u16], b8: &[u8], b16: &[u16], layout: Layout) -> SquaredError
+// The lowest of 1 2 4 5 6 that applies, and 0 where none does.
+fn refusal(a8: &[u8], a16: &[u16], b8: &[u8], b16: &[u16], layout: Layout) -> u8
+    ensures { λ r. ⌜ r ≡ squaredErrorRefusal (planes layout (a8 .entry) (a16 .entry) (b8 .entry) (b16 .entry)) ⌝ }
+{
+    plane::check(a8, a16, b8, b16, layout, 0)
+}
+
+// The answer for two planes of either width, the samples of each as bytes and as words.
+fn answer(a8: &[u8], a16: &[u16], b8: &[u8], b16: &[u16], layout: Layout) -> SquaredError
     ensures { λ r. ⌜ r ≡ squaredErrorOf (planes layout (a8 .entry) (a16 .entry) (b8 .entry) (b16 .entry)) ⌝ }
 {
-    let no = plane::check(a8, a16, b8, b16, layout, 0);
+    let no = refusal(a8, a16, b8, b16, layout);
     if no != 0 {
         return SquaredError::Refused(no);
     }
     let width = layout.size.width;
     let height = layout.size.height;
-    let error = walk::error_sum(a8, a16, b8, b16, layout);
+    let error = walk::score(a8, a16, b8, b16, layout);
     let record = Record {
         sq_err: number::exact(error),
         n: (width * height) as u64,
@@ -106,7 +113,7 @@ pub fn squared_error8(
         stride_a,
         stride_b,
     };
-    squared_error(a, &[0u16; 0], b, &[0u16; 0], layout)
+    answer(a, &[0u16; 0], b, &[0u16; 0], layout)
 }
 
 // The same of words.
@@ -132,41 +139,41 @@ pub fn squared_error16(
         stride_a,
         stride_b,
     };
-    squared_error(&[0u8; 0], a, &[0u8; 0], b, layout)
+    answer(&[0u8; 0], a, &[0u8; 0], b, layout)
 }
 
-// One record more, whatever the sums so far may be.
-pub fn add_record(s: Sums, r: Record) -> Run
-    ensures { λ t. ⌜ t ≡ addOf s r ⌝ }
+// One record more, whatever the tally so far may be.
+pub fn add_record(t: Tally, r: Record) -> Run
+    ensures { λ s. ⌜ s ≡ runWith t r ⌝ }
 {
-    if s.records >= RECORD_LIMIT {
+    if t.records >= RECORD_LIMIT {
         return Run::Spoiled;
     }
-    if !judge::joins(s.sample_max, r) {
+    if !judge::joins(t.sample_max, r) {
         return Run::Spoiled;
     }
-    Run::Sound(Sums {
-        records: s.records + 1,
-        error: judge::capped_sum(s.error, r.sq_err as u64, TOTAL_LIMIT + 1),
-        n: judge::capped_sum(s.n, r.n, RECORD_LIMIT * judge::COUNT_LIMIT),
-        sample_max: s.sample_max,
+    Run::Sound(Tally {
+        records: t.records + 1,
+        error: judge::capped_sum(t.error, r.sq_err as u64, TOTAL_LIMIT + 1),
+        n: judge::capped_sum(t.n, r.n, RECORD_LIMIT * judge::COUNT_LIMIT),
+        sample_max: t.sample_max,
     })
 }
 
 // A series of no records.
 pub fn start() -> Run
-    ensures { λ s. ⌜ s ≡ startOf ⌝ }
+    ensures { λ s. ⌜ s ≡ runStart ⌝ }
 {
     Run::Empty
 }
 
 // A series with one record more. What is spoiled stays so: the walk over a run then has no branch but its own.
 pub fn step(s: Run, r: Record) -> Run
-    ensures { λ t. ⌜ t ≡ stepOf s r ⌝ }
+    ensures { λ t. ⌜ t ≡ runStep s r ⌝ }
 {
     match s {
         Run::Empty => add_record(
-            Sums {
+            Tally {
                 records: 0,
                 error: 0,
                 n: 0,
@@ -181,7 +188,7 @@ pub fn step(s: Run, r: Record) -> Run
 
 // What the series answers once its last record has come.
 pub fn finish(s: Run) -> Summed
-    ensures { λ a. ⌜ a ≡ finishOf s ⌝ }
+    ensures { λ a. ⌜ a ≡ runFinish s ⌝ }
 {
     match s {
         Run::Empty => Summed::Refused(refusal::RECORD),

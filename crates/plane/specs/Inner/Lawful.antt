@@ -7,6 +7,7 @@ use lib.ListN.{length}
 use Rattle.plane.specs.declared.Size.{Size}
 use Rattle.plane.specs.Limits.{sideLimit, strideLimit, leastDepth, mostDepth}
 use Rattle.plane.specs.Plane.{Plane, Planes, both, needed, maxOf, sampleAt}
+use Rattle.plane.specs.Tests.{strideSuits, longEnough}
 
 -- enough samples, and no visible one above `most`
 pub record Bounded (most width height : ℕ) (p : Plane) : Type 0 where
@@ -51,3 +52,9 @@ AcceptedPair p least = Accepted (p .size) (both p) least
 -- the visible samples of two planes agree, whatever their strides, and whatever stands between and after their rows
 abbrev pub Alike : Size → Plane → Plane → Type 0
 Alike size a b = (r c : ℕ) → r < size .height → c < size .width → sampleAt a r c ≡ sampleAt b r c
+
+-- and 4 and 5, the tests of how a plane is lent, say the same of both: nothing else of a plane counts
+pub record Equivalent (size : Size) (a b : Plane) : Type 0 where
+  pub strides : strideSuits (size .width) (a .stride) ≡ strideSuits (size .width) (b .stride)
+  pub lengths : longEnough size a ≡ longEnough size b
+  pub alike : Alike size a b

@@ -7,27 +7,31 @@ use borrow.Author.Tests.{le-ltb, lt-ltb}
 use lib.Dec.{T}
 use Rattle.refusal.proofs.Chain.{fails, holds}
 use Rattle.psnr.specs.declared.Record.{Record}
-use Rattle.psnr.specs.declared.Sums.{Sums}
+use Rattle.psnr.specs.declared.Tally.{Tally}
 use Rattle.psnr.specs.declared.Run.the-variants.{Sound, Spoiled}
 use Rattle.psnr.specs.Limits.{recordLimit, countLimit, totalLimit}
 use Rattle.psnr.specs.Record.{joins}
-use Rattle.psnr.specs.Fold.{added, addOf}
-use Rattle.psnr.proofs.Lawful.{joins-lawful, lawful-whole}
+use Rattle.psnr.specs.Inner.Fold.{tallyMore, runWith}
+use Rattle.psnr.proofs.Records.{joins-suits, suits-whole}
 use Rattle.psnr.proofs.add_record.Statement.{statement}
 use Rattle.psnr.proofs.add_record.Tie as tie
 
-module _ (s : Sums) (r : Record) where
-  full : recordLimit ≤ s .records → Spoiled ≡ addOf s r
-  unfolding addOf
-  full l = rw (le-ltb (s .records) recordLimit l)
+module _ (t : Tally) (r : Record) where
+  full : recordLimit ≤ t .records → Spoiled ≡ runWith t r
+  unfolding runWith
+  full l = rw (le-ltb (t .records) recordLimit l)
 
-  bad : joins (s .«sample_max») r ≡ false → Spoiled ≡ addOf s r
-  unfolding addOf
+  bad : joins (t .«sample_max») r ≡ false → Spoiled ≡ runWith t r
+  unfolding runWith
   bad e = rw (e, and-false)
 
-  good : s .records < recordLimit → joins (s .«sample_max») r ≡ true → Sound (added s r) ≡ addOf s r
-  unfolding addOf
-  good l e = rw (lt-ltb (s .records) recordLimit l, e)
+  good : t .records < recordLimit → joins (t .«sample_max») r ≡ true → Sound (tallyMore t r) ≡ runWith t r
+  unfolding runWith
+  good l e = rw (lt-ltb (t .records) recordLimit l, e)
+
+-- the record suits, past the second branch
+suits : (c : tie.Else2) → let s = c .before .before .before .before in joins (s .args .t .«sample_max») (s .args .r) ≡ true
+suits c = holds (c .before .joins .ensures) (c .if2 .left)
 
 returns : tie.Need-returns
 unfolding recordLimit
@@ -44,7 +48,7 @@ add-t5 c = search needs
 
 float-to-int-capped-sum : tie.Need-float-to-int-capped-sum
 float-to-int-capped-sum c =
-    subst T (sym (lawful-whole _ (joins-lawful _ _ (holds (c .before .before .before .joins .ensures) (c .before .before .if2 .left))))) tt
+    subst T (sym (suits-whole _ (joins-suits _ _ (suits (c .before .before))))) tt
 
 add-capped-sum : tie.Need-add-capped-sum
 add-capped-sum c = search needs
@@ -61,8 +65,8 @@ capped-sum-requires-2 c κs = search needs
 returns-3 : tie.Need-returns-3
 unfolding recordLimit countLimit totalLimit
 returns-3 c =
-    rw (c .before .capped-sum .ensures, c .capped-sum2 .ensures)
-    (good _ _ (c .before .before .before .before .before .before .if1 .left) (holds (c .before .before .before .before .before .joins .ensures) (c .before .before .before .before .if2 .left)))
+    let e = c .before .before .before .before in
+    rw (c .before .capped-sum .ensures, c .capped-sum2 .ensures) (good _ _ (e .before .before .if1 .left) (suits e))
 
 pub add-record-spec : {M : Type 1} → statement M
 add-record-spec =

@@ -55,7 +55,7 @@ use Rattle.psnr.specs.declared.Record.{Record}
 use Rattle.psnr.specs.declared.Run.{Run}
 use Rattle.psnr.specs.declared.Summed.{Summed}
 use Rattle.psnr.specs.Series.{seriesOf}
-use Rattle.psnr.specs.Fold.{startOf, stepOf, foldFrom, finishOf}
+use Rattle.psnr.specs.Inner.Fold.{runStart, runStep, runFrom, runFinish}
 use Rattle.psnr.proofs.Fold.{series-is}
 use Rattle.psnr.proofs.Record as T
 use Rattle.psnr.proofs.Record.Laws as T′
@@ -104,16 +104,16 @@ offset-fits i n l g = omega arith
 next-fits : (i n : ℕ) → i < n → n < 2 ^ 64 → i + 1 < 2 ^ 64
 next-fits i n l g = omega arith
 
-fold-more : (a : Run) (ys : List Record) (i : ℕ) → i < length ys → foldFrom a (dropL i ys) ≡ foldFrom (stepOf a (getD ys i none)) (dropL (i + 1) ys)
-unfolding foldFrom
-fold-more a ys i l = ap (foldFrom a) (drop-cons ys i none l) ∙ ap (λ (k : ℕ). foldFrom (stepOf a (getD ys i none)) (dropL k ys)) (sym (add-one i))
+fold-more : (a : Run) (ys : List Record) (i : ℕ) → i < length ys → runFrom a (dropL i ys) ≡ runFrom (runStep a (getD ys i none)) (dropL (i + 1) ys)
+unfolding runFrom
+fold-more a ys i l = ap (runFrom a) (drop-cons ys i none l) ∙ ap (λ (k : ℕ). runFrom (runStep a (getD ys i none)) (dropL k ys)) (sym (add-one i))
 
-fold-none : (a : Run) (ys : List Record) (i : ℕ) → length ys ≤ i → foldFrom a (dropL i ys) ≡ a
-unfolding foldFrom
-fold-none a ys i l = ap (foldFrom a) (drop-of-length-le ys l)
+fold-none : (a : Run) (ys : List Record) (i : ℕ) → length ys ≤ i → runFrom a (dropL i ys) ≡ a
+unfolding runFrom
+fold-none a ys i l = ap (runFrom a) (drop-of-length-le ys l)
 
-fold-all : (a : Run) (ys : List Record) → a ≡ startOf → foldFrom a (dropL 0 ys) ≡ foldFrom startOf ys
-fold-all a ys e = ap (λ (s : Run). foldFrom s ys) e
+fold-all : (a : Run) (ys : List Record) → a ≡ runStart → runFrom a (dropL 0 ys) ≡ runFrom runStart ys
+fold-all a ys e = ap (λ (s : Run). runFrom s ys) e
 
 -- ---- the test of a `while`: the turn goes on knowing that it held, or the loop is left knowing that it failed
 while-test : {M : Type 1} {𝓤 : URA M} {H : Heap 𝓤} {A : Atoms 𝓤} {K : Type 0} {W : Given 𝓤 H A} {Γ : List (Item 𝓤)} {E : Env 𝓤 H} {C : Calls 𝓤 H} {Λ : Loops 𝓤 H} {q : KPost 𝓤 H}
@@ -136,14 +136,14 @@ module _ {M : Type 1} (𝓤 : URA M) (H : Heap 𝓤) (A : Atoms 𝓤) (mem : Mem
   abbrev Finish : Contract 𝓤
   Finish = tripleOf 𝓤 H A finish.signature (finish.spec 𝓤 H A mem run)
 
-  started : (s : Run) → ent 𝓤 (ensured 𝓤 H A start.ended (start.clauses 𝓤 H A mem run) tt tt tt s) (fact 𝓤 (s ≡ startOf))
-  started s = exE 𝓤 _ (λ ws. snd∗ 𝓤 (sem 𝓤 H A (lasts start.ended tt tt ws)) (fact 𝓤 (s ≡ startOf)))
+  started : (s : Run) → ent 𝓤 (ensured 𝓤 H A start.ended (start.clauses 𝓤 H A mem run) tt tt tt s) (fact 𝓤 (s ≡ runStart))
+  started s = exE 𝓤 _ (λ ws. snd∗ 𝓤 (sem 𝓤 H A (lasts start.ended tt tt ws)) (fact 𝓤 (s ≡ runStart)))
 
-  stepped : (a : Run) (r : Record) (s : Run) → ent 𝓤 (ensured 𝓤 H A step.ended (step.clauses 𝓤 H A mem run) tt (a, (r, tt)) tt s) (fact 𝓤 (s ≡ stepOf a r))
-  stepped a r s = exE 𝓤 _ (λ ws. snd∗ 𝓤 (sem 𝓤 H A (lasts step.ended tt (a, (r, tt)) ws)) (fact 𝓤 (s ≡ stepOf a r)))
+  stepped : (a : Run) (r : Record) (s : Run) → ent 𝓤 (ensured 𝓤 H A step.ended (step.clauses 𝓤 H A mem run) tt (a, (r, tt)) tt s) (fact 𝓤 (s ≡ runStep a r))
+  stepped a r s = exE 𝓤 _ (λ ws. snd∗ 𝓤 (sem 𝓤 H A (lasts step.ended tt (a, (r, tt)) ws)) (fact 𝓤 (s ≡ runStep a r)))
 
-  finished : (a : Run) (z : Summed) → ent 𝓤 (ensured 𝓤 H A finish.ended (finish.clauses 𝓤 H A mem run) tt (a, tt) tt z) (fact 𝓤 (z ≡ finishOf a))
-  finished a z = exE 𝓤 _ (λ ws. snd∗ 𝓤 (sem 𝓤 H A (lasts finish.ended tt (a, tt) ws)) (fact 𝓤 (z ≡ finishOf a)))
+  finished : (a : Run) (z : Summed) → ent 𝓤 (ensured 𝓤 H A finish.ended (finish.clauses 𝓤 H A mem run) tt (a, tt) tt z) (fact 𝓤 (z ≡ runFinish a))
+  finished a z = exE 𝓤 _ (λ ws. snd∗ 𝓤 (sem 𝓤 H A (lasts finish.ended tt (a, tt) ws)) (fact 𝓤 (z ≡ runFinish a)))
 
   abbrev to-start : Start .Ghost
   to-start = ((tt, tt, tt, tt, tt), tt)
@@ -195,7 +195,7 @@ module _ {M : Type 1} (𝓤 : URA M) (H : Heap 𝓤) (A : Atoms 𝓤) (W : Given
     u : Val
     is : Is S.the-row a (u ∷ [])
     le : i ≤ length ys
-    folded : foldFrom a (dropL i ys) ≡ foldFrom startOf ys
+    folded : runFrom a (dropL i ys) ≡ runFrom runStart ys
 
   abbrev Nearer : State → State → Type 0
   Nearer t s = length ys - t .i < length ys - s .i
@@ -254,7 +254,7 @@ module _ {M : Type 1} (𝓤 : URA M) (H : Heap 𝓤) (A : Atoms 𝓤) (W : Given
           calls-at ! (fmOf 𝓤 H (W .laws) 𝓣) (Step 𝓤 H A mem run) known-step (to-step 𝓤 H A mem run (s .a) (s .u) elem (val elem))
           (and-then ! (load ! (from ! (stop !)) (look ! 15 refl)) (and-then ! (load ! (from ! (stop !)) (look ! 11 refl)) (no-more !))) (λ u′.
           use1 W (later (some (λ (a′ : Run). (‵ ftrue ⊛ ‵ (S.the-row .own a′ (u′ ∷ []))) ⊛ raw (ensured 𝓤 H A step.ended (step.clauses 𝓤 H A mem run) tt (s .a, (elem, tt)) tt a′)))) (id⊢ 𝓤 _) $ await ! tt $ pick ! (λ a′.
-          split ! $ move ! (1 ∷ []) $ use1 W (raw (fact 𝓤 (a′ ≡ stepOf (s .a) elem))) (stepped 𝓤 H A mem run (s .a) elem a′) $ heard ! (a′ ≡ stepOf (s .a) elem) (λ e. split ! $ drop ! $
+          split ! $ move ! (1 ∷ []) $ use1 W (raw (fact 𝓤 (a′ ≡ runStep (s .a) elem))) (stepped 𝓤 H A mem run (s .a) elem a′) $ heard ! (a′ ≡ runStep (s .a) elem) (λ e. split ! $ drop ! $
           peeks ! S.the-row (Is S.the-row) (shows 𝓤 H A S.the-row) a′ (u′ ∷ []) (λ ia. drop ! $
           land ! (from ! (stop !)) (store ! 14 refl (EL.lawful S.the-type S′.the-laws 𝓤 H A W tt .typed a′ _ ia .0)) $
           -- i + 1, and the temporaries are room again
@@ -266,13 +266,13 @@ module _ {M : Type 1} (𝓤 : URA M) (H : Heap 𝓤) (A : Atoms 𝓤) (W : Given
           use0 W (raw (Finish 𝓤 H A mem run .pre (to-finish 𝓤 H A mem run (s .a) (s .u)))) (goes-finish 𝓤 H A mem run W (s .a) (s .u) (s .is)) $
           calls-at ! (fmOf 𝓤 H (W .laws) 𝓣) (Finish 𝓤 H A mem run) known-finish (to-finish 𝓤 H A mem run (s .a) (s .u)) (and-then ! (load ! (from ! (stop !)) (look ! 15 refl)) (no-more !)) (λ w.
           use1 W (later (some (λ (z : Summed). (‵ ftrue ⊛ ‵ (R.the-row .own z (w ∷ []))) ⊛ raw (ensured 𝓤 H A finish.ended (finish.clauses 𝓤 H A mem run) tt (s .a, tt) tt z)))) (id⊢ 𝓤 _) $ await ! tt $ pick ! (λ z.
-          split ! $ move ! (1 ∷ []) $ use1 W (raw (fact 𝓤 (z ≡ finishOf (s .a)))) (finished 𝓤 H A mem run (s .a) z) $ heard ! (z ≡ finishOf (s .a)) (λ e. split ! $ drop ! $
+          split ! $ move ! (1 ∷ []) $ use1 W (raw (fact 𝓤 (z ≡ runFinish (s .a)))) (finished 𝓤 H A mem run (s .a) z) $ heard ! (z ≡ runFinish (s .a)) (λ e. split ! $ drop ! $
           peeks ! R.the-row (Is R.the-row) (shows 𝓤 H A R.the-row) z (w ∷ []) (λ iz. drop ! $
           land ! (from ! (stop !)) (init ! 18 refl (EL.lawful R.the-type R′.the-laws 𝓤 H A W tt .typed z _ iz .0)) $
           returns ! (look ! 18 refl) $ forget ! 6 refl $ forget ! 8 refl $ forget ! 12 refl $ forget ! 14 refl $ forget ! 16 refl $ forget ! 18 refl $
           move ! (18 ∷ 19 ∷ []) $ free1 ! $ move ! (16 ∷ 17 ∷ []) $ free1 ! $ move ! (14 ∷ 15 ∷ []) $ free1 ! $ move ! (12 ∷ 13 ∷ []) $ free1 ! $ move ! (10 ∷ 11 ∷ []) $ free1 ! $
           move ! (8 ∷ 9 ∷ []) $ free1 ! $ move ! (6 ∷ 7 ∷ []) $ free1 ! $ move ! (4 ∷ 5 ∷ []) $ free1 ! $ move ! (2 ∷ 3 ∷ []) $ free1 ! $ free0 ! $ keep ! (0 ∷ []) $
-          by ! (exits z w (e ∙ ap finishOf (sym (fold-none (s .a) ys (s .i) (nltb→le (s .i) (length ys) over)) ∙ s .folded) ∙ series-is ys) iz))))))
+          by ! (exits z w (e ∙ ap runFinish (sym (fold-none (s .a) ys (s .i) (nltb→le (s .i) (length ys) over)) ∙ s .folded) ∙ series-is ys) iz))))))
         where
           elem : Record
           elem = getD ys (s .i) none
@@ -286,14 +286,14 @@ module _ {M : Type 1} (𝓤 : URA M) (H : Heap 𝓤) (A : Atoms 𝓤) (W : Given
           more-fits : T (ltb (s .i) (length ys)) → s .i + 1 < 2 ^ 64
           more-fits less = next-fits (s .i) (length ys) (below less) (gn .0)
 
-          next : T (ltb (s .i) (length ys)) → (a′ : Run) (u′ : Val) → a′ ≡ stepOf (s .a) elem → Is S.the-row a′ (u′ ∷ []) → State
+          next : T (ltb (s .i) (length ys)) → (a′ : Run) (u′ : Val) → a′ ≡ runStep (s .a) elem → Is S.the-row a′ (u′ ∷ []) → State
           next less a′ u′ e ia = record {
             i = s .i + 1;
             a = a′;
             u = u′;
             is = ia;
             le = add-one-le (below less);
-            folded = ap (λ (k : Run). foldFrom k (dropL (s .i + 1) ys)) e ∙ (sym (fold-more (s .a) ys (s .i) (below less)) ∙ s .folded);
+            folded = ap (λ (k : Run). runFrom k (dropL (s .i + 1) ys)) e ∙ (sym (fold-more (s .a) ys (s .i) (below less)) ∙ s .folded);
           }
 
       -- the loop, and the rest of the body
@@ -308,7 +308,7 @@ module _ {M : Type 1} (𝓤 : URA M) (H : Heap 𝓤) (A : Atoms 𝓤) (W : Given
         use0 W (raw (Start 𝓤 H A mem run .pre (to-start 𝓤 H A mem run))) (goes-start 𝓤 H A mem run W) $
         calls-at ! (fmOf 𝓤 H (W .laws) 𝓣) (Start 𝓤 H A mem run) known-start (to-start 𝓤 H A mem run) (no-more !) (λ u.
         use1 W (later (some (λ (a : Run). (‵ ftrue ⊛ ‵ (S.the-row .own a (u ∷ []))) ⊛ raw (ensured 𝓤 H A start.ended (start.clauses 𝓤 H A mem run) tt tt tt a)))) (id⊢ 𝓤 _) $ await ! tt $ pick ! (λ a.
-        split ! $ move ! (1 ∷ []) $ use1 W (raw (fact 𝓤 (a ≡ startOf))) (started 𝓤 H A mem run a) $ heard ! (a ≡ startOf) (λ e. split ! $ drop ! $
+        split ! $ move ! (1 ∷ []) $ use1 W (raw (fact 𝓤 (a ≡ runStart))) (started 𝓤 H A mem run a) $ heard ! (a ≡ runStart) (λ e. split ! $ drop ! $
         peeks ! S.the-row (Is S.the-row) (shows 𝓤 H A S.the-row) a (u ∷ []) (λ ia. drop ! $
         land ! (from ! (stop !)) (init ! 12 refl (EL.lawful S.the-type S′.the-laws 𝓤 H A W tt .typed a _ ia .0)) $
         assigns ! (of-opd ! (lit ! tt)) (from ! (stop !)) (init ! 10 refl (tt, record { fits = lit< tt })) $

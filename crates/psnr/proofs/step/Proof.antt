@@ -2,7 +2,7 @@
 use mathlib.Core.Path.{sym, ap, _∙_}
 use borrow.Author.Needs.{needs}
 use Rattle.psnr.specs.declared.Run.{Run}
-use Rattle.psnr.specs.Fold.{stepOf}
+use Rattle.psnr.specs.Inner.Fold.{runStep}
 use Rattle.psnr.proofs.step.Statement.{statement}
 use Rattle.psnr.proofs.step.Tie as tie
 
@@ -22,16 +22,16 @@ enum-told-2 : tie.Need-enum-told-2
 enum-told-2 c = search needs
 
 returns : tie.Need-returns
-unfolding stepOf
-returns c = c .add-record .ensures ∙ sym (ap (λ (z : Run). stepOf z (c .before .before .before .args .r)) (c .before .enum-told .given .1))
+unfolding runStep
+returns c = c .add-record .ensures ∙ sym (ap (λ (z : Run). runStep z (c .before .before .before .args .r)) (c .before .enum-told .given .1))
 
 returns-2 : tie.Need-returns-2
-unfolding stepOf
-returns-2 c = c .add-record2 .ensures ∙ sym (ap (λ (z : Run). stepOf z (c .before .before .before .before .args .r)) (c .before .before .s .given .1))
+unfolding runStep
+returns-2 c = c .add-record2 .ensures ∙ sym (ap (λ (z : Run). runStep z (c .before .before .before .before .args .r)) (c .before .before .s .given .1))
 
 returns-3 : tie.Need-returns-3
-unfolding stepOf
-returns-3 c = sym (ap (λ (z : Run). stepOf z (c .before .before .args .r)) (c .enum-told2 .given .1))
+unfolding runStep
+returns-3 c = sym (ap (λ (z : Run). runStep z (c .before .before .args .r)) (c .enum-told2 .given .1))
 
 pub step-spec : {M : Type 1} → statement M
 step-spec =

@@ -7,7 +7,7 @@ use lib.Dec.{eqb}
 use Rattle.plane.specs.Limits.{mostDepth}
 use Rattle.plane.specs.Plane.{maxOf}
 use Rattle.psnr.specs.Record.{someTo, maxSuits}
-use Rattle.psnr.proofs.Lawful.{some-none, some-more}
+use Rattle.psnr.proofs.Records.{some-none, some-more}
 use Rattle.psnr.proofs.judge.max_suits.Statement.{statement}
 use Rattle.psnr.proofs.judge.max_suits.Tie as tie
 

@@ -1,4 +1,4 @@
--- `psnr::squared_error` meets its contract. Assumes nothing.
+-- `psnr::answer` meets its contract. Assumes nothing.
 use mathlib.Core.Path.{_≡_, refl, sym, _∙_}
 use Prim.Native.Nat.{ℕ, zero, suc}
 use native.Mathlib.Nat.{lt-of-le-of-lt, le-of-lt, le-refl}
@@ -6,17 +6,16 @@ use native.Mathlib.Omega.{arith}
 use borrow.Author.Needs.{needs}
 use Rattle.refusal.proofs.Chain.{refused}
 use Rattle.plane.specs.Plane.{Planes, planes}
-use Rattle.plane.specs.Tests.{pairRefusal}
 use Rattle.plane.specs.Inner.Lawful.{AcceptedPair}
 use Rattle.plane.proofs.Accept.{accepted}
 use Rattle.plane.proofs.Depth.{depth-small}
 use Rattle.psnr.specs.declared.Record.{Record}
 use Rattle.psnr.specs.declared.SquaredError.the-variants.{Differs, Identical}
 use Rattle.psnr.specs.Limits.{totalLimit}
-use Rattle.psnr.specs.Squared.{compared, squaredErrorOf}
+use Rattle.psnr.specs.Squared.{compared, squaredErrorRefusal, squaredErrorOf}
 use Rattle.psnr.proofs.Squares.{walkable, error-below, count-le, count-fits}
-use Rattle.psnr.proofs.squared_error.Statement.{statement}
-use Rattle.psnr.proofs.squared_error.Tie as tie
+use Rattle.psnr.proofs.answer.Statement.{statement}
+use Rattle.psnr.proofs.answer.Tie as tie
 
 -- the answer by its cases
 identical : (e : ℕ) (r : Record) → e ≡ 0 → Identical r ≡ compared e r
@@ -31,53 +30,60 @@ differs (suc e) r n = refl
 abbrev both : tie.Start → Planes
 both s = planes (s .args .layout) (s .args .a8) (s .args .a16) (s .args .b8) (s .args .b16)
 
--- no test refuses them, past the first branch
-none : (c : tie.Else1) → pairRefusal (both (c .before .before .before .before .before .before)) 0 ≡ 0
-none c = sym (c .before .check .ensures) ∙ c .if1 .left
+-- the function's start, from past the first branch
+abbrev start : tie.Else1 → tie.Start
+start c = c .before .before .before .before .before .before
 
-taken : (c : tie.Else1) → AcceptedPair (both (c .before .before .before .before .before .before)) 0
+-- there no test refuses the planes
+none : (c : tie.Else1) → squaredErrorRefusal (both (start c)) ≡ 0
+none c = sym (c .before .refusal .ensures) ∙ c .if1 .left
+
+taken : (c : tie.Else1) → AcceptedPair (both (start c)) 0
 taken c = accepted _ _ _ (none c)
 
-check-requires : tie.Need-check-requires
-check-requires c κs = search needs
+refusal-requires : tie.Need-refusal-requires
+refusal-requires c κs = search needs
 
 returns : tie.Need-returns
 unfolding squaredErrorOf
-returns c = rw (← (c .before .check .ensures)) (refused _ _ _ (c .if1 .taken))
+returns c = rw (← (c .before .refusal .ensures)) (refused _ _ _ (c .if1 .taken))
 
-error-sum-requires : tie.Need-error-sum-requires
-error-sum-requires c κs = walkable (taken c)
+score-requires : tie.Need-score-requires
+score-requires c κs = walkable (taken c)
 
 exact-requires : tie.Need-exact-requires
 unfolding totalLimit
-exact-requires c κs = rw (c .error-sum .ensures) (le-of-lt (error-below (walkable (taken (c .before))) _ (le-refl _)))
+exact-requires c κs = rw (c .score .ensures) (le-of-lt (error-below (walkable (taken (c .before))) (le-refl _)))
 
 mul-t13 : tie.Need-mul-t13
 mul-t13 c =
     let a = taken (c .before .before) .sized in record { fits = lt-of-le-of-lt (count-le (a .width-most) (a .height-most)) count-fits }
 
 sample-max-requires : tie.Need-sample-max-requires
-sample-max-requires c κs = let s = c .before .before .before .before .before .before .before .before in omega (arith, taken (c .before .before) .sized .depth-most, depth-small (s .args .layout .size .wide))
+sample-max-requires c κs =
+    let e = c .before .before in omega (arith, taken e .sized .depth-most, depth-small (start e .args .layout .size .wide))
 
 returns-2 : tie.Need-returns-2
 unfolding squaredErrorOf
 returns-2 c =
-    rw (none (c .before .before .before .before), c .before .before .exact .ensures, c .before .sample-max .ensures, ← (c .before .before .before .error-sum .ensures))
+    let s = c .before .before .before in
+    rw (none (s .before), c .before .before .exact .ensures, c .before .sample-max .ensures, ← (s .score .ensures))
     (identical _ _ (c .if2 .taken))
 
 returns-3 : tie.Need-returns-3
 unfolding squaredErrorOf
 returns-3 c =
-    rw (none (c .before .before .before .before), c .before .before .exact .ensures, c .before .sample-max .ensures, ← (c .before .before .before .error-sum .ensures))
+    let s = c .before .before .before in
+    rw (none (s .before), c .before .before .exact .ensures, c .before .sample-max .ensures, ← (s .score .ensures))
     (differs _ _ (c .if2 .left))
 
-pub squared-error-spec : {M : Type 1} → statement M
-squared-error-spec =
+pub answer-spec : {M : Type 1} → statement M
+answer-spec =
     tie.close
     (tie.spec
-    check-requires
+    refusal-requires
     returns
-    error-sum-requires
+    score-requires
     exact-requires
     mul-t13
     sample-max-requires

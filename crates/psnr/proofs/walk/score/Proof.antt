@@ -1,13 +1,13 @@
--- `psnr::walk::error_sum` meets its contract. Assumes nothing.
+-- `psnr::walk::score` meets its contract. Assumes nothing.
 use mathlib.Core.Path.{_≡_, sym}
 use Prim.Native.Nat.{_+_, _-_, _≤_}
 use native.Mathlib.Omega.{arith}
 use borrow.Author.Needs.{needs}
-use Rattle.plane.specs.Plane.{planesIn, planes}
+use Rattle.plane.specs.Plane.{Planes, planesIn, planes}
 use Rattle.psnr.specs.Squared.{errorTo}
 use Rattle.psnr.proofs.Squares.{error-none, error-more, error-room}
-use Rattle.psnr.proofs.walk.error_sum.Statement.{statement}
-use Rattle.psnr.proofs.walk.error_sum.Tie as tie
+use Rattle.psnr.proofs.walk.score.Statement.{statement}
+use Rattle.psnr.proofs.walk.score.Tie as tie
 
 abbrev Inv-loop : tie.InvT-loop
 Inv-loop a8 a16 b8 b16 layout sum₀ y₀ y-end sum y = (y ≤ layout .size .height) × (sum ≡ errorTo (planesIn layout a8 a16 b8 b16) y)
@@ -15,20 +15,23 @@ Inv-loop a8 a16 b8 b16 layout sum₀ y₀ y-end sum y = (y ≤ layout .size .hei
 abbrev μ-loop : tie.MeasureT-loop
 μ-loop a8 a16 b8 b16 layout sum₀ y₀ y-end sum y = layout .size .height - y
 
+-- the two planes
+abbrev both : tie.Start Inv-loop μ-loop → Planes
+both s = planes (s .args .layout) (s .args .a8) (s .args .a16) (s .args .b8) (s .args .b16)
+
 loop-holds : tie.Need-loop-holds Inv-loop μ-loop
 loop-holds c = (omega arith, sym (error-none _))
 
 row-error-requires : tie.Need-row-error-requires Inv-loop μ-loop
-row-error-requires c κs = c .before .before .before .before .before .before .pre .rows _ (omega arith)
+row-error-requires c κs = search needs
 
 -- the sum with one row more
-more : (c : tie.After-row-error Inv-loop μ-loop) → let s = c .before .before .before .before .before .before .before in
-    c .before .before .loop .sum + c .row-error .result
-    ≡ errorTo (planes (s .args .layout) (s .args .a8) (s .args .a16) (s .args .b8) (s .args .b16)) (c .before .before .loop .y + 1)
+more : (c : tie.After-row-error Inv-loop μ-loop) → let l = c .before .before in
+    l .loop .sum + c .row-error .result ≡ errorTo (both (l .before .before .before .before .before)) (l .loop .y + 1)
 more c = rw (error-more, ← (c .before .before .loop .inv .1), c .row-error .ensures)
 
 add-sum : tie.Need-add-sum Inv-loop μ-loop
-add-sum c = rw (more c) (record { fits = error-room (c .before .before .before .before .before .before .before .pre) _ (omega arith) })
+add-sum c = rw (more c) (record { fits = error-room (c .before .before .before .before .before .before .before .pre) (omega arith) })
 
 add-y : tie.Need-add-y Inv-loop μ-loop
 add-y c = search needs
@@ -42,8 +45,8 @@ loop-again c = (search needs, more c)
 returns : tie.Need-returns Inv-loop μ-loop
 returns c = let e : c .before .loop .y ≡ c .before .before .before .before .before .before .args .layout .size .height = omega arith in rw e at (c .before .loop .inv .1)
 
-pub error-sum-spec : {M : Type 1} → statement M
-error-sum-spec =
+pub score-spec : {M : Type 1} → statement M
+score-spec =
     tie.close
     (tie.spec
     Inv-loop

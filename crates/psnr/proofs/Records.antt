@@ -1,4 +1,4 @@
--- What the tests of a record say where they pass, and that n × max² then stays below 2 ^ 53. Assumes nothing.
+-- What the tests of a record say where they pass, and that n × max² then stays below the largest total. Assumes nothing.
 use mathlib.Core.Path.{_≡_, refl}
 use mathlib.Core.Bool.{Bool, true, false, _&&_, _||_, or-true}
 use Prim.Native.Nat.{ℕ, zero, suc, _+_, _*_, _^_, _≤_, _<_}
@@ -10,12 +10,11 @@ use borrow.Author.Tests.{leb-true, eqb-true}
 use lib.Dec.{eqb, leb, lit<}
 use Rattle.refusal.proofs.Chain.{and-left, and-right}
 use Rattle.plane.specs.Limits.{mostDepth}
-use Rattle.plane.specs.Plane.{maxOf}
+use Rattle.plane.specs.Plane.{maxOf, sampleLimit}
 use Rattle.plane.proofs.Depth.{max-grows}
 use Rattle.psnr.specs.Limits.{countLimit, totalLimit}
 use Rattle.psnr.specs.declared.Record.{Record}
-use Rattle.psnr.specs.Record.{isWhole, someTo, countSuits, maxSuits, errorSuits, lawful, joins}
-use Rattle.psnr.specs.Rows.{topSample}
+use Rattle.psnr.specs.Record.{isWhole, someTo, countSuits, maxSuits, errorSuits, recordSuits, joins}
 use Rattle.psnr.proofs.Squares.{total-fits}
 
 -- ---- some index below n
@@ -54,18 +53,18 @@ pub count-says : (n : ℕ) → countSuits n ≡ true → (1 ≤ n) × (n ≤ cou
 unfolding countSuits
 count-says n e = (leb-true 1 n (and-left _ _ e), leb-true n countLimit (and-right (leb 1 n) _ e))
 
-pub max-says : (max : ℕ) → maxSuits max ≡ true → max ≤ topSample
+pub max-says : (max : ℕ) → maxSuits max ≡ true → max ≤ sampleLimit
 unfolding maxSuits
 max-says max =
-    some-says _ (max ≤ topSample) (mostDepth true)
+    some-says _ (max ≤ sampleLimit) (mostDepth true)
     (λ (i : ℕ) (l : i < mostDepth true) (e : eqb max (maxOf (i + 1)) ≡ true). rw (eqb-true max (maxOf (i + 1)) e) (max-grows (omega arith)))
 
 -- the largest error of a record: said of the limits, whatever they are
-pub squares-fit : countLimit * (topSample * topSample) < totalLimit
+pub squares-fit : countLimit * (sampleLimit * sampleLimit) < totalLimit
 unfolding countLimit mostDepth maxOf totalLimit
 squares-fit = lit< tt
 
-top-fits : topSample * topSample < 2 ^ 64
+top-fits : sampleLimit * sampleLimit < 2 ^ 64
 unfolding mostDepth maxOf
 top-fits = lit< tt
 
@@ -80,14 +79,14 @@ pub product-room : (n max : ℕ) → countSuits n ≡ true → maxSuits max ≡ 
 product-room n max c m = omega (arith, product-fits n max c m, total-fits)
 
 -- ---- a record that joins a series
-pub joins-lawful : (max : ℕ) (r : Record) → joins max r ≡ true → lawful r ≡ true
+pub joins-suits : (max : ℕ) (r : Record) → joins max r ≡ true → recordSuits r ≡ true
 unfolding joins
-joins-lawful max r e = and-left _ _ e
+joins-suits max r e = and-left _ _ e
 
-pub lawful-count : (r : Record) → lawful r ≡ true → r .n ≤ countLimit
-unfolding lawful
-lawful-count r e = count-says (r .n) (and-left _ _ (and-left _ _ e)) .1
+pub suits-count : (r : Record) → recordSuits r ≡ true → r .n ≤ countLimit
+unfolding recordSuits
+suits-count r e = count-says (r .n) (and-left _ _ (and-left _ _ e)) .1
 
-pub lawful-whole : (r : Record) → lawful r ≡ true → isWhole (r .«sq_err») ≡ true
-unfolding lawful errorSuits
-lawful-whole r e = and-left _ _ (and-right (countSuits (r .n) && maxSuits (r .«sample_max»)) _ e)
+pub suits-whole : (r : Record) → recordSuits r ≡ true → isWhole (r .«sq_err») ≡ true
+unfolding recordSuits errorSuits
+suits-whole r e = and-left _ _ (and-right (countSuits (r .n) && maxSuits (r .«sample_max»)) _ e)

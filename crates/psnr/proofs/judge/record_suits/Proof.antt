@@ -1,12 +1,12 @@
--- `psnr::judge::is_lawful` meets its contract. Assumes nothing.
+-- `psnr::judge::record_suits` meets its contract. Assumes nothing.
 use mathlib.Core.Path.{_≡_}
 use mathlib.Core.Bool.{true, and-false}
 use borrow.Author.Needs.{needs}
 use Rattle.refusal.proofs.Chain.{fails, holds}
-use Rattle.psnr.specs.Record.{countSuits, maxSuits, lawful}
-use Rattle.psnr.proofs.Lawful.{square-fits, product-room}
-use Rattle.psnr.proofs.judge.is_lawful.Statement.{statement}
-use Rattle.psnr.proofs.judge.is_lawful.Tie as tie
+use Rattle.psnr.specs.Record.{countSuits, maxSuits, recordSuits}
+use Rattle.psnr.proofs.Records.{square-fits, product-room}
+use Rattle.psnr.proofs.judge.record_suits.Statement.{statement}
+use Rattle.psnr.proofs.judge.record_suits.Tie as tie
 
 count-suits-requires : tie.Need-count-suits-requires
 count-suits-requires c κs = search needs
@@ -19,14 +19,14 @@ max-ok : (c : tie.Else2) → maxSuits (c .before .before .before .before .args .
 max-ok c = holds (c .before .max-suits .ensures) (c .if2 .left)
 
 returns : tie.Need-returns
-unfolding lawful
+unfolding recordSuits
 returns c = rw (fails (c .before .count-suits .ensures) (c .if1 .taken))
 
 max-suits-requires : tie.Need-max-suits-requires
 max-suits-requires c κs = search needs
 
 returns-2 : tie.Need-returns-2
-unfolding lawful
+unfolding recordSuits
 returns-2 c = rw (fails (c .before .max-suits .ensures) (c .if2 .taken), and-false)
 
 cast-error-suits : tie.Need-cast-error-suits
@@ -45,11 +45,11 @@ error-suits-requires : tie.Need-error-suits-requires
 error-suits-requires c κs = search needs
 
 returns-3 : tie.Need-returns-3
-unfolding lawful
+unfolding recordSuits
 returns-3 c = rw (count-ok (c .before), max-ok (c .before)) (c .error-suits .ensures)
 
-pub is-lawful-spec : {M : Type 1} → statement M
-is-lawful-spec =
+pub record-suits-spec : {M : Type 1} → statement M
+record-suits-spec =
     tie.close
     (tie.spec
     count-suits-requires

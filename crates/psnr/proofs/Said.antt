@@ -1,0 +1,31 @@
+-- Both calls say in numbers what has to be said: the refusal's number, or the figure, with 100 beside it exactly where the error is 0.
+-- Assumes nothing.
+use mathlib.Core.Path.{_≡_, refl}
+use mathlib.Core.List.{List}
+use Prim.Native.Nat.{ℕ, zero, suc}
+use Rattle.refusal.specs.First.{byRefusal}
+use Rattle.plane.specs.Plane.{Planes}
+use Rattle.psnr.specs.declared.Record.{Record}
+use Rattle.psnr.specs.declared.SquaredError.the-variants.{Refused}
+use Rattle.psnr.specs.Squared.{squaredErrorScore, recordOf, compared, squaredErrorRefusal, squaredErrorOf}
+use Rattle.psnr.specs.Series.{firstMax, errorTotal, countTotal, seriesRefusal, seriesTotal, seriesAnswer, seriesOf}
+use Rattle.psnr.specs.Said.{errorSaid, seriesSaid, saidOf}
+
+pub error-says : (p : Planes) → errorSaid (squaredErrorOf p) ≡ saidOf (squaredErrorRefusal p) (squaredErrorScore p) (recordOf p)
+unfolding squaredErrorOf
+error-says p = go (squaredErrorRefusal p) (squaredErrorScore p) (recordOf p)
+  where
+    go : (n e : ℕ) (r : Record) → errorSaid (byRefusal n (compared e r) (Refused n)) ≡ saidOf n e r
+    go zero zero r = refl
+    go zero (suc e) r = refl
+    go (suc n) e r = refl
+
+pub series-says : (rs : List Record)
+    → seriesSaid (seriesOf rs) ≡ saidOf (seriesRefusal rs) (errorTotal rs) (seriesTotal (errorTotal rs) (countTotal rs) (firstMax rs))
+unfolding seriesOf
+series-says rs = go (seriesRefusal rs) (errorTotal rs) (countTotal rs) (firstMax rs)
+  where
+    go : (k e n max : ℕ) → seriesSaid (seriesAnswer k e n max) ≡ saidOf k e (seriesTotal e n max)
+    go zero zero n max = refl
+    go zero (suc e) n max = refl
+    go (suc k) e n max = refl
