@@ -1,57 +1,14 @@
--- A sum of doubles keeps its bits when the two change places, so u and v may. Assumes nothing.
-use mathlib.Core.Path.{_≡_, refl, ap, _∙_}
-use mathlib.Core.Bool.{Bool, true, false, not, _&&_, cond, and-true, and-false}
-use Prim.Native.Nat.{ℕ, _-_, _*_}
-use native.Mathlib.Nat.{add-comm, mul-comm}
-use native.Mathlib.Omega.{arith}
-use lib.Dec.{ltb}
-use lib.Ieee.{Float, nan, inf, fin, Format, binary64, up, down, round, sum, add, le}
+-- Neither call tells u from v. Assumes nothing.
+use mathlib.Core.Path.{_≡_, refl}
+use mathlib.Core.Bool.{Bool, true, false, _&&_}
+use lib.Ieee.{Float, binary64, le}
 use lib.Ieee.Scale.{finite}
-use borrow.Author.Tests.{ltb-true, ltb-false}
+use Rattle.number.specs.Literals.{zeroD, oneD}
+use Rattle.number.proofs.Swap.{add-swap}
 use Rattle.combine.specs.declared.Planar.{Planar}
-use Rattle.combine.specs.Combine.{none, one, sumOf, scoreOf, combinable, ssimOf, hvsOf}
+use Rattle.combine.specs.Combine.{weightedSum, visualScore, combinable, combinedSsimOf, combinedHvsOf}
 
--- of two sizes with unlike signs the larger gives its sign, and +0 is left where neither is
-unlike-swap : (f : Format) (s : Bool) (a b c : ℕ)
-    → cond (ltb a b) (round f (not s) (b - a) c) (round f (s && ltb b a) (a - b) c)
-    ≡ cond (ltb b a) (round f s (a - b) c) (round f (not s && ltb a b) (b - a) c)
-unlike-swap f s a b c = go (ltb a b) (ltb b a) refl refl
-  where
-    go : (x y : Bool) → ltb a b ≡ x → ltb b a ≡ y
-        → cond x (round f (not s) (b - a) c) (round f (s && y) (a - b) c) ≡ cond y (round f s (a - b) c) (round f (not s && x) (b - a) c)
-    go true true p q = absurd (omega (arith, ltb-true a b p, ltb-true b a q))
-    go true false p q = rw and-true
-    go false true p q = rw and-true
-    go false false p q =
-        let even : a - b ≡ b - a = omega (arith, ltb-false a b p, ltb-false b a q) in
-        rw (and-false s, and-false (not s), even)
-
-sum-swap : (f : Format) (s t : Bool) (a b c : ℕ) → sum f s a t b c ≡ sum f t b s a c
-unfolding sum
-sum-swap f true true a b c = rw (add-comm a b)
-sum-swap f false false a b c = rw (add-comm a b)
-sum-swap f true false a b c = unlike-swap f true a b c
-sum-swap f false true a b c = unlike-swap f false a b c
-
-pub add-swap : (f : Format) (x y : Float) → add f x y ≡ add f y x
-unfolding add
-add-swap f nan nan = refl
-add-swap f nan (inf t) = refl
-add-swap f nan (fin t n d) = refl
-add-swap f (inf s) nan = refl
-add-swap f (inf true) (inf true) = refl
-add-swap f (inf true) (inf false) = refl
-add-swap f (inf false) (inf true) = refl
-add-swap f (inf false) (inf false) = refl
-add-swap f (inf s) (fin t n d) = refl
-add-swap f (fin s m e) nan = refl
-add-swap f (fin s m e) (inf t) = refl
-add-swap f (fin s m e) (fin t n d) =
-    sum-swap f s t (m * up e * down d) (n * up d * down e) (down e * down d)
-    ∙ ap (λ (c : ℕ). sum f t (n * up d * down e) s (m * up e * down d) c) (mul-comm (down e) (down d))
-
--- ---- u and v in each other's place
-
+-- u and v in each other's place
 abbrev pub swapped : Planar → Planar
 swapped s = record { y = s .y; u = s .v; v = s .u }
 
@@ -65,19 +22,18 @@ and-swap true true false false = refl
 
 combinable-swap : (c : Float) (s : Planar) → combinable c s ≡ combinable c (swapped s)
 unfolding combinable
-combinable-swap c s = and-swap (le none c && le c one) (finite (s .y)) (finite (s .u)) (finite (s .v))
+combinable-swap c s = and-swap (le zeroD c && le c oneD) (finite (s .y)) (finite (s .u)) (finite (s .v))
 
-sumOf-swap : (c : Float) (s : Planar) → sumOf c s ≡ sumOf c (swapped s)
-unfolding sumOf
-sumOf-swap c s = rw (add-swap binary64 (s .u) (s .v))
+sum-swap : (c : Float) (s : Planar) → weightedSum c s ≡ weightedSum c (swapped s)
+unfolding weightedSum
+sum-swap c s = rw (add-swap binary64 (s .u) (s .v))
 
-scoreOf-swap : (c : Float) (s : Planar) → scoreOf c s ≡ scoreOf c (swapped s)
-unfolding scoreOf
-scoreOf-swap c s = rw (sumOf-swap c s)
+score-swap : (c : Float) (s : Planar) → visualScore c s ≡ visualScore c (swapped s)
+unfolding visualScore
+score-swap c s = rw (sum-swap c s)
 
--- neither call tells u from v
-pub ssim-swap : (c : Float) (s : Planar) → ssimOf c s ≡ ssimOf c (swapped s)
-ssim-swap c s = rw (combinable-swap c s, sumOf-swap c s)
+pub ssim-swap : (c : Float) (s : Planar) → combinedSsimOf c s ≡ combinedSsimOf c (swapped s)
+ssim-swap c s = rw (combinable-swap c s, sum-swap c s)
 
-pub hvs-swap : (c : Float) (s : Planar) → hvsOf c s ≡ hvsOf c (swapped s)
-hvs-swap c s = rw (combinable-swap c s, scoreOf-swap c s)
+pub hvs-swap : (c : Float) (s : Planar) → combinedHvsOf c s ≡ combinedHvsOf c (swapped s)
+hvs-swap c s = rw (combinable-swap c s, score-swap c s)

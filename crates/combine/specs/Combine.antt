@@ -1,12 +1,13 @@
--- SCOPE, "HVS, SSIM and scales": "Combining, weight c: SSIM gives y + c × (u + v) and 1 + 2c. HVS gives (1 + 2c) × (y + c × (u + v))",
--- each operation rounded once; and the two refusals of "When the desk says no" that belong to it. Definitions only.
+-- SCOPE, "HVS, SSIM and scales", Combining: three planes' scores in one, each operation rounded once, and the two refusals of "When the
+-- desk says no" that belong to it. Definitions only.
 use mathlib.Core.Bool.{Bool, _&&_}
 use mathlib.Core.List.{[], _∷_}
 use Prim.Native.Nat.{ℕ}
-use lib.Ieee.{Float, binary64, ofBits, le}
+use lib.Ieee.{Float, le}
 use lib.Ieee.Scale.{finite}
 use Rattle.refusal.specs.Numbers.{notFiniteNo, weightNo}
 use Rattle.refusal.specs.First.{firstBroken, byRefusal}
+use Rattle.number.specs.Literals.{zeroD, oneD, twoD}
 use Rattle.number.specs.Steps.{_⊕_, _⊗_}
 use Rattle.combine.specs.declared.Planar.{Planar}
 use Rattle.combine.specs.declared.CombinedSsim.{CombinedSsim}
@@ -14,39 +15,29 @@ use Rattle.combine.specs.declared.CombinedSsim.the-variants as similarit
 use Rattle.combine.specs.declared.CombinedHvs.{CombinedHvs}
 use Rattle.combine.specs.declared.CombinedHvs.the-variants as visual
 
--- 0.0, 1.0, 2.0
-abbrev pub none : Float
-none = ofBits binary64 0
-
-abbrev pub one : Float
-one = ofBits binary64 0x3FF0000000000000
-
-abbrev pub two : Float
-two = ofBits binary64 0x4000000000000000
-
 -- ---- the figures
 
 -- y + c × (u + v)
-unfoldable pub sumOf : Float → Planar → Float
-sumOf c s = s .y ⊕ c ⊗ (s .u ⊕ s .v)
+unfoldable pub weightedSum : Float → Planar → Float
+weightedSum c s = s .y ⊕ c ⊗ (s .u ⊕ s .v)
 
 -- 1 + 2c
-unfoldable pub weightOf : Float → Float
-weightOf c = one ⊕ two ⊗ c
+unfoldable pub wholeWeight : Float → Float
+wholeWeight c = oneD ⊕ twoD ⊗ c
 
 -- HVS: (1 + 2c) × (y + c × (u + v))
-unfoldable pub scoreOf : Float → Planar → Float
-scoreOf c s = weightOf c ⊗ sumOf c s
+unfoldable pub visualScore : Float → Planar → Float
+visualScore c s = wholeWeight c ⊗ weightedSum c s
 
 -- ---- the refusals
 
 -- 13 is not given: the weight is from 0 to 1, which -0 is and not-a-number is not, and the three numbers are finite
 unfoldable pub combinable : Float → Planar → Bool
-combinable c s = le none c && le c one && (finite (s .y) && finite (s .u) && finite (s .v))
+combinable c s = le zeroD c && le c oneD && (finite (s .y) && finite (s .u) && finite (s .v))
 
 -- 13, then 9, which is given only where no other refusal applies; and 0 where neither is
-abbrev pub refusalOf : Bool → Bool → ℕ
-refusalOf lawful isFinite = firstBroken ((weightNo, lawful) ∷ (notFiniteNo, isFinite) ∷ [])
+abbrev pub combinedRefusal : Bool → Bool → ℕ
+combinedRefusal lawful isFinite = firstBroken ((weightNo, lawful) ∷ (notFiniteNo, isFinite) ∷ [])
 
 -- ---- the answers
 
@@ -55,17 +46,17 @@ sumFor n sum weight = byRefusal n (similarity.Sum sum weight) (similarity.Refuse
 
 -- the sum and its weight, both finite, or the refusal
 abbrev pub sumOr : Bool → Float → Float → CombinedSsim
-sumOr lawful sum weight = sumFor (refusalOf lawful (finite sum && finite weight)) sum weight
+sumOr lawful sum weight = sumFor (combinedRefusal lawful (finite sum && finite weight)) sum weight
 
-abbrev pub ssimOf : Float → Planar → CombinedSsim
-ssimOf c s = sumOr (combinable c s) (sumOf c s) (weightOf c)
+abbrev pub combinedSsimOf : Float → Planar → CombinedSsim
+combinedSsimOf c s = sumOr (combinable c s) (weightedSum c s) (wholeWeight c)
 
 abbrev pub scoreFor : ℕ → Float → CombinedHvs
 scoreFor n score = byRefusal n (visual.Score score) (visual.Refused n)
 
 -- the score, finite, or the refusal
 abbrev pub scoreOr : Bool → Float → CombinedHvs
-scoreOr lawful score = scoreFor (refusalOf lawful (finite score)) score
+scoreOr lawful score = scoreFor (combinedRefusal lawful (finite score)) score
 
-abbrev pub hvsOf : Float → Planar → CombinedHvs
-hvsOf c s = scoreOr (combinable c s) (scoreOf c s)
+abbrev pub combinedHvsOf : Float → Planar → CombinedHvs
+combinedHvsOf c s = scoreOr (combinable c s) (visualScore c s)

@@ -1,7 +1,7 @@
 // The scores of three planes in one figure, the two chroma planes weighted by c; after `calculate_frame_ssim` and
 // `calculate_frame_psnr_hvs`. SCOPE, "HVS, SSIM and scales", Combining.
 ghost use mathlib.Core.Path.{_≡_};
-ghost use Rattle.combine.specs.Combine.{sumOf, weightOf, scoreOf, combinable, ssimOf, hvsOf};
+ghost use Rattle.combine.specs.Combine.{weightedSum, wholeWeight, visualScore, combinable, combinedSsimOf, combinedHvsOf};
 
 // The scores of the three planes.
 pub struct Planar {
@@ -23,7 +23,7 @@ pub enum CombinedHvs {
 }
 
 // Whether the weight is from 0 to 1 and the three numbers are finite.
-fn lawful(c: f64, scores: Planar) -> bool
+fn combinable(c: f64, scores: Planar) -> bool
     ensures { λ r. ⌜ r ≡ combinable c scores ⌝ }
 {
     let three = number::finite(scores.y) & number::finite(scores.u) & number::finite(scores.v);
@@ -31,28 +31,28 @@ fn lawful(c: f64, scores: Planar) -> bool
 }
 
 fn weighted_sum(c: f64, scores: Planar) -> f64
-    ensures { λ r. ⌜ r ≡ sumOf c scores ⌝ }
+    ensures { λ r. ⌜ r ≡ weightedSum c scores ⌝ }
 {
     scores.y + c * (scores.u + scores.v)
 }
 
 fn whole_weight(c: f64) -> f64
-    ensures { λ r. ⌜ r ≡ weightOf c ⌝ }
+    ensures { λ r. ⌜ r ≡ wholeWeight c ⌝ }
 {
     1.0 + 2.0 * c
 }
 
 fn visual_score(c: f64, scores: Planar) -> f64
-    ensures { λ r. ⌜ r ≡ scoreOf c scores ⌝ }
+    ensures { λ r. ⌜ r ≡ visualScore c scores ⌝ }
 {
     whole_weight(c) * weighted_sum(c, scores)
 }
 
 // The weighted sum of three SSIM scores and its weight: 13 where the weight or a score is unlawful, 9 where a result is not finite.
 pub fn ssim(c: f64, scores: Planar) -> CombinedSsim
-    ensures { λ r. ⌜ r ≡ ssimOf c scores ⌝ }
+    ensures { λ r. ⌜ r ≡ combinedSsimOf c scores ⌝ }
 {
-    if !lawful(c, scores) {
+    if !combinable(c, scores) {
         return CombinedSsim::Refused(refusal::WEIGHT);
     }
     let sum = weighted_sum(c, scores);
@@ -66,9 +66,9 @@ pub fn ssim(c: f64, scores: Planar) -> CombinedSsim
 
 // Three PSNR-HVS scores in one: 13 where the weight or a score is unlawful, 9 where the result is not finite.
 pub fn hvs(c: f64, scores: Planar) -> CombinedHvs
-    ensures { λ r. ⌜ r ≡ hvsOf c scores ⌝ }
+    ensures { λ r. ⌜ r ≡ combinedHvsOf c scores ⌝ }
 {
-    if !lawful(c, scores) {
+    if !combinable(c, scores) {
         return CombinedHvs::Refused(refusal::WEIGHT);
     }
     let score = visual_score(c, scores);

@@ -1,6 +1,6 @@
 // Combining the scores of three planes, for other languages. The places lent are written where the answer is 0, and as they were otherwise.
 ghost use mathlib.Core.Path.{_≡_};
-ghost use Rattle.combine.specs.Combine.{ssimOf, hvsOf};
+ghost use Rattle.combine.specs.Combine.{combinedSsimOf, combinedHvsOf};
 ghost use Rattle.fuavelino.specs.Planar.{planar, sumNumber, sumWritten, weightWritten, scoreNumber, scoreWritten};
 use combine::CombinedHvs;
 use combine::CombinedSsim;
@@ -16,9 +16,9 @@ pub extern "C" fn fuavelino_combine_ssim(
     sum: &mut f64,
     weight: &mut f64,
 ) -> u8
-    ensures { λ r. ⌜ r ≡ sumNumber (ssimOf c (planar y u v)) ⌝ }
-    ensures { λ _. ⌜ now (sum .exit) ≡ sumWritten (ssimOf c (planar y u v)) (now (sum .entry)) ⌝ }
-    ensures { λ _. ⌜ now (weight .exit) ≡ weightWritten (ssimOf c (planar y u v)) (now (weight .entry)) ⌝ }
+    ensures { λ r. ⌜ r ≡ sumNumber (combinedSsimOf c (planar y u v)) ⌝ }
+    ensures { λ _. ⌜ now (sum .exit) ≡ sumWritten (combinedSsimOf c (planar y u v)) (now (sum .entry)) ⌝ }
+    ensures { λ _. ⌜ now (weight .exit) ≡ weightWritten (combinedSsimOf c (planar y u v)) (now (weight .entry)) ⌝ }
 {
     match combine::ssim(c, Planar { y, u, v }) {
         CombinedSsim::Sum { sum: s, weight: w } => {
@@ -33,8 +33,8 @@ pub extern "C" fn fuavelino_combine_ssim(
 // Three PSNR-HVS scores in one, chroma weighted by c: (1 + 2c) * (y + c * (u + v)). 0, or 13, then 9.
 #[no_mangle]
 pub extern "C" fn fuavelino_combine_hvs(c: f64, y: f64, u: f64, v: f64, score: &mut f64) -> u8
-    ensures { λ r. ⌜ r ≡ scoreNumber (hvsOf c (planar y u v)) ⌝ }
-    ensures { λ _. ⌜ now (score .exit) ≡ scoreWritten (hvsOf c (planar y u v)) (now (score .entry)) ⌝ }
+    ensures { λ r. ⌜ r ≡ scoreNumber (combinedHvsOf c (planar y u v)) ⌝ }
+    ensures { λ _. ⌜ now (score .exit) ≡ scoreWritten (combinedHvsOf c (planar y u v)) (now (score .entry)) ⌝ }
 {
     match combine::hvs(c, Planar { y, u, v }) {
         CombinedHvs::Score(s) => {

@@ -21,7 +21,7 @@ Within k (fin s m e) = (s ≡ true → m * up e ≡ 0) × (m * up e ≤ k * down
 
 -- ---- by the comparisons that the code makes
 
-or-le : (a b : ℕ) (r : Bool) → T (ltb a b || (eqb a b && r)) → a ≤ b
+pub or-le : (a b : ℕ) (r : Bool) → T (ltb a b || (eqb a b && r)) → a ≤ b
 or-le a b r t = go (ltb a b) refl t
   where
     go : (x : Bool) → ltb a b ≡ x → T (x || (eqb a b && r)) → a ≤ b

@@ -67,7 +67,7 @@ module _ (size : Size) where
 
 -- ---- the record
 -- no plane has more samples than a record may count: said of the limits, whatever they are
-pub counts-fit : sideLimit * sideLimit ≤ countLimit
+counts-fit : sideLimit * sideLimit ≤ countLimit
 unfolding sideLimit countLimit
 counts-fit = lit≤ tt
 

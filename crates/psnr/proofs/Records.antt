@@ -38,7 +38,7 @@ some-true f (suc n) i l e = go (some-true f n i) (decLt i n)
     go below (no m) = let q : n ≡ i = omega arith in rw (q, e, or-true)
 
 -- what holds wherever f does, holds where f does at some index
-pub some-says : (f : ℕ → Bool) (P : Type 0) (n : ℕ) → ((i : ℕ) → i < n → f i ≡ true → P) → someTo f n ≡ true → P
+some-says : (f : ℕ → Bool) (P : Type 0) (n : ℕ) → ((i : ℕ) → i < n → f i ≡ true → P) → someTo f n ≡ true → P
 unfolding someTo
 some-says f P zero h e = let z : _≡_ {A = ℕ} 0 1 = cc in absurd (omega arith)
 some-says f P (suc n) h e = go (some-says f P n (λ (i : ℕ) (l : i < n). h i (omega arith))) (someTo f n) refl (f n) refl
@@ -49,11 +49,11 @@ some-says f P (suc n) h e = go (some-says f P n (λ (i : ℕ) (l : i < n). h i (
     go below false p false q = let z : _≡_ {A = ℕ} 0 1 = cc (e, p, q) in absurd (omega arith)
 
 -- ---- the tests of a record
-pub count-says : (n : ℕ) → countSuits n ≡ true → (1 ≤ n) × (n ≤ countLimit)
+count-says : (n : ℕ) → countSuits n ≡ true → (1 ≤ n) × (n ≤ countLimit)
 unfolding countSuits
 count-says n e = (leb-true 1 n (and-left _ _ e), leb-true n countLimit (and-right (leb 1 n) _ e))
 
-pub max-says : (max : ℕ) → maxSuits max ≡ true → max ≤ sampleLimit
+max-says : (max : ℕ) → maxSuits max ≡ true → max ≤ sampleLimit
 unfolding maxSuits
 max-says max =
     some-says _ (max ≤ sampleLimit) (mostDepth true)

@@ -1,13 +1,12 @@
--- Which doubles are whole numbers from 0 to 2 ^ 53: one is whole exactly where it comes back, bit for bit, from the whole number that is
+-- Which doubles are whole numbers from 0 to `exactLimit`: one is whole exactly where it comes back, bit for bit, from the whole number that is
 -- left when its fraction is cut off. Assumes nothing.
 use mathlib.Core.Path.{_≡_, refl, sym, ap, _∙_, subst}
-use mathlib.Core.Bool.{Bool, true, false, not, _&&_, _||_, and-false}
+use mathlib.Core.Bool.{Bool, true, false, not, and-false}
 use Prim.Native.Nat.{ℕ, _+_, _*_, _/_, _^_, _≤_, _<_}
 use native.Mathlib.Nat.{lt-of-le-of-lt, div-le-of-le-mul}
-use native.Mathlib.Decide.{decLe}
 use native.Mathlib.Omega.{arith}
-use borrow.Author.Tests.{le-ltb, ltb-false, eq-eqb, ne-eqb, not-false}
-use lib.Dec.{T, eqb, ltb, leb→le, lt→ltb, le→leb, lit≤, lit<}
+use borrow.Author.Tests.{ltb-false, eq-eqb, ne-eqb, not-false}
+use lib.Dec.{T, eqb, leb→le, lt→ltb, le→leb, lit≤, lit<}
 use lib.IntN.{pos}
 use lib.Ieee.{Float, nan, inf, fin, binary64, up, down, lt, le, isNan, ofInt, toUnsigned, inUnsigned, whole, inFloat, fits, toBits, ofBits}
 use lib.Ieee.Back.{round-whole, unsigned-back, float-back-unsigned}
@@ -15,9 +14,12 @@ use lib.Ieee.Bits.{is-true, ofBits-toBits}
 use lib.Ieee.Exact.{HasValue}
 use lib.Ieee.Fits.{down-pos, ofInt-fits}
 use lib.Ieee.Order.{le-of-values}
+use Rattle.number.specs.Limits.{exactLimit}
+use Rattle.number.specs.Steps.{double}
+use Rattle.number.proofs.Order.{or-le}
 use Rattle.psnr.specs.Record.{isWhole, wholeOf}
 
--- 2 ^ 53 and -1
+-- the limit and -1
 abbrev top : Float
 top = fin false 1 (pos 53)
 
@@ -31,14 +33,14 @@ holds : {b : Bool} → b ≡ true → T b
 holds e = subst T (sym e) tt
 
 -- ---- what a whole one is
-pub whole-is : (e : Float) → T (fits binary64 e) → isWhole e ≡ true → (ofInt binary64 (pos (wholeOf e)) ≡ e) × (wholeOf e ≤ 2 ^ 53)
+whole-is : (e : Float) → T (fits binary64 e) → isWhole e ≡ true → (double (wholeOf e) ≡ e) × (wholeOf e ≤ exactLimit)
 unfolding inFloat
-whole-is e f w = let b = float-back-unsigned binary64 64 e f (holds w) in (b .1, leb→le (wholeOf e) (2 ^ 53) (b .0))
+whole-is e f w = let b = float-back-unsigned binary64 64 e f (holds w) in (b .1, leb→le (wholeOf e) exactLimit (b .0))
 
-pub whole-back : (n : ℕ) → n ≤ 2 ^ 53 → (isWhole (ofInt binary64 (pos n)) ≡ true) × (wholeOf (ofInt binary64 (pos n)) ≡ n)
+pub whole-back : (n : ℕ) → n ≤ exactLimit → (isWhole (double n) ≡ true) × (wholeOf (double n) ≡ n)
 unfolding inFloat
 whole-back n l =
-    let b = unsigned-back binary64 64 n (le→leb n (2 ^ 53) l) (lt-of-le-of-lt l (lit< tt)) in (is-true _ (b .0), b .1)
+    let b = unsigned-back binary64 64 n (le→leb n exactLimit l) (lt-of-le-of-lt l (lit< tt)) in (is-true _ (b .0), b .1)
 
 -- ---- the two tests of the range
 pub low-end : (e : Float) → lt minusOne e ≡ false → isWhole e ≡ false
@@ -48,10 +50,10 @@ low-end (inf s) h = refl
 low-end (fin true m k) h = and-false (whole binary64 (fin true m k))
 low-end (fin false m k) h = absurd (omega (arith, ltb-false 0 (1 * 1 * down k + m * up k * 1) h, down-pos k))
 
-small-le : (n : ℕ) → n ≤ 2 ^ 53 → T (le (ofInt binary64 (pos n)) top)
+small-le : (n : ℕ) → n ≤ exactLimit → T (le (double n) top)
 unfolding ofInt
 small-le n l =
-    le-of-values (ofInt binary64 (pos n)) top n 1 (2 ^ 53) 1 (lit< tt) (lit< tt) (round-whole binary64 false n l) (refl, refl) (omega arith)
+    le-of-values (double n) top n 1 exactLimit 1 (lit< tt) (lit< tt) (round-whole binary64 false n l) (refl, refl) (omega arith)
 
 pub high-end : (e : Float) → T (fits binary64 e) → le e top ≡ false → isWhole e ≡ false
 high-end e f h = go (isWhole e) refl
@@ -64,13 +66,6 @@ high-end e f h = go (isWhole e) refl
 pub above : (e : Float) → not (lt minusOne e) ≡ false → T (lt minusOne e)
 above e h = holds (not-false (lt minusOne e) h)
 
-or-le : (a b : ℕ) (t : Bool) → (ltb a b || (eqb a b && t)) ≡ true → a ≤ b
-or-le a b t h = go (decLe a b)
-  where
-    go : Dec (a ≤ b) → a ≤ b
-    go (yes l) = l
-    go (no n) = absurd (never (rw (le-ltb a b (omega arith), ne-eqb a b (λ (e : a ≡ b). omega arith)) refl) h)
-
 pub in-range : (e : Float) → le e top ≡ true → T (lt e (fin false 1 (pos 64)))
 unfolding le lt
 in-range nan h = absurd (never refl h)
@@ -78,17 +73,17 @@ in-range (inf true) h = tt
 in-range (inf false) h = absurd (never refl h)
 in-range (fin true m k) h = lt→ltb 0 (m * up k * 1 + 1 * 2 ^ 64 * down k) (omega (arith, down-pos k))
 in-range (fin false m k) h =
-    let l = or-le (m * up k * 1) (1 * 2 ^ 53 * down k) _ h in lt→ltb (m * up k * 1) (1 * 2 ^ 64 * down k) (omega (arith, down-pos k))
+    let l = or-le (m * up k * 1) (1 * exactLimit * down k) _ (holds h) in lt→ltb (m * up k * 1) (1 * 2 ^ 64 * down k) (omega (arith, down-pos k))
 
-pub cut-small : (e : Float) → le e top ≡ true → toUnsigned 64 e ≤ 2 ^ 53
+pub cut-small : (e : Float) → le e top ≡ true → toUnsigned 64 e ≤ exactLimit
 unfolding le lt toUnsigned
 cut-small nan h = lit≤ tt
 cut-small (inf true) h = lit≤ tt
 cut-small (inf false) h = absurd (never refl h)
 cut-small (fin true m k) h = lit≤ tt
 cut-small (fin false m k) h =
-    let l = or-le (m * up k * 1) (1 * 2 ^ 53 * down k) _ h in
-    let q : m * up k / down k ≤ 2 ^ 53 = div-le-of-le-mul (down k) (omega arith) in
+    let l = or-le (m * up k * 1) (1 * exactLimit * down k) _ (holds h) in
+    let q : m * up k / down k ≤ exactLimit = div-le-of-le-mul (down k) (omega arith) in
     omega arith
 
 pub a-number : (e : Float) → le e top ≡ true → T (not (isNan e))
@@ -104,16 +99,16 @@ valued nan n h = absurd h
 valued (inf s) n h = tt
 valued (fin s m k) n h = tt
 
-pub exact-number : (n : ℕ) → n ≤ 2 ^ 53 → T (not (isNan (ofInt binary64 (pos n))))
+pub exact-number : (n : ℕ) → n ≤ exactLimit → T (not (isNan (double n)))
 unfolding ofInt
-exact-number n l = valued (ofInt binary64 (pos n)) n (round-whole binary64 false n l)
+exact-number n l = valued (double n) n (round-whole binary64 false n l)
 
-pub comes-back : (e : Float) → T (fits binary64 e) → wholeOf e ≤ 2 ^ 53
-    → eqb (toBits binary64 e) (toBits binary64 (ofInt binary64 (pos (wholeOf e)))) ≡ isWhole e
+pub comes-back : (e : Float) → T (fits binary64 e) → wholeOf e ≤ exactLimit
+    → eqb (toBits binary64 e) (toBits binary64 (double (wholeOf e))) ≡ isWhole e
 comes-back e f l = go (isWhole e) refl
   where
     back : Float
-    back = ofInt binary64 (pos (wholeOf e))
+    back = double (wholeOf e)
 
     same : toBits binary64 e ≡ toBits binary64 back → back ≡ e
     same h =

@@ -5,11 +5,11 @@ use Rattle.combine.proofs.Answers.{hvs-score, hvs-infinite}
 use Rattle.combine.proofs.hvs.Statement.{statement}
 use Rattle.combine.proofs.hvs.Tie as tie
 
-lawful-requires : tie.Need-lawful-requires
-lawful-requires c κs = search needs
+combinable-requires : tie.Need-combinable-requires
+combinable-requires c κs = search needs
 
 returns : tie.Need-returns
-returns c = rw (fails (c .before .lawful .ensures) (c .if1 .taken))
+returns c = rw (fails (c .before .combinable .ensures) (c .if1 .taken))
 
 visual-score-requires : tie.Need-visual-score-requires
 visual-score-requires c κs = search needs
@@ -19,15 +19,15 @@ finite-requires c κs = search needs
 
 returns-2 : tie.Need-returns-2
 returns-2 c =
-    hvs-score (holds (c .before .before .before .before .lawful .ensures) (c .before .before .before .if1 .left))
+    hvs-score (holds (c .before .before .before .before .combinable .ensures) (c .before .before .before .if1 .left))
     (c .before .before .visual-score .ensures) (c .before .finite .ensures) (c .if2 .taken)
 
 returns-3 : tie.Need-returns-3
 returns-3 c =
-    hvs-infinite (holds (c .before .before .before .before .lawful .ensures) (c .before .before .before .if1 .left))
+    hvs-infinite (holds (c .before .before .before .before .combinable .ensures) (c .before .before .before .if1 .left))
     (c .before .before .visual-score .ensures) (c .before .finite .ensures) (c .if2 .left)
 
 pub hvs-spec : {M : Type 1} → statement M
 hvs-spec =
     tie.close
-    (tie.spec lawful-requires returns visual-score-requires finite-requires returns-2 returns-3)
+    (tie.spec combinable-requires returns visual-score-requires finite-requires returns-2 returns-3)

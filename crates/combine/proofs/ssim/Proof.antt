@@ -5,11 +5,11 @@ use Rattle.combine.proofs.Answers.{ssim-sum, ssim-infinite}
 use Rattle.combine.proofs.ssim.Statement.{statement}
 use Rattle.combine.proofs.ssim.Tie as tie
 
-lawful-requires : tie.Need-lawful-requires
-lawful-requires c κs = search needs
+combinable-requires : tie.Need-combinable-requires
+combinable-requires c κs = search needs
 
 returns : tie.Need-returns
-returns c = rw (fails (c .before .lawful .ensures) (c .if1 .taken))
+returns c = rw (fails (c .before .combinable .ensures) (c .if1 .taken))
 
 weighted-sum-requires : tie.Need-weighted-sum-requires
 weighted-sum-requires c κs = search needs
@@ -25,23 +25,23 @@ finite-requires-2 c κs = search needs
 
 returns-2 : tie.Need-returns-2
 returns-2 c =
-    ssim-sum
-    (holds (c .before .before .before .before .before .before .lawful .ensures) (c .before .before .before .before .before .if1 .left))
-    (c .before .before .before .before .weighted-sum .ensures) (c .before .before .before .whole-weight .ensures)
+    let s = c .before .before .before .before in
+    ssim-sum (holds (s .before .before .combinable .ensures) (s .before .if1 .left))
+    (s .weighted-sum .ensures) (c .before .before .before .whole-weight .ensures)
     (c .before .before .finite .ensures) (c .before .finite2 .ensures) (c .if2 .taken)
 
 returns-3 : tie.Need-returns-3
 returns-3 c =
-    ssim-infinite
-    (holds (c .before .before .before .before .before .before .lawful .ensures) (c .before .before .before .before .before .if1 .left))
-    (c .before .before .before .before .weighted-sum .ensures) (c .before .before .before .whole-weight .ensures)
+    let s = c .before .before .before .before in
+    ssim-infinite (holds (s .before .before .combinable .ensures) (s .before .if1 .left))
+    (s .weighted-sum .ensures) (c .before .before .before .whole-weight .ensures)
     (c .before .before .finite .ensures) (c .before .finite2 .ensures) (c .if2 .left)
 
 pub ssim-spec : {M : Type 1} → statement M
 ssim-spec =
     tie.close
     (tie.spec
-    lawful-requires
+    combinable-requires
     returns
     weighted-sum-requires
     whole-weight-requires

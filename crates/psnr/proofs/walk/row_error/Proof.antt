@@ -87,7 +87,10 @@ loop-again : tie.Need-loop-again Inv-loop μ-loop
 loop-again c = (search needs, more c)
 
 returns : tie.Need-returns Inv-loop μ-loop
-returns c = let e : c .before .loop .x ≡ c .before .before .before .before .before .before .args .layout .size .width = omega arith in rw e at (c .before .loop .inv .1)
+returns c =
+    let s = c .before .before .before .before .before .before in
+    let e : c .before .loop .x ≡ s .args .layout .size .width = omega arith in
+    rw e at (c .before .loop .inv .1)
 
 pub row-error-spec : {M : Type 1} → statement M
 row-error-spec =

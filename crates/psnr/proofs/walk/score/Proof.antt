@@ -31,7 +31,9 @@ more : (c : tie.After-row-error Inv-loop μ-loop) → let l = c .before .before 
 more c = rw (error-more, ← (c .before .before .loop .inv .1), c .row-error .ensures)
 
 add-sum : tie.Need-add-sum Inv-loop μ-loop
-add-sum c = rw (more c) (record { fits = error-room (c .before .before .before .before .before .before .before .pre) (omega arith) })
+add-sum c =
+    let s = c .before .before .before .before .before .before .before in
+    rw (more c) (record { fits = error-room (s .pre) (omega arith) })
 
 add-y : tie.Need-add-y Inv-loop μ-loop
 add-y c = search needs
@@ -43,7 +45,10 @@ loop-again : tie.Need-loop-again Inv-loop μ-loop
 loop-again c = (search needs, more c)
 
 returns : tie.Need-returns Inv-loop μ-loop
-returns c = let e : c .before .loop .y ≡ c .before .before .before .before .before .before .args .layout .size .height = omega arith in rw e at (c .before .loop .inv .1)
+returns c =
+    let s = c .before .before .before .before .before .before in
+    let e : c .before .loop .y ≡ s .args .layout .size .height = omega arith in
+    rw e at (c .before .loop .inv .1)
 
 pub score-spec : {M : Type 1} → statement M
 score-spec =
