@@ -8,8 +8,8 @@ use lib.IntN.{ℤ, pos}
 use lib.ListN.{length, getD, set, take, drop, length-append, drop-of-length-le}
 use lib.Seq.{take-all, take-suc, take-suc-set, take-at, drop-at, take-length, drop-length, drop-drop}
 use borrow.Rule.Slice.PartMut.{putMid}
-use Rattle.lifting.specs.Small.{Small, Within}
-use Rattle.dct.specs.Block.{rows, spaced, column, row, line, places}
+use Rattle.lifting.specs.Inner.Within.{AllWithin, Within}
+use Rattle.dct.specs.Block.{rows, spaced, column, row, fdct8, inputOrder}
 use Rattle.lifting.specs.Steps.{steps}
 use Rattle.lifting.proofs.Trip.{length-run}
 
@@ -28,25 +28,25 @@ eight-set (x0 ∷ x1 ∷ x2 ∷ x3 ∷ x4 ∷ x5 ∷ x6 ∷ x7 ∷ l) a0 a1 a2 a
 
 -- ---- sizes
 
-pub small-at : (n : ℕ) (b : List ℤ) → Small n b → (k : ℕ) → Within n (getD b k (pos 0))
+pub small-at : (n : ℕ) (b : List ℤ) → AllWithin n b → (k : ℕ) → Within n (getD b k (pos 0))
 small-at n [] h k = record { le = zero-le }
 small-at n (a ∷ b) h zero = h .0
 small-at n (a ∷ b) h (suc k) = small-at n b (h .1) k
 
-small-spaced : (n at by : ℕ) (b : List ℤ) → Small n b → Small n (spaced at by b)
+small-spaced : (n at by : ℕ) (b : List ℤ) → AllWithin n b → AllWithin n (spaced at by b)
 small-spaced n at by b h =
     let w = small-at n b h in
     (w at, (w (at + by), (w (at + 2 * by), (w (at + 3 * by), (w (at + 4 * by), (w (at + 5 * by), (w (at + 6 * by), (w (at + 7 * by), tt))))))))
 
-pub small-column : (n : ℕ) (b : List ℤ) → Small n b → (i : ℕ) → Small n (column i b)
+pub small-column : (n : ℕ) (b : List ℤ) → AllWithin n b → (i : ℕ) → AllWithin n (column i b)
 small-column n b h i = small-spaced n i 8 b h
 
-pub small-row : (n : ℕ) (b : List ℤ) → Small n b → (i : ℕ) → Small n (row i b)
+pub small-row : (n : ℕ) (b : List ℤ) → AllWithin n b → (i : ℕ) → AllWithin n (row i b)
 small-row n b h i = small-spaced n (8 * i) 1 b h
 
-pub length-line : (x : List ℤ) → length (line x) ≡ 8
-unfolding line
-length-line x = length-run steps (places x)
+pub length-fdct8 : (x : List ℤ) → length (fdct8 x) ≡ 8
+unfolding fdct8
+length-fdct8 x = length-run steps (inputOrder x)
 
 -- ---- rows, one more at a time
 

@@ -13,8 +13,8 @@ use lib.Signed.{ltZ, nonNeg}
 use mir.Syntax.{w32}
 use mir.Val.{SFits}
 use borrow.Author.Tests.{ltb-true, ltb-false, le-leb, lt-leb, leb-true}
-use Rattle.lifting.specs.Small.{Small}
-use Rattle.dct.specs.Call.{inside}
+use Rattle.lifting.specs.Inner.Within.{AllWithin}
+use Rattle.dct.specs.Call.{allWithin}
 
 -- ---- one number
 
@@ -43,13 +43,13 @@ between (negsuc n) v t h k = absurd t
 -- ---- the walk
 
 module _ (n : ℕ) (x : List ℤ) (i : ℕ) (w : ℤ) (h : i < length x) (e : w ≡ getD x i (pos 0)) where
-  head : inside n (drop i x) ≡ (leb (natAbs w) n && inside n (drop (suc i) x))
-  head = ap (inside n) (drop-cons x i (pos 0) h) ∙ rw e
+  head : allWithin n (drop i x) ≡ (leb (natAbs w) n && allWithin n (drop (suc i) x))
+  head = ap (allWithin n) (drop-cons x i (pos 0) h) ∙ rw e
 
-  pub stop : leb (natAbs w) n ≡ false → inside n (drop i x) ≡ false
+  pub stop : leb (natAbs w) n ≡ false → allWithin n (drop i x) ≡ false
   stop p = head ∙ rw p
 
-  pub next : leb (natAbs w) n ≡ true → inside n (drop i x) ≡ inside n (drop (i + 1) x)
+  pub next : leb (natAbs w) n ≡ true → allWithin n (drop i x) ≡ allWithin n (drop (i + 1) x)
   next p = head ∙ rw (p, add-one)
 
 -- ---- sizes
@@ -58,12 +58,12 @@ pub and-parts : (a b : Bool) → (a && b) ≡ true → (a ≡ true) × (b ≡ tr
 and-parts true b p = (refl, p)
 and-parts false b p = absurd (let z : _≡_ {A = ℕ} 0 1 = cc in omega arith)
 
-pub small : (n : ℕ) (v : List ℤ) → inside n v ≡ true → Small n v
+pub small : (n : ℕ) (v : List ℤ) → allWithin n v ≡ true → AllWithin n v
 small n [] p = tt
 small n (a ∷ v) p =
-    let q = and-parts (leb (natAbs a) n) (inside n v) p in
+    let q = and-parts (leb (natAbs a) n) (allWithin n v) p in
     (record { le = leb-true (natAbs a) n (q .0) }, small n v (q .1))
 
-pub is-inside : (n : ℕ) (v : List ℤ) → Small n v → inside n v ≡ true
-is-inside n [] h = refl
-is-inside n (a ∷ v) h = rw (le-leb (natAbs a) n (h .0 .le), is-inside n v (h .1))
+pub is-within : (n : ℕ) (v : List ℤ) → AllWithin n v → allWithin n v ≡ true
+is-within n [] h = refl
+is-within n (a ∷ v) h = rw (le-leb (natAbs a) n (h .0 .le), is-within n v (h .1))

@@ -7,9 +7,9 @@ use lib.IntN.{ℤ, pos}
 use lib.ListN.{length, getD, drop}
 use lib.Seq.{drop-cons, drop-length}
 use Rattle.lifting.specs.Steps.{run, undoAll, steps}
-use Rattle.dct.specs.Block.{eight, column, row, places, places⁻¹, line, line⁻¹, rows, turn, across, turn⁻¹, transform, transform⁻¹}
+use Rattle.dct.specs.Block.{eight, column, row, inputOrder, inputOrder⁻¹, fdct8, idct8, rows, fdct8Columns, transposed, idct8Rows, fdct8x8, idct8x8}
 use Rattle.lifting.proofs.Trip.{there-and-back, back-and-there, length-run}
-use Rattle.dct.proofs.Blocks.{length-line, length-rows}
+use Rattle.dct.proofs.Blocks.{length-fdct8, length-rows}
 
 -- the n elements from k on, one by one
 count : ℕ → ℕ → List ℤ → List ℤ
@@ -32,18 +32,18 @@ of-rows b e = counted 0 64 b (sym e)
 
 -- ---- eight numbers
 
-pub line-back : (x : List ℤ) → length x ≡ 8 → line⁻¹ (line x) ≡ x
-unfolding line line⁻¹
-line-back x e = ap places⁻¹ (there-and-back (places x) refl) ∙ of-eight x e
+pub fdct8-undone : (x : List ℤ) → length x ≡ 8 → idct8 (fdct8 x) ≡ x
+unfolding fdct8 idct8
+fdct8-undone x e = ap inputOrder⁻¹ (there-and-back (inputOrder x) refl) ∙ of-eight x e
 
-pub back-line : (t : List ℤ) → length t ≡ 8 → line (line⁻¹ t) ≡ t
-unfolding line line⁻¹
-back-line t e =
+pub undone-fdct8 : (t : List ℤ) → length t ≡ 8 → fdct8 (idct8 t) ≡ t
+unfolding fdct8 idct8
+undone-fdct8 t e =
     ap (run steps) (of-eight (run (undoAll steps) t) (length-run (undoAll steps) t ∙ e)) ∙ back-and-there t e
 
-pub length-back : (t : List ℤ) → length (line⁻¹ t) ≡ 8
-unfolding line⁻¹
-length-back t = refl
+pub length-idct8 : (t : List ℤ) → length (idct8 t) ≡ 8
+unfolding idct8
+length-idct8 t = refl
 
 -- ---- rows and columns of rows
 
@@ -59,17 +59,17 @@ row-of g (suc (suc (suc (suc (suc (suc zero)))))) h = refl
 row-of g (suc (suc (suc (suc (suc (suc (suc zero))))))) h = refl
 row-of g (suc (suc (suc (suc (suc (suc (suc (suc i)))))))) h = absurd (omega arith)
 
-pub column-across : (b : List ℤ) (i : ℕ) → i < 8 → column i (across b) ≡ row i b
-unfolding across
-column-across b zero h = refl
-column-across b (suc zero) h = refl
-column-across b (suc (suc zero)) h = refl
-column-across b (suc (suc (suc zero))) h = refl
-column-across b (suc (suc (suc (suc zero)))) h = refl
-column-across b (suc (suc (suc (suc (suc zero))))) h = refl
-column-across b (suc (suc (suc (suc (suc (suc zero)))))) h = refl
-column-across b (suc (suc (suc (suc (suc (suc (suc zero))))))) h = refl
-column-across b (suc (suc (suc (suc (suc (suc (suc (suc i)))))))) h = absurd (omega arith)
+pub column-transposed : (b : List ℤ) (i : ℕ) → i < 8 → column i (transposed b) ≡ row i b
+unfolding transposed
+column-transposed b zero h = refl
+column-transposed b (suc zero) h = refl
+column-transposed b (suc (suc zero)) h = refl
+column-transposed b (suc (suc (suc zero))) h = refl
+column-transposed b (suc (suc (suc (suc zero)))) h = refl
+column-transposed b (suc (suc (suc (suc (suc zero))))) h = refl
+column-transposed b (suc (suc (suc (suc (suc (suc zero)))))) h = refl
+column-transposed b (suc (suc (suc (suc (suc (suc (suc zero))))))) h = refl
+column-transposed b (suc (suc (suc (suc (suc (suc (suc (suc i)))))))) h = absurd (omega arith)
 
 pub rows-same : (f g : ℕ → List ℤ) (n : ℕ) → ((k : ℕ) → k < n → f k ≡ g k) → rows f n ≡ rows g n
 rows-same f g zero h = refl
@@ -82,52 +82,52 @@ row-rows f h i l =
 
 -- ---- blocks
 
-across-across : (b : List ℤ) → length b ≡ 64 → across (across b) ≡ b
-unfolding across
-across-across b e = rows-same (λ i. column i (across b)) (λ i. row i b) 8 (λ i l. column-across b i l) ∙ of-rows b e
+transposed-twice : (b : List ℤ) → length b ≡ 64 → transposed (transposed b) ≡ b
+unfolding transposed
+transposed-twice b e = rows-same (λ i. column i (transposed b)) (λ i. row i b) 8 (λ i l. column-transposed b i l) ∙ of-rows b e
 
-pub turn-back : (b : List ℤ) → length b ≡ 64 → turn⁻¹ (turn b) ≡ b
-unfolding turn turn⁻¹ across
-turn-back b e =
-    ap across
-    (rows-same (λ i. line⁻¹ (row i (turn b))) (λ i. column i b) 8
-    (λ i l. ap line⁻¹ (row-rows (λ k. line (column k b)) (λ k. length-line (column k b)) i l) ∙ line-back (column i b) refl))
-    ∙ across-across b e
+pub fdct8-columns-undone : (b : List ℤ) → length b ≡ 64 → idct8Rows (fdct8Columns b) ≡ b
+unfolding fdct8Columns idct8Rows transposed
+fdct8-columns-undone b e =
+    ap transposed
+    (rows-same (λ i. idct8 (row i (fdct8Columns b))) (λ i. column i b) 8
+    (λ i l. ap idct8 (row-rows (λ k. fdct8 (column k b)) (λ k. length-fdct8 (column k b)) i l) ∙ fdct8-undone (column i b) refl))
+    ∙ transposed-twice b e
 
-pub back-turn : (z : List ℤ) → length z ≡ 64 → turn (turn⁻¹ z) ≡ z
-unfolding turn turn⁻¹
-back-turn z e =
-    let y = rows (λ i. line⁻¹ (row i z)) 8 in
-    rows-same (λ i. line (column i (across y))) (λ i. row i z) 8
-    (λ i l. ap line (column-across y i l ∙ row-rows (λ k. line⁻¹ (row k z)) (λ k. length-back (row k z)) i l) ∙ back-line (row i z) refl)
+pub undone-fdct8-columns : (z : List ℤ) → length z ≡ 64 → fdct8Columns (idct8Rows z) ≡ z
+unfolding fdct8Columns idct8Rows
+undone-fdct8-columns z e =
+    let y = rows (λ i. idct8 (row i z)) 8 in
+    rows-same (λ i. fdct8 (column i (transposed y))) (λ i. row i z) 8
+    (λ i l. ap fdct8 (column-transposed y i l ∙ row-rows (λ k. idct8 (row k z)) (λ k. length-idct8 (row k z)) i l) ∙ undone-fdct8 (row i z) refl)
     ∙ of-rows z e
 
-pub length-turn : (b : List ℤ) → length (turn b) ≡ 64
-unfolding turn
-length-turn b = length-rows (λ i. line (column i b)) (λ i. length-line (column i b)) 8
+pub length-fdct8-columns : (b : List ℤ) → length (fdct8Columns b) ≡ 64
+unfolding fdct8Columns
+length-fdct8-columns b = length-rows (λ i. fdct8 (column i b)) (λ i. length-fdct8 (column i b)) 8
 
-pub length-turn⁻¹ : (b : List ℤ) → length (turn⁻¹ b) ≡ 64
-unfolding turn⁻¹ across
-length-turn⁻¹ b = refl
+pub length-idct8-rows : (b : List ℤ) → length (idct8Rows b) ≡ 64
+unfolding idct8Rows transposed
+length-idct8-rows b = refl
 
-pub length-transform : (b : List ℤ) → length (transform b) ≡ 64
-unfolding transform
-length-transform b = length-turn (turn b)
+pub length-fdct8x8 : (b : List ℤ) → length (fdct8x8 b) ≡ 64
+unfolding fdct8x8
+length-fdct8x8 b = length-fdct8-columns (fdct8Columns b)
 
-pub length-transform⁻¹ : (z : List ℤ) → length (transform⁻¹ z) ≡ 64
-unfolding transform⁻¹
-length-transform⁻¹ z = length-turn⁻¹ (turn⁻¹ z)
+pub length-idct8x8 : (z : List ℤ) → length (idct8x8 z) ≡ 64
+unfolding idct8x8
+length-idct8x8 z = length-idct8-rows (idct8Rows z)
 
 -- the inverse of the transform's result is the block
-pub undo-transform : (b : List ℤ) → length b ≡ 64 → transform⁻¹ (transform b) ≡ b
-unfolding transform transform⁻¹
-undo-transform b e = ap turn⁻¹ (turn-back (turn b) (length-turn b)) ∙ turn-back b e
+pub undo-transform : (b : List ℤ) → length b ≡ 64 → idct8x8 (fdct8x8 b) ≡ b
+unfolding fdct8x8 idct8x8
+undo-transform b e = ap idct8Rows (fdct8-columns-undone (fdct8Columns b) (length-fdct8-columns b)) ∙ fdct8-columns-undone b e
 
 -- the transform carries the inverse's result to the coefficients
-pub transform-undo : (z : List ℤ) → length z ≡ 64 → transform (transform⁻¹ z) ≡ z
-unfolding transform transform⁻¹
-transform-undo z e = ap turn (back-turn (turn⁻¹ z) (length-turn⁻¹ z)) ∙ back-turn z e
+pub transform-undo : (z : List ℤ) → length z ≡ 64 → fdct8x8 (idct8x8 z) ≡ z
+unfolding fdct8x8 idct8x8
+transform-undo z e = ap fdct8Columns (undone-fdct8-columns (idct8Rows z) (length-idct8-rows z)) ∙ undone-fdct8-columns z e
 
 -- it is the only block that it carries there
-pub only : (b z : List ℤ) → length b ≡ 64 → transform b ≡ z → b ≡ transform⁻¹ z
-only b z e h = sym (undo-transform b e) ∙ ap transform⁻¹ h
+pub only : (b z : List ℤ) → length b ≡ 64 → fdct8x8 b ≡ z → b ≡ idct8x8 z
+only b z e h = sym (undo-transform b e) ∙ ap idct8x8 h

@@ -1,4 +1,5 @@
--- SCOPE, "The transform": one pass over eight numbers, and two passes over a block of 64, row by row. Definitions only.
+-- SCOPE, "The transform": a pass over eight numbers (the Rust's `od_bin_fdct8`), two rounds of eight passes over a block of 64 places, row by
+-- row (its `od_bin_fdct8x8`), and both undone. Definitions only.
 use mathlib.Core.List.{List, [], _∷_, _++_}
 use Prim.Native.Nat.{ℕ, zero, suc, _+_, _*_}
 use lib.IntN.{ℤ, pos}
@@ -21,38 +22,38 @@ abbrev pub row : ℕ → List ℤ → List ℤ
 row i = spaced (8 * i) 1
 
 -- t0 t4 t2 t6 t7 t3 t5 t1 take x0 to x7; and back
-abbrev pub places : List ℤ → List ℤ
-places x = let g : ℕ → ℤ = λ k. getD x k (pos 0) in g 0 ∷ g 7 ∷ g 2 ∷ g 5 ∷ g 1 ∷ g 6 ∷ g 3 ∷ g 4 ∷ []
+abbrev pub inputOrder : List ℤ → List ℤ
+inputOrder x = let g : ℕ → ℤ = λ k. getD x k (pos 0) in g 0 ∷ g 7 ∷ g 2 ∷ g 5 ∷ g 1 ∷ g 6 ∷ g 3 ∷ g 4 ∷ []
 
-abbrev pub places⁻¹ : List ℤ → List ℤ
-places⁻¹ t = let g : ℕ → ℤ = λ k. getD t k (pos 0) in g 0 ∷ g 4 ∷ g 2 ∷ g 6 ∷ g 7 ∷ g 3 ∷ g 5 ∷ g 1 ∷ []
+abbrev pub inputOrder⁻¹ : List ℤ → List ℤ
+inputOrder⁻¹ t = let g : ℕ → ℤ = λ k. getD t k (pos 0) in g 0 ∷ g 4 ∷ g 2 ∷ g 6 ∷ g 7 ∷ g 3 ∷ g 5 ∷ g 1 ∷ []
 
 -- one pass over eight numbers, and the same steps undone
-unfoldable pub line : List ℤ → List ℤ
-line x = run steps (places x)
+unfoldable pub fdct8 : List ℤ → List ℤ
+fdct8 x = run steps (inputOrder x)
 
-unfoldable pub line⁻¹ : List ℤ → List ℤ
-line⁻¹ t = places⁻¹ (run (undoAll steps) t)
+unfoldable pub idct8 : List ℤ → List ℤ
+idct8 t = inputOrder⁻¹ (run (undoAll steps) t)
 
 -- the first n rows, row i being f i
 abbrev pub rows : (ℕ → List ℤ) → ℕ → List ℤ
 rows f zero = []
 rows f (suc n) = rows f n ++ f n
 
--- column i goes to row i, through the pass; twice
-unfoldable pub turn : List ℤ → List ℤ
-turn b = rows (λ i. line (column i b)) 8
+-- column i goes to row i, through the pass: one round, and two
+unfoldable pub fdct8Columns : List ℤ → List ℤ
+fdct8Columns b = rows (λ i. fdct8 (column i b)) 8
 
-unfoldable pub transform : List ℤ → List ℤ
-transform b = turn (turn b)
+unfoldable pub fdct8x8 : List ℤ → List ℤ
+fdct8x8 b = fdct8Columns (fdct8Columns b)
 
 -- rows and columns exchanged
-unfoldable pub across : List ℤ → List ℤ
-across b = rows (λ i. column i b) 8
+unfoldable pub transposed : List ℤ → List ℤ
+transposed b = rows (λ i. column i b) 8
 
--- row i goes to column i, through the pass undone; twice
-unfoldable pub turn⁻¹ : List ℤ → List ℤ
-turn⁻¹ b = across (rows (λ i. line⁻¹ (row i b)) 8)
+-- row i goes to column i, through the pass undone: one round back, and two
+unfoldable pub idct8Rows : List ℤ → List ℤ
+idct8Rows b = transposed (rows (λ i. idct8 (row i b)) 8)
 
-unfoldable pub transform⁻¹ : List ℤ → List ℤ
-transform⁻¹ b = turn⁻¹ (turn⁻¹ b)
+unfoldable pub idct8x8 : List ℤ → List ℤ
+idct8x8 b = idct8Rows (idct8Rows b)

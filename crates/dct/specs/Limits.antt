@@ -1,4 +1,4 @@
--- SCOPE, "The transform", its last lines: what the two calls take. Definitions only.
+-- SCOPE, "The transform": what the two calls take. Definitions only.
 use Prim.Native.Nat.{ℕ}
 
 -- places of a block, row by row
@@ -12,7 +12,3 @@ forwardLimit = 4095
 -- inverse takes -1,048,575 to 1,048,575
 abbrev pub inverseLimit : ℕ
 inverseLimit = 1048575
-
--- for what forward takes, no coefficient's size is above this (proofs/Bound.antt, `coefficient-bound`)
-abbrev pub coefficientLimit : ℕ
-coefficientLimit = 32767

@@ -7,11 +7,11 @@ ghost use Prim.Native.Nat.{_+_, _*_, _<_, _≤_};
 ghost use lib.ListN.{length, drop};
 ghost use Rattle.dct.specs.Limits.{blockSize};
 ghost use Rattle.dct.specs.Block as Block;
-ghost use Rattle.lifting.specs.Operation.{passLimit, undoneLimit, vals};
-ghost use Rattle.lifting.specs.Small.{Small};
+ghost use Rattle.lifting.specs.Inner.Operation.{runLimit, undoLimit, vals};
+ghost use Rattle.lifting.specs.Inner.Within.{AllWithin};
 
 // Eight numbers to the front of a part.
-pub fn store(out: &mut [i32], r: T8)
+pub fn store(r: T8, out: &mut [i32])
     requires { ⌜ 8 ≤ length (now out) ⌝ }
     ensures { λ _. ⌜ now (out .exit) ≡ vals r ++ drop 8 (now (out .entry)) ⌝ }
 {
@@ -51,43 +51,43 @@ pub fn gather(x: &[i32], at: usize, by: usize) -> T8
 }
 
 // Column i of x goes through the pass to the front of out.
-pub fn line(out: &mut [i32], x: &[i32], i: usize)
+pub fn fdct8(x: &[i32], i: usize, out: &mut [i32])
     requires { ⌜ i < 8 ⌝ }
     requires { ⌜ length (now x) ≡ blockSize ⌝ }
     requires { ⌜ 8 ≤ length (now out) ⌝ }
-    requires { ⌜ Small passLimit (Block.column i (now x)) ⌝ }
-    ensures { λ _. ⌜ now (out .exit) ≡ Block.line (Block.column i (now (x .entry))) ++ drop 8 (now (out .entry)) ⌝ }
+    requires { ⌜ AllWithin runLimit (Block.column i (now x)) ⌝ }
+    ensures { λ _. ⌜ now (out .exit) ≡ Block.fdct8 (Block.column i (now (x .entry))) ++ drop 8 (now (out .entry)) ⌝ }
 {
     let c = gather(x, i, 8);
-    let r = lifting::forward(c.t0, c.t7, c.t2, c.t5, c.t1, c.t6, c.t3, c.t4);
-    store(out, r);
+    let r = lifting::run_steps(c.t0, c.t7, c.t2, c.t5, c.t1, c.t6, c.t3, c.t4);
+    store(r, out);
 }
 
 // Column i goes to row i, for each of the eight.
-pub fn turn(out: &mut [i32], x: &[i32])
+pub fn fdct8_columns_into(x: &[i32], out: &mut [i32])
     requires { ⌜ length (now x) ≡ blockSize ⌝ }
     requires { ⌜ length (now out) ≡ blockSize ⌝ }
-    requires { ⌜ Small passLimit (now x) ⌝ }
-    ensures { λ _. ⌜ now (out .exit) ≡ Block.turn (now (x .entry)) ⌝ }
+    requires { ⌜ AllWithin runLimit (now x) ⌝ }
+    ensures { λ _. ⌜ now (out .exit) ≡ Block.fdct8Columns (now (x .entry)) ⌝ }
 {
     for i in 0..8 {
         let at = 8 * i;
-        line(&mut out[at..], x, i);
+        fdct8(x, i, &mut out[at..]);
     }
 }
 
 // The same into a block of its own. Nothing else can reach that block, so the eight passes can go side by side.
-pub fn turned(x: &[i32]) -> [i32; BLOCK_SIZE]
+pub fn fdct8_columns(x: &[i32]) -> [i32; BLOCK_SIZE]
     requires { ⌜ length (now x) ≡ blockSize ⌝ }
-    requires { ⌜ Small passLimit (now x) ⌝ }
-    ensures { λ r. ⌜ r ≡ Block.turn (now (x .entry)) ⌝ }
+    requires { ⌜ AllWithin runLimit (now x) ⌝ }
+    ensures { λ r. ⌜ r ≡ Block.fdct8Columns (now (x .entry)) ⌝ }
 {
     let mut y = [0i32; BLOCK_SIZE];
-    turn(&mut y, x);
+    fdct8_columns_into(x, &mut y);
     y
 }
 
-pub fn copy(out: &mut [i32], x: &[i32])
+pub fn copy(x: &[i32], out: &mut [i32])
     requires { ⌜ length (now out) ≡ length (now x) ⌝ }
     ensures { λ _. ⌜ now (out .exit) ≡ now (x .entry) ⌝ }
 {
@@ -99,16 +99,16 @@ pub fn copy(out: &mut [i32], x: &[i32])
 }
 
 // Row i of x goes through the inverse pass to the front of out.
-pub fn unline(out: &mut [i32], x: &[i32], i: usize)
+pub fn idct8(x: &[i32], i: usize, out: &mut [i32])
     requires { ⌜ i < 8 ⌝ }
     requires { ⌜ length (now x) ≡ blockSize ⌝ }
     requires { ⌜ 8 ≤ length (now out) ⌝ }
-    requires { ⌜ Small undoneLimit (Block.row i (now x)) ⌝ }
-    ensures { λ _. ⌜ now (out .exit) ≡ Block.line⁻¹ (Block.row i (now (x .entry))) ++ drop 8 (now (out .entry)) ⌝ }
+    requires { ⌜ AllWithin undoLimit (Block.row i (now x)) ⌝ }
+    ensures { λ _. ⌜ now (out .exit) ≡ Block.idct8 (Block.row i (now (x .entry))) ++ drop 8 (now (out .entry)) ⌝ }
 {
     let at = 8 * i;
     let a = gather(x, at, 1);
-    let r = lifting::inverse(a.t0, a.t1, a.t2, a.t3, a.t4, a.t5, a.t6, a.t7);
+    let r = lifting::undo_steps(a.t0, a.t1, a.t2, a.t3, a.t4, a.t5, a.t6, a.t7);
     let s = T8 {
         t0: r.t0,
         t1: r.t4,
@@ -119,50 +119,52 @@ pub fn unline(out: &mut [i32], x: &[i32], i: usize)
         t6: r.t5,
         t7: r.t1,
     };
-    store(out, s);
+    store(s, out);
+}
+
+// Each row through the inverse pass.
+pub fn idct8_each_row(x: &[i32], out: &mut [i32])
+    requires { ⌜ length (now x) ≡ blockSize ⌝ }
+    requires { ⌜ length (now out) ≡ blockSize ⌝ }
+    requires { ⌜ AllWithin undoLimit (now x) ⌝ }
+    ensures { λ _. ⌜ now (out .exit) ≡ Block.rows (λ i. Block.idct8 (Block.row i (now (x .entry)))) 8 ⌝ }
+{
+    for i in 0..8 {
+        let at = 8 * i;
+        idct8(x, i, &mut out[at..]);
+    }
 }
 
 // Column i of x to the front of out.
-pub fn cross(out: &mut [i32], x: &[i32], i: usize)
+pub fn transpose_row(x: &[i32], i: usize, out: &mut [i32])
     requires { ⌜ i < 8 ⌝ }
     requires { ⌜ length (now x) ≡ blockSize ⌝ }
     requires { ⌜ 8 ≤ length (now out) ⌝ }
     ensures { λ _. ⌜ now (out .exit) ≡ Block.column i (now (x .entry)) ++ drop 8 (now (out .entry)) ⌝ }
 {
     let c = gather(x, i, 8);
-    store(out, c);
+    store(c, out);
 }
 
-pub fn unlines(out: &mut [i32], x: &[i32])
+pub fn transpose(x: &[i32], out: &mut [i32])
     requires { ⌜ length (now x) ≡ blockSize ⌝ }
     requires { ⌜ length (now out) ≡ blockSize ⌝ }
-    requires { ⌜ Small undoneLimit (now x) ⌝ }
-    ensures { λ _. ⌜ now (out .exit) ≡ Block.rows (λ i. Block.line⁻¹ (Block.row i (now (x .entry)))) 8 ⌝ }
+    ensures { λ _. ⌜ now (out .exit) ≡ Block.transposed (now (x .entry)) ⌝ }
 {
     for i in 0..8 {
         let at = 8 * i;
-        unline(&mut out[at..], x, i);
+        transpose_row(x, i, &mut out[at..]);
     }
 }
 
-pub fn crossed(out: &mut [i32], x: &[i32])
+// Row i goes back to column i, for each of the eight.
+pub fn idct8_rows(x: &[i32], out: &mut [i32])
     requires { ⌜ length (now x) ≡ blockSize ⌝ }
     requires { ⌜ length (now out) ≡ blockSize ⌝ }
-    ensures { λ _. ⌜ now (out .exit) ≡ Block.across (now (x .entry)) ⌝ }
-{
-    for i in 0..8 {
-        let at = 8 * i;
-        cross(&mut out[at..], x, i);
-    }
-}
-
-pub fn back(out: &mut [i32], x: &[i32])
-    requires { ⌜ length (now x) ≡ blockSize ⌝ }
-    requires { ⌜ length (now out) ≡ blockSize ⌝ }
-    requires { ⌜ Small undoneLimit (now x) ⌝ }
-    ensures { λ _. ⌜ now (out .exit) ≡ Block.turn⁻¹ (now (x .entry)) ⌝ }
+    requires { ⌜ AllWithin undoLimit (now x) ⌝ }
+    ensures { λ _. ⌜ now (out .exit) ≡ Block.idct8Rows (now (x .entry)) ⌝ }
 {
     let mut z = [0i32; BLOCK_SIZE];
-    unlines(&mut z, x);
-    crossed(out, &z);
+    idct8_each_row(x, &mut z);
+    transpose(&z, out);
 }

@@ -12,38 +12,38 @@ use lib.ListN.{getD}
 use lib.Signed.{ltZ}
 use mir.Syntax.{w32}
 use mir.Val.{SFits}
-use Rattle.dct.specs.Limits.{coefficientLimit}
-use Rattle.lifting.specs.Small.{Within, Small}
-use Rattle.lifting.specs.Operation.{rd}
+use Rattle.dct.specs.Inner.Coefficients.{coefficientLimit}
+use Rattle.lifting.specs.Inner.Within.{Within, AllWithin}
+use Rattle.lifting.specs.Inner.Operation.{read32}
 use Rattle.hvs_block.specs.Levels.{Sample}
 use Rattle.lifting.proofs.Size.{fits, size-mul, size-diff, whole}
 use Rattle.dct.proofs.Blocks.{small-at}
 
 -- ---- a place of a block, as it is read
-same : {n : ℕ} {z : ℤ} → T (ltb n (2 ^ 31)) → Within n z → rd z ≡ z
+same : {n : ℕ} {z : ℤ} → T (ltb n (2 ^ 31)) → Within n z → read32 z ≡ z
 same {n} {z} t w = whole (fits z (lt-of-le-of-lt (w .le) (ltb→lt n (2 ^ 31) t)) .sfits)
 
-pub read-sample : {z : ℤ} → Sample z → rd z ≡ z
+pub read-sample : {z : ℤ} → Sample z → read32 z ≡ z
 read-sample h = same tt (record { le = h .small })
 
-pub sample-read : {z : ℤ} → Sample z → Sample (rd z)
+pub sample-read : {z : ℤ} → Sample z → Sample (read32 z)
 sample-read h = rw (read-sample h) h
 
-pub read-coefficient : (b : List ℤ) → Small coefficientLimit b → (k : ℕ) → rd (getD b k (pos 0)) ≡ getD b k (pos 0)
+pub read-coefficient : (b : List ℤ) → AllWithin coefficientLimit b → (k : ℕ) → read32 (getD b k (pos 0)) ≡ getD b k (pos 0)
 read-coefficient b h k = same tt (small-at coefficientLimit b h k)
 
 -- ---- its square
-module _ (d : List ℤ) (h : Small coefficientLimit d) (k : ℕ) where
+module _ (d : List ℤ) (h : AllWithin coefficientLimit d) (k : ℕ) where
   square-small : natAbs (getD d k (pos 0) *ℤ getD d k (pos 0)) < 2 ^ 31
   square-small =
       let a = getD d k (pos 0) in
       let w = small-at coefficientLimit d h k .le in
       rw (size-mul a a) (lt-of-le-of-lt (mul-le-mul w w) (lit< tt))
 
-  pub square-fits : SFits w32 (rd (getD d k (pos 0)) *ℤ rd (getD d k (pos 0)))
+  pub square-fits : SFits w32 (read32 (getD d k (pos 0)) *ℤ read32 (getD d k (pos 0)))
   square-fits = rw (read-coefficient d h k) (fits _ square-small)
 
-  pub square-is : rd (rd (getD d k (pos 0)) *ℤ rd (getD d k (pos 0))) ≡ getD d k (pos 0) *ℤ getD d k (pos 0)
+  pub square-is : read32 (read32 (getD d k (pos 0)) *ℤ read32 (getD d k (pos 0))) ≡ getD d k (pos 0) *ℤ getD d k (pos 0)
   square-is = rw (read-coefficient d h k) (whole (fits (getD d k (pos 0) *ℤ getD d k (pos 0)) square-small .sfits))
 
 -- ---- the size of a number by its sign
@@ -60,20 +60,20 @@ module _ (a b : ℤ) (h : Within coefficientLimit a) (k : Within coefficientLimi
   small : natAbs (a -ℤ b) < 2 ^ 31
   small = omega (arith, size-diff a b, h .le, k .le)
 
-  pub difference-fits : SFits w32 (rd a -ℤ rd b)
+  pub difference-fits : SFits w32 (read32 a -ℤ read32 b)
   difference-fits = rw (same tt h, same tt k) (fits _ small)
 
-  read : rd (rd a -ℤ rd b) ≡ a -ℤ b
+  read : read32 (read32 a -ℤ read32 b) ≡ a -ℤ b
   read = rw (same tt h, same tt k) (whole (fits (a -ℤ b) small .sfits))
 
-  turned : ltZ (rd (rd a -ℤ rd b)) (pos 0) ≡ true → pos 0 -ℤ rd (rd a -ℤ rd b) ≡ pos (natAbs (a -ℤ b))
+  turned : ltZ (read32 (read32 a -ℤ read32 b)) (pos 0) ≡ true → pos 0 -ℤ read32 (read32 a -ℤ read32 b) ≡ pos (natAbs (a -ℤ b))
   turned e = rw read (size-minus (a -ℤ b) (rw read at e))
 
-  pub turned-fits : ltZ (rd (rd a -ℤ rd b)) (pos 0) ≡ true → SFits w32 (pos 0 -ℤ rd (rd a -ℤ rd b))
+  pub turned-fits : ltZ (read32 (read32 a -ℤ read32 b)) (pos 0) ≡ true → SFits w32 (pos 0 -ℤ read32 (read32 a -ℤ read32 b))
   turned-fits e = rw (turned e) (fits (pos (natAbs (a -ℤ b))) small)
 
-  pub apart-below : ltZ (rd (rd a -ℤ rd b)) (pos 0) ≡ true → rd (pos 0 -ℤ rd (rd a -ℤ rd b)) ≡ pos (natAbs (a -ℤ b))
+  pub apart-below : ltZ (read32 (read32 a -ℤ read32 b)) (pos 0) ≡ true → read32 (pos 0 -ℤ read32 (read32 a -ℤ read32 b)) ≡ pos (natAbs (a -ℤ b))
   apart-below e = rw (turned e) (whole (fits (pos (natAbs (a -ℤ b))) small .sfits))
 
-  pub apart-above : ltZ (rd (rd a -ℤ rd b)) (pos 0) ≡ false → rd (rd a -ℤ rd b) ≡ pos (natAbs (a -ℤ b))
+  pub apart-above : ltZ (read32 (read32 a -ℤ read32 b)) (pos 0) ≡ false → read32 (read32 a -ℤ read32 b) ≡ pos (natAbs (a -ℤ b))
   apart-above e = read ∙ size-plus (a -ℤ b) (rw read at e)

@@ -11,7 +11,7 @@ use Rattle.number.specs.declared.Rooted.{Rooted}
 use Rattle.number.specs.declared.Rooted.the-variants.{Root, Refused}
 use Rattle.number.specs.Root.{rootOf}
 use Rattle.number.specs.Steps.{_⊕_, _⊖_, _⊗_, _⊘_, double}
-use Rattle.dct.specs.Block.{transform}
+use Rattle.dct.specs.Block.{fdct8x8}
 use Rattle.hvs_block.specs.Fold.{overSquare}
 use Rattle.hvs_block.specs.Rounded.{signed, zero64, fifteen, sixteen, thirtyTwo, sixtyThree, sixtyFour}
 use Rattle.hvs_block.specs.Tables.{entry}
@@ -109,4 +109,4 @@ errors csf mask m d1 d2 result = overSquare 8 (addTerm csf mask m d1 d2) result
 -- result, and then one block of each plane
 unfoldable pub withBlock : List (List Float) → List (List Float) → List ℤ → List ℤ → Float → Float
 withBlock csf mask p1 p2 result =
-    errors csf mask (maskOfBoth mask p1 p2 (transform p1) (transform p2)) (transform p1) (transform p2) result
+    errors csf mask (maskOfBoth mask p1 p2 (fdct8x8 p1) (fdct8x8 p2)) (fdct8x8 p1) (fdct8x8 p2) result

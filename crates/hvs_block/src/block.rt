@@ -3,8 +3,9 @@ use crate::spread;
 use number::Rooted;
 ghost use mathlib.Core.Path.{_≡_};
 ghost use lib.ListN.{length};
-ghost use Rattle.dct.specs.Limits.{blockSize, coefficientLimit};
-ghost use Rattle.lifting.specs.Small.{Within, Small};
+ghost use Rattle.dct.specs.Limits.{blockSize};
+ghost use Rattle.dct.specs.Inner.Coefficients.{coefficientLimit};
+ghost use Rattle.lifting.specs.Inner.Within.{Within, AllWithin};
 ghost use Rattle.hvs_block.specs.Block as Block;
 ghost use Rattle.hvs_block.specs.Block.{distance};
 ghost use Rattle.hvs_block.specs.Levels.{Samples};
@@ -17,8 +18,8 @@ struct Sums {
 
 fn energies(d1: &[i32], d2: &[i32], mask: &[[f64; 8]; 8]) -> Sums
     requires { ⌜ (length (now d1) ≡ blockSize) × (length (now d2) ≡ blockSize) ⌝ }
-    requires { ⌜ Small coefficientLimit (now d1) ⌝ }
-    requires { ⌜ Small coefficientLimit (now d2) ⌝ }
+    requires { ⌜ AllWithin coefficientLimit (now d1) ⌝ }
+    requires { ⌜ AllWithin coefficientLimit (now d2) ⌝ }
     ensures { λ r. ⌜ r .one ≡ Block.energy (now (mask .entry)) (now (d1 .entry)) ⌝ }
     ensures { λ r. ⌜ r .other ≡ Block.energy (now (mask .entry)) (now (d2 .entry)) ⌝ }
 {
@@ -57,8 +58,8 @@ fn mask_of_both(p1: &[i32], p2: &[i32], d1: &[i32], d2: &[i32], mask: &[[f64; 8]
     requires { ⌜ Samples (now p1) ⌝ }
     requires { ⌜ Samples (now p2) ⌝ }
     requires { ⌜ (length (now d1) ≡ blockSize) × (length (now d2) ≡ blockSize) ⌝ }
-    requires { ⌜ Small coefficientLimit (now d1) ⌝ }
-    requires { ⌜ Small coefficientLimit (now d2) ⌝ }
+    requires { ⌜ AllWithin coefficientLimit (now d1) ⌝ }
+    requires { ⌜ AllWithin coefficientLimit (now d2) ⌝ }
     ensures { λ r. ⌜ r ≡ Block.maskOfBoth (now (mask .entry)) (now (p1 .entry)) (now (p2 .entry)) (now (d1 .entry)) (now (d2 .entry)) ⌝ }
 {
     let e = energies(d1, d2, mask);
@@ -106,8 +107,8 @@ fn errors(
     csf: &[[f64; 8]; 8],
 ) -> f64
     requires { ⌜ (length (now d1) ≡ blockSize) × (length (now d2) ≡ blockSize) ⌝ }
-    requires { ⌜ Small coefficientLimit (now d1) ⌝ }
-    requires { ⌜ Small coefficientLimit (now d2) ⌝ }
+    requires { ⌜ AllWithin coefficientLimit (now d1) ⌝ }
+    requires { ⌜ AllWithin coefficientLimit (now d2) ⌝ }
     ensures { λ r. ⌜ r ≡ Block.errors (now (csf .entry)) (now (mask .entry)) m (now (d1 .entry)) (now (d2 .entry)) result ⌝ }
 {
     let mut s = result;
@@ -131,8 +132,8 @@ pub fn with_block(
     requires { ⌜ Samples (now p2) ⌝ }
     ensures { λ r. ⌜ r ≡ Block.withBlock (now (csf .entry)) (now (mask .entry)) (now (p1 .entry)) (now (p2 .entry)) result ⌝ }
 {
-    let d1 = dct::transform(p1);
-    let d2 = dct::transform(p2);
+    let d1 = dct::fdct8x8(p1);
+    let d2 = dct::fdct8x8(p2);
     let m = mask_of_both(p1, p2, &d1, &d2, mask);
     errors(result, &d1, &d2, m, mask, csf)
 }

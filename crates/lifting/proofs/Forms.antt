@@ -13,8 +13,8 @@ use lib.IntN.{ℤ, pos, negsuc, negℤ, natAbs, _+ℤ_, _-ℤ_, _*ℤ_, +ℤ-ass
 use lib.ListN.{length, getD, set, take, drop, replicate}
 use lib.Signed.{shrZ}
 use borrow.Author.Tests.{lt-ltb}
-use Rattle.lifting.specs.Operation.{passLimit}
-use Rattle.lifting.specs.Small.{Small}
+use Rattle.lifting.specs.Inner.Operation.{runLimit}
+use Rattle.lifting.specs.Inner.Within.{AllWithin}
 use Rattle.lifting.specs.Steps.{Of, whole, halved, times, of, half, part, Step, plus, less, from, step, run, steps, steps1, steps2, steps3, steps4, steps5}
 use Rattle.lifting.proofs.Size.{cond-ind, size-add, size-mul, size-neg}
 use Rattle.lifting.proofs.Ring.{exchange, plus-times, times-plus, neg-times, times-neg, times-assoc, times-swap}
@@ -367,7 +367,7 @@ unfolding Forms Form dot singles
 forms-start [] = tt
 forms-start (a ∷ x) = (sym (+ℤ-idr (pos 1 *ℤ a)), forms-stretch 1 1 a (singles (length x)) x x (forms-start x))
 
-under-start : (n : ℕ) (x : List ℤ) → Small n x → Under (replicate (length x) n) x
+under-start : (n : ℕ) (x : List ℤ) → AllWithin n x → Under (replicate (length x) n) x
 under-start n [] h = tt
 under-start n (a ∷ x) h = (h .0 .le, under-start n x (h .1))
 
@@ -375,14 +375,14 @@ under-start n (a ∷ x) h = (h .0 .le, under-start n x (h .1))
 pub bounds : ℕ → List Step → ℕ → List ℕ
 bounds k ts n = let s = after ts (start k n) in sizes-of (s .sizes) (s .unit) (s .places)
 
-pub bounded : (ts : List Step) (n : ℕ) (x : List ℤ) → Small n x → Under (bounds (length x) ts n) (run ts x)
+pub bounded : (ts : List Step) (n : ℕ) (x : List ℤ) → AllWithin n x → Under (bounds (length x) ts n) (run ts x)
 unfolding bounds start
 bounded ts n x h =
     let s = start (length x) n in
     let g = held ts s x (record { numbers = x; under = under-start n x h; forms = forms-start x }) in
     forms-size (after ts s .unit) (after ts s .sizes) (after ts s .places) (g .numbers) (run ts x) (positive ts s (lit≤ tt)) (g .under) (g .forms)
 
-pub sized : (ts : List Step) (n : ℕ) (gs : List ℕ) (x v : List ℤ) → bounds (length x) ts n ≡ gs → v ≡ run ts x → Small n x → Under gs v
+pub sized : (ts : List Step) (n : ℕ) (gs : List ℕ) (x v : List ℤ) → bounds (length x) ts n ≡ gs → v ≡ run ts x → AllWithin n x → Under gs v
 sized ts n gs x v e w h =
     subst (λ (l : List ℤ). Under gs l) (sym w) (subst (λ (l : List ℕ). Under l (run ts x)) e (bounded ts n x h))
 
@@ -391,7 +391,7 @@ largest : List ℕ → ℕ
 largest [] = 0
 largest (g ∷ gs) = max g (largest gs)
 
-under-small : (m : ℕ) (gs : List ℕ) (v : List ℤ) → largest gs ≤ m → Under gs v → Small m v
+under-small : (m : ℕ) (gs : List ℕ) (v : List ℤ) → largest gs ≤ m → Under gs v → AllWithin m v
 unfolding largest
 under-small m gs [] l h = tt
 under-small m [] (a ∷ v) l h = absurd h
@@ -405,14 +405,14 @@ unfoldable pub reach : ℕ → List Step → ℕ → ℕ
 unfolding largest bounds sizes-of weigh after advance write stretch scale join den num slack start singles
 reach k ts n = largest (bounds k ts n)
 
-pub reached : (ts : List Step) (n m : ℕ) (x : List ℤ) → reach (length x) ts n ≤ m → Small n x → Small m (run ts x)
+pub reached : (ts : List Step) (n m : ℕ) (x : List ℤ) → reach (length x) ts n ≤ m → AllWithin n x → AllWithin m (run ts x)
 unfolding reach
 reached ts n m x l h = under-small m (bounds (length x) ts n) (run ts x) l (bounded ts n x h)
 
 -- within a pass, where a product would else not be known to fit 32 bits
 pub pass-sizes :
-    (bounds 8 (steps1 ++ steps2) passLimit ≡ 46341 ∷ 46340 ∷ 46341 ∷ 46340 ∷ 46341 ∷ 23170 ∷ 46341 ∷ 23170 ∷ [])
-    × (bounds 8 ((steps1 ++ steps2) ++ take 5 steps3) passLimit ≡ 65537 ∷ 46340 ∷ 60548 ∷ 46340 ∷ 65536 ∷ 23170 ∷ 77305 ∷ 23170 ∷ [])
-    × (bounds 8 ((((steps1 ++ steps2) ++ take 5 steps3) ++ drop 5 steps3) ++ steps4) passLimit ≡ 65537 ∷ 55939 ∷ 60548 ∷ 55939 ∷ 65536 ∷ 55938 ∷ 60547 ∷ 55938 ∷ [])
+    (bounds 8 (steps1 ++ steps2) runLimit ≡ 46341 ∷ 46340 ∷ 46341 ∷ 46340 ∷ 46341 ∷ 23170 ∷ 46341 ∷ 23170 ∷ [])
+    × (bounds 8 ((steps1 ++ steps2) ++ take 5 steps3) runLimit ≡ 65537 ∷ 46340 ∷ 60548 ∷ 46340 ∷ 65536 ∷ 23170 ∷ 77305 ∷ 23170 ∷ [])
+    × (bounds 8 ((((steps1 ++ steps2) ++ take 5 steps3) ++ drop 5 steps3) ++ steps4) runLimit ≡ 65537 ∷ 55939 ∷ 60548 ∷ 55939 ∷ 65536 ∷ 55938 ∷ 60547 ∷ 55938 ∷ [])
 unfolding bounds sizes-of weigh after advance write stretch scale join den num slack start singles steps steps1 steps2 steps3 steps4 steps5
 pass-sizes = (refl, refl, refl)

@@ -15,8 +15,8 @@ use mir.Syntax.{w32, w64}
 use mir.Val.{SFits, sel}
 use mir.Facts.{toZ-ofZ}
 use Rattle.lifting.specs.Steps.{half, part}
-use Rattle.lifting.specs.Operation.{rd, Is, HalfOf}
-use Rattle.lifting.specs.Small.{Within}
+use Rattle.lifting.specs.Inner.Operation.{read32, Is, HalfOf}
+use Rattle.lifting.specs.Inner.Within.{Within}
 
 pub cond-ind : (c : Bool) (x y : ℤ) (P : ℤ → Type 0) → (T c → P x) → (T (not c) → P y) → P (cond c x y)
 cond-ind true x y P f g = f tt
@@ -57,10 +57,10 @@ size-fits (pos n) f = let h : n < 2 ^ 31 = f .sfits in omega arith
 size-fits (negsuc n) f = f .sfits
 
 -- the answer of an operation whose exact result z has a size below 2^63
-pub answer : (z : ℤ) (n : ℕ) → natAbs z ≤ n → natAbs z < 2 ^ 31 → Is z n (rd z)
+pub answer : (z : ℤ) (n : ℕ) → natAbs z ≤ n → natAbs z < 2 ^ 31 → Is z n (read32 z)
 answer z n h l = subst (λ (x : ℤ). Is z n x) (sym e) (record { is = e; size = subst (λ (x : ℤ). natAbs x ≤ n) (sym e) h })
   where
-    e : rd z ≡ z
+    e : read32 z ≡ z
     e = toZ-ofZ (fits z l)
 
 pub size-mul : (a b : ℤ) → natAbs (a *ℤ b) ≡ natAbs a * natAbs b
@@ -110,7 +110,7 @@ module _ (a b : ℤ) (s : ℕ) (ha : natAbs a < 2 ^ 31) (hs : s ≤ 16) (hb : na
       fits64 (a *ℤ b +ℤ pos (2 ^ (s - 1))) (omega (arith, size-product, size-add (a *ℤ b) (pos (2 ^ (s - 1)))))
 
 -- what is read back is never larger
-pub kept : (z : ℤ) → natAbs (rd z) ≤ natAbs z
+pub kept : (z : ℤ) → natAbs (read32 z) ≤ natAbs z
 kept (pos n) = pick (ltb n (2 ^ 31)) (λ t. omega arith) (λ t. let h : 2 ^ 31 ≤ n = nltb→le n (2 ^ 31) t in omega arith)
   where
     pick : (b : Bool) → (T b → n ≤ n) → (T (not b) → suc (2 ^ 32 - suc n) ≤ n) → natAbs (sel b (pos n) (negsuc (2 ^ 32 - suc n))) ≤ n
@@ -122,7 +122,7 @@ kept (negsuc n) = pick (ltb (2 ^ 32 - suc n) (2 ^ 31)) (λ t. let h : 2 ^ 32 - s
     pick true f g = f tt
     pick false f g = g tt
 
-pub within : {n : ℕ} {z : ℤ} → Within n z → natAbs (rd z) ≤ n
+pub within : {n : ℕ} {z : ℤ} → Within n z → natAbs (read32 z) ≤ n
 within {n} {z} w = le-trans (kept z) (w .le)
 
 pub half-of : (h : ℤ) (s : ℕ) → HalfOf h s → h ≡ pos (2 ^ (s - 1))
@@ -130,21 +130,21 @@ half-of (pos n) s t = ap pos (eqb→eq n (2 ^ (s - 1)) t)
 half-of (negsuc n) s t = absurd t
 
 -- an answer handed on is read back once more
-pub again : (z : ℤ) (n : ℕ) (r : ℤ) → mag r < 2 ^ 31 → Is z n r → Is z n (rd r)
+pub again : (z : ℤ) (n : ℕ) (r : ℤ) → mag r < 2 ^ 31 → Is z n r → Is z n (read32 r)
 again z n r f a = subst (λ (x : ℤ). Is z n x) (sym (toZ-ofZ (sfits-of f))) a
 
 -- what is read back of a number that is small is small
-pub read : {n : ℕ} {z : ℤ} → Within n z → Within n (rd z)
+pub read : {n : ℕ} {z : ℤ} → Within n z → Within n (read32 z)
 read {n} {z} w = record { le = within w }
 
 -- what is read back of a number that came out of memory, a struct or a call
-pub whole : {z : ℤ} → mag z < 2 ^ 31 → rd z ≡ z
+pub whole : {z : ℤ} → mag z < 2 ^ 31 → read32 z ≡ z
 whole h = toZ-ofZ {w = w32} (sfits-of {w = w32} h)
 
 -- the same of eight
 pub whole8 : (z0 z1 z2 z3 z4 z5 z6 z7 : ℤ)
     → mag z0 < 2 ^ 31 → mag z1 < 2 ^ 31 → mag z2 < 2 ^ 31 → mag z3 < 2 ^ 31 → mag z4 < 2 ^ 31 → mag z5 < 2 ^ 31 → mag z6 < 2 ^ 31 → mag z7 < 2 ^ 31
-    → _≡_ {A = List ℤ} (rd z0 ∷ rd z1 ∷ rd z2 ∷ rd z3 ∷ rd z4 ∷ rd z5 ∷ rd z6 ∷ rd z7 ∷ []) (z0 ∷ z1 ∷ z2 ∷ z3 ∷ z4 ∷ z5 ∷ z6 ∷ z7 ∷ [])
+    → _≡_ {A = List ℤ} (read32 z0 ∷ read32 z1 ∷ read32 z2 ∷ read32 z3 ∷ read32 z4 ∷ read32 z5 ∷ read32 z6 ∷ read32 z7 ∷ []) (z0 ∷ z1 ∷ z2 ∷ z3 ∷ z4 ∷ z5 ∷ z6 ∷ z7 ∷ [])
 whole8 z0 z1 z2 z3 z4 z5 z6 z7 h0 h1 h2 h3 h4 h5 h6 h7 =
     λ i. whole {z = z0} h0 i ∷ whole {z = z1} h1 i ∷ whole {z = z2} h2 i ∷ whole {z = z3} h3 i ∷ whole {z = z4} h4 i ∷ whole {z = z5} h5 i
     ∷ whole {z = z6} h6 i ∷ whole {z = z7} h7 i ∷ []

@@ -1,3 +1,2 @@
 pub mod Steps
-pub mod Small
-pub mod Operation
+pub mod Inner

@@ -39,7 +39,8 @@ abbrev pub run : List Step → List ℤ → List ℤ
 run [] v = v
 run (s ∷ ss) v = run ss (step s v)
 
--- The five paragraphs of SCOPE, "The transform". Its h1, h4 and h6 are the half of a place that no step has changed since, so they need no place of their own.
+-- The five groups of SCOPE, "The transform". Its h1, h4 and h6 are the half of a place that no step has changed since, so they need no place
+-- of their own.
 unfoldable pub steps1 : List Step
 steps1 = from 1 0 whole ∷ less 0 1 halved ∷ plus 4 5 whole ∷ less 5 4 halved ∷ from 3 2 whole ∷ less 2 3 halved ∷ plus 6 7 whole ∷ from 7 6 halved ∷ []
 

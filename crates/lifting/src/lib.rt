@@ -1,4 +1,4 @@
-// One pass over eight numbers, forward and undone: SCOPE, "The transform".
+// The steps of the transform over eight numbers, run and undone: SCOPE, "The transform".
 mod lift;
 
 use crate::lift::add;
@@ -10,8 +10,8 @@ use crate::lift::up;
 use crate::lift::up_wide;
 ghost use mathlib.Core.Path.{_≡_};
 ghost use mathlib.Core.List.{[], _∷_};
-ghost use Rattle.lifting.specs.Operation.{passLimit, undoneLimit, vals};
-ghost use Rattle.lifting.specs.Small.{Small};
+ghost use Rattle.lifting.specs.Inner.Operation.{runLimit, undoLimit, vals};
+ghost use Rattle.lifting.specs.Inner.Within.{AllWithin};
 ghost use Rattle.lifting.specs.Steps.{run, steps, undoAll};
 
 // Eight numbers: t0 to t7.
@@ -27,8 +27,8 @@ pub struct T8 {
 }
 
 // The steps, in the order of SCOPE.
-pub fn forward(t0: i32, t1: i32, t2: i32, t3: i32, t4: i32, t5: i32, t6: i32, t7: i32) -> T8
-    requires { ⌜ Small passLimit (t0 ∷ t1 ∷ t2 ∷ t3 ∷ t4 ∷ t5 ∷ t6 ∷ t7 ∷ []) ⌝ }
+pub fn run_steps(t0: i32, t1: i32, t2: i32, t3: i32, t4: i32, t5: i32, t6: i32, t7: i32) -> T8
+    requires { ⌜ AllWithin runLimit (t0 ∷ t1 ∷ t2 ∷ t3 ∷ t4 ∷ t5 ∷ t6 ∷ t7 ∷ []) ⌝ }
     ensures { λ r. ⌜ vals r ≡ run steps (t0 ∷ t1 ∷ t2 ∷ t3 ∷ t4 ∷ t5 ∷ t6 ∷ t7 ∷ []) ⌝ }
 {
     let t1 = sub(t0, t1);
@@ -80,8 +80,8 @@ pub fn forward(t0: i32, t1: i32, t2: i32, t3: i32, t4: i32, t5: i32, t6: i32, t7
 }
 
 // The steps undone, from the last to the first.
-pub fn inverse(t0: i32, t1: i32, t2: i32, t3: i32, t4: i32, t5: i32, t6: i32, t7: i32) -> T8
-    requires { ⌜ Small undoneLimit (t0 ∷ t1 ∷ t2 ∷ t3 ∷ t4 ∷ t5 ∷ t6 ∷ t7 ∷ []) ⌝ }
+pub fn undo_steps(t0: i32, t1: i32, t2: i32, t3: i32, t4: i32, t5: i32, t6: i32, t7: i32) -> T8
+    requires { ⌜ AllWithin undoLimit (t0 ∷ t1 ∷ t2 ∷ t3 ∷ t4 ∷ t5 ∷ t6 ∷ t7 ∷ []) ⌝ }
     ensures { λ r. ⌜ vals r ≡ run (undoAll steps) (t0 ∷ t1 ∷ t2 ∷ t3 ∷ t4 ∷ t5 ∷ t6 ∷ t7 ∷ []) ⌝ }
 {
     let t5 = down_wide(t5, t3, 2485, 4096, 13);

@@ -1,8 +1,8 @@
-// The operations of a pass. Each gives the exact result, and a bound on its size that linear arithmetic can follow (`Is`).
+// The operations of the steps. Each gives the exact result, and a bound on its size that linear arithmetic can follow (`Is`).
 ghost use Prim.Native.Nat.{_+_, _*_, _/_, _^_, _<_};
 ghost use lib.IntN.{_+ℤ_, _-ℤ_, natAbs};
 ghost use Rattle.lifting.specs.Steps.{half, part};
-ghost use Rattle.lifting.specs.Operation.{Is, Scale};
+ghost use Rattle.lifting.specs.Inner.Operation.{Is, Factor};
 
 pub fn add(a: i32, b: i32) -> i32
     requires { ⌜ natAbs a + natAbs b < 2 ^ 31 ⌝ }
@@ -29,7 +29,7 @@ pub fn halved(a: i32) -> i32
 pub fn scaled(a: i32, b: i32, h: i32, s: u32) -> i32
     requires { ⌜ natAbs a < 2 ^ 31 ⌝ }
     requires { ⌜ natAbs a * natAbs b + natAbs h < 2 ^ 31 ⌝ }
-    requires { ⌜ Scale b h s ⌝ }
+    requires { ⌜ Factor b h s ⌝ }
     ensures { λ r. ⌜ Is (part a b s) (natAbs a) r ⌝ }
 {
     (a * b + h) >> s
@@ -39,7 +39,7 @@ pub fn scaled(a: i32, b: i32, h: i32, s: u32) -> i32
 pub fn up(x: i32, y: i32, b: i32, h: i32, s: u32) -> i32
     requires { ⌜ natAbs x + natAbs y < 2 ^ 31 ⌝ }
     requires { ⌜ natAbs y * natAbs b + natAbs h < 2 ^ 31 ⌝ }
-    requires { ⌜ Scale b h s ⌝ }
+    requires { ⌜ Factor b h s ⌝ }
     ensures { λ r. ⌜ Is (x +ℤ part y b s) (natAbs x + natAbs y) r ⌝ }
 {
     add(x, scaled(y, b, h, s))
@@ -49,7 +49,7 @@ pub fn up(x: i32, y: i32, b: i32, h: i32, s: u32) -> i32
 pub fn down(x: i32, y: i32, b: i32, h: i32, s: u32) -> i32
     requires { ⌜ natAbs x + natAbs y < 2 ^ 31 ⌝ }
     requires { ⌜ natAbs y * natAbs b + natAbs h < 2 ^ 31 ⌝ }
-    requires { ⌜ Scale b h s ⌝ }
+    requires { ⌜ Factor b h s ⌝ }
     ensures { λ r. ⌜ Is (x -ℤ part y b s) (natAbs x + natAbs y) r ⌝ }
 {
     sub(x, scaled(y, b, h, s))
@@ -58,7 +58,7 @@ pub fn down(x: i32, y: i32, b: i32, h: i32, s: u32) -> i32
 // The same three for the inverse, whose products need 37 bits.
 pub fn scaled_wide(a: i32, b: i32, h: i32, s: u32) -> i32
     requires { ⌜ natAbs a < 2 ^ 31 ⌝ }
-    requires { ⌜ Scale b h s ⌝ }
+    requires { ⌜ Factor b h s ⌝ }
     ensures { λ r. ⌜ Is (part a b s) (natAbs a) r ⌝ }
 {
     ((a as i64 * b as i64 + h as i64) >> s) as i32
@@ -66,7 +66,7 @@ pub fn scaled_wide(a: i32, b: i32, h: i32, s: u32) -> i32
 
 pub fn up_wide(x: i32, y: i32, b: i32, h: i32, s: u32) -> i32
     requires { ⌜ natAbs x + natAbs y < 2 ^ 31 ⌝ }
-    requires { ⌜ Scale b h s ⌝ }
+    requires { ⌜ Factor b h s ⌝ }
     ensures { λ r. ⌜ Is (x +ℤ part y b s) (natAbs x + natAbs y) r ⌝ }
 {
     add(x, scaled_wide(y, b, h, s))
@@ -74,7 +74,7 @@ pub fn up_wide(x: i32, y: i32, b: i32, h: i32, s: u32) -> i32
 
 pub fn down_wide(x: i32, y: i32, b: i32, h: i32, s: u32) -> i32
     requires { ⌜ natAbs x + natAbs y < 2 ^ 31 ⌝ }
-    requires { ⌜ Scale b h s ⌝ }
+    requires { ⌜ Factor b h s ⌝ }
     ensures { λ r. ⌜ Is (x -ℤ part y b s) (natAbs x + natAbs y) r ⌝ }
 {
     sub(x, scaled_wide(y, b, h, s))

@@ -12,7 +12,7 @@ use Rattle.psnr.specs.Squared.{squaredErrorOf}
 use Rattle.psnr.specs.declared.SquaredError.{SquaredError}
 use Rattle.psnr.specs.declared.SquaredError.the-variants.{Differs, Identical, Refused}
 use Rattle.lifting.specs.Steps.{half}
-use Rattle.dct.specs.Block.{line, rows, transform}
+use Rattle.dct.specs.Block.{fdct8, rows, fdct8x8}
 use Rattle.window.specs.Parts.{momentsAt}
 use Rattle.window.specs.declared.Moments.{Moments}
 use Rattle.hvs_block.specs.Fold.{listTo}
@@ -73,11 +73,11 @@ figures =
     -- half(3) = 1
     ∷ record { gives = half (pos 3) ∷ []; says = pos 1 ∷ [] }
     -- eight 8s in one pass: 23 and seven zeros
-    ∷ record { gives = line (replicate 8 (pos 8)); says = pos 23 ∷ replicate 7 (pos 0) }
+    ∷ record { gives = fdct8 (replicate 8 (pos 8)); says = pos 23 ∷ replicate 7 (pos 0) }
     -- 1 and seven zeros: 1 1 1 0 1 0 0 0
-    ∷ record { gives = line (pos 1 ∷ replicate 7 (pos 0)); says = counts (1 ∷ 1 ∷ 1 ∷ 0 ∷ 1 ∷ 0 ∷ 0 ∷ 0 ∷ []) }
+    ∷ record { gives = fdct8 (pos 1 ∷ replicate 7 (pos 0)); says = counts (1 ∷ 1 ∷ 1 ∷ 0 ∷ 1 ∷ 0 ∷ 0 ∷ 0 ∷ []) }
     -- a block of 64 eights: 65, then 63 zeros
-    ∷ record { gives = transform (replicate 64 (pos 8)); says = pos 65 ∷ replicate 63 (pos 0) }
+    ∷ record { gives = fdct8x8 (replicate 64 (pos 8)); says = pos 65 ∷ replicate 63 (pos 0) }
     -- 3×3 of 1 to 9 downscales to 12
     ∷ record { gives = downscaled 3 3 (1 ∷ 2 ∷ 3 ∷ 4 ∷ 5 ∷ 6 ∷ 7 ∷ 8 ∷ 9 ∷ []); says = pos 12 ∷ [] }
     -- blocks per side: 8→1, 14→1, 15→2, 22→3

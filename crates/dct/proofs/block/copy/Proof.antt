@@ -4,17 +4,17 @@ use Prim.Native.Nat.{_≤_, _-_}
 use native.Mathlib.Omega.{arith}
 use lib.IntN.{pos}
 use lib.ListN.{length, getD, take, length-set}
-use Rattle.lifting.specs.Operation.{rd}
+use Rattle.lifting.specs.Inner.Operation.{read32}
 use Rattle.lifting.proofs.Size.{whole}
 use Rattle.dct.proofs.Blocks.{copied-more, copied-all}
 use Rattle.dct.proofs.block.copy.Statement.{statement}
 use Rattle.dct.proofs.block.copy.Tie as tie
 
 abbrev Inv-loop : tie.InvT-loop
-Inv-loop out₀ x i₀ out i = (i ≤ length x) × (length out ≡ length x) × (take i out ≡ take i x)
+Inv-loop x out₀ i₀ out i = (i ≤ length x) × (length out ≡ length x) × (take i out ≡ take i x)
 
 abbrev μ-loop : tie.MeasureT-loop
-μ-loop out₀ x i₀ out i = length x - i
+μ-loop x out₀ i₀ out i = length x - i
 
 loop-holds : tie.Need-loop-holds Inv-loop μ-loop
 loop-holds c = (omega arith, c .pre, refl)
@@ -44,7 +44,7 @@ loop-again c =
     let z = getD x (l .i) (pos 0) in (
       omega arith,
       simp length-set (omega arith),
-      copied-more x (l .out) (l .i) (rd z) (c .before .loop-test .taken) (l .inv .1) (whole {z = z} (c .out .given)) (l .inv .2),
+      copied-more x (l .out) (l .i) (read32 z) (c .before .loop-test .taken) (l .inv .1) (whole {z = z} (c .out .given)) (l .inv .2),
     )
 
 same-length : tie.Need-same-length Inv-loop μ-loop

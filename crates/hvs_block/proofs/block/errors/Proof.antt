@@ -5,7 +5,7 @@ use Prim.Native.Nat.{_-_, _≤_}
 use native.Mathlib.Omega.{arith}
 use Rattle.lifting.proofs.Size.{read}
 use Rattle.dct.proofs.Blocks.{small-at}
-use Rattle.dct.specs.Limits.{coefficientLimit}
+use Rattle.dct.specs.Inner.Coefficients.{coefficientLimit}
 use Rattle.hvs_block.specs.Block.{addTerm, errors}
 use Rattle.number.proofs.Folds.{fold-none}
 use Rattle.hvs_block.proofs.Folds.{flat8, by-eights}
