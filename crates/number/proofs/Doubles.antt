@@ -21,7 +21,7 @@ use Rattle.number.specs.Root.{nearestRoot, unitsOf, rootOfUnits, rootOf}
 
 -- ---- how many digits a number has
 
-pub size-is : (n j : ℕ) → 2 ^ j ≤ n → n < 2 ^ (j + 1) → size n ≡ j + 1
+size-is : (n j : ℕ) → 2 ^ j ≤ n → n < 2 ^ (j + 1) → size n ≡ j + 1
 size-is n j a b = le-antisymm (size-le n (j + 1) b) (lower (decLe (size n) j))
   where
     lower : Dec (size n ≤ j) → j + 1 ≤ size n
@@ -42,7 +42,7 @@ module _ (n m c w : ℕ) (e : n * 2 ^ c ≡ m * 2 ^ w) where
       le-of-mul-le-mul-right {m = 2 ^ j} {n = n} {k = 2 ^ c}
       (rw (e, ← (pow-add 2 j c), ← q, pow-add) (mul-le-mul-right (2 ^ w) h)) (pow-pos c)
 
-  pub scale-upto : (a j : ℕ) → m < 2 ^ a → a + w ≡ j + c → n < 2 ^ j
+  scale-upto : (a j : ℕ) → m < 2 ^ a → a + w ≡ j + c → n < 2 ^ j
   scale-upto a j h q =
       lt-of-mul-lt-mul-right (2 ^ c) {m = n} {n = 2 ^ j}
       (rw (e, ← (pow-add 2 j c), ← q, pow-add) (mul-lt-mul-of-pos-right h (pow-pos w)))
@@ -78,7 +78,7 @@ units-are nan s a h = absurd h
 units-are (inf t) s a h = absurd h
 units-are (fin t m k) s a h = ap (λ (x : ℕ). x / down k) (h .1) ∙ mul-div-cancel a (down-pos k)
 
-pub root-of-value : (v : Float) (a : ℕ) → HasValue v false a (2 ^ low binary64) → 0 < a → rootOf v ≡ Root (rootOfUnits a)
+root-of-value : (v : Float) (a : ℕ) → HasValue v false a (2 ^ low binary64) → 0 < a → rootOf v ≡ Root (rootOfUnits a)
 unfolding rootOf
 root-of-value nan a h p = absurd h
 root-of-value (inf t) a h p = absurd h
@@ -89,14 +89,14 @@ root-of-value (fin false (suc m) k) a h p = ap (λ (x : ℕ). Root (rootOfUnits 
 -- ---- a double by its bits
 
 -- below 2 ^ 52 there is no leading digit: the bits are the units
-pub read-small : (b : ℕ) → b < 2 ^ 52 → HasValue (ofBits binary64 b) false b (2 ^ low binary64)
+read-small : (b : ℕ) → b < 2 ^ 52 → HasValue (ofBits binary64 b) false b (2 ^ low binary64)
 unfolding ofBits
 read-small b h =
     let z : b % 2 ^ 63 / 2 ^ 52 ≡ 0 = omega arith in
     rw (lt-leb (2 ^ 63) b (omega arith), z, mod-eq-of-lt h) (subst (λ (x : ℕ). HasValue (odd 53 false b 0 1074) false x (2 ^ 1074)) (mul-one b) (odd-sign 53 false b 0 1074))
 
 -- an exponent's field of k + 1 and the digits t
-pub read-normal : (k t : ℕ) → k < 2046 → t < 2 ^ 52 → HasValue (ofBits binary64 ((k + 1) * 2 ^ 52 + t)) false ((2 ^ 52 + t) * 2 ^ k) (2 ^ low binary64)
+read-normal : (k t : ℕ) → k < 2046 → t < 2 ^ 52 → HasValue (ofBits binary64 ((k + 1) * 2 ^ 52 + t)) false ((2 ^ 52 + t) * 2 ^ k) (2 ^ low binary64)
 unfolding ofBits
 read-normal k t hk ht =
     let b = (k + 1) * 2 ^ 52 + t in

@@ -22,7 +22,7 @@ and-right false b e = cc
 -- ---- squares
 
 -- (s + 1)², and the square half way to it, doubled
-pub next-square : (s : ℕ) → (s + 1) * (s + 1) ≡ s * s + 2 * s + 1
+next-square : (s : ℕ) → (s + 1) * (s + 1) ≡ s * s + 2 * s + 1
 next-square s = let e : (s + 1) * (s + 1) ≡ s * s + s * 1 + (1 * s + 1 * 1) = simp sorted refl in omega arith
 
 pub next-product : (s : ℕ) → s * (s + 1) ≡ s * s + s
@@ -48,7 +48,7 @@ pub record Near (n s : ℕ) : Type 0 where
   pub above : n ≤ s * (s + 1)
 
 -- what a test that passed says
-pub near-says : (n s : ℕ) → 0 < s → isNearest n s ≡ true → Near n s
+near-says : (n s : ℕ) → 0 < s → isNearest n s ≡ true → Near n s
 unfolding isNearest
 near-says n s h e =
     let b : (2 * s - 1) * (2 * s - 1) < 4 * n = ltb-true _ _ (and-left _ _ e) in
@@ -67,7 +67,7 @@ near-le n s t a b = go (decLe s t)
         let p : (t + 1) * t ≤ s * (s - 1) = mul-le-mul h g in
         omega (arith, a .below, b .above, mul-comm (t + 1) t)
 
-pub near-only : (n s t : ℕ) → Near n s → Near n t → s ≡ t
+near-only : (n s t : ℕ) → Near n s → Near n t → s ≡ t
 near-only n s t a b = le-antisymm (near-le n s t a b) (near-le n t s b a)
 
 -- ---- the whole root
@@ -113,7 +113,7 @@ whole-says (suc d) n h = grown-whole n _ (whole-says d (n / 4) (omega (arith, po
 
 -- ---- the nearest one
 
-pub rounded-near : (n s : ℕ) → 0 < n → Whole n s → Near n (rounded n s)
+rounded-near : (n s : ℕ) → 0 < n → Whole n s → Near n (rounded n s)
 unfolding rounded
 rounded-near n s p c = go (decLt (4 * n) ((2 * s + 1) * (2 * s + 1)))
   where
@@ -131,7 +131,7 @@ rounded-near n s p c = go (decLt (4 * n) ((2 * s + 1) * (2 * s + 1)))
         }
 
 -- what passes the test is the nearest root
-pub nearest-is : (d n s : ℕ) → 0 < n → n < 4 ^ d → Near n s → s ≡ nearestRoot d n
+nearest-is : (d n s : ℕ) → 0 < n → n < 4 ^ d → Near n s → s ≡ nearestRoot d n
 unfolding nearestRoot
 nearest-is d n s p h c = near-only n s _ c (rounded-near n _ p (whole-says d n h))
 

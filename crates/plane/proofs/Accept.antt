@@ -27,7 +27,7 @@ unfolding sidesSuit
 sides-say width height e =
     (leb-both 1 width width sideLimit (and-left _ _ e), leb-both 1 height height sideLimit (and-right (sideSuits width) _ e))
 
-pub reach-says : (least width height : ℕ) → sidesReach least width height ≡ true → (least ≤ width) × (least ≤ height)
+reach-says : (least width height : ℕ) → sidesReach least width height ≡ true → (least ≤ width) × (least ≤ height)
 unfolding sidesReach
 reach-says least width height e = leb-both least width least height e
 
@@ -40,7 +40,7 @@ module _ (size : Size) (p : Plane) where
   unfolding longEnough
   long-says e = leb-true _ _ e
 
-  pub samples-say : samplesSuit size p ≡ true → (r c : ℕ) → r < size .height → c < size .width → sampleAt p r c ≤ maxOf (size .depth)
+  samples-say : samplesSuit size p ≡ true → (r c : ℕ) → r < size .height → c < size .width → sampleAt p r c ≤ maxOf (size .depth)
   unfolding samplesSuit rowSuits
   samples-say e r c lr lc = none-at _ _ (size .width) (all-at _ (size .height) e r lr) c lc
 

@@ -22,7 +22,7 @@ module _ (f : ℕ → Bool) where
   all-more i = rw add-one
 
   -- one failure below n
-  pub all-fails : (n i : ℕ) → i < n → f i ≡ false → allTo f n ≡ false
+  all-fails : (n i : ℕ) → i < n → f i ≡ false → allTo f n ≡ false
   unfolding allTo
   all-fails zero i l h = absurd (not-suc-le-zero l)
   all-fails (suc n) i l h = go (all-fails n i) (decLt i n)
