@@ -1,4 +1,4 @@
-pub mod Wide
+pub mod Inner
 pub mod Root
 pub mod Steps
 pub mod Literals

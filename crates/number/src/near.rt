@@ -2,7 +2,7 @@
 ghost use mathlib.Core.Path.{_≡_};
 ghost use Prim.Native.Nat.{_+_, _-_, _*_, _/_, _^_, _≤_, _<_};
 ghost use Rattle.number.specs.Root.{isNearest, nearestRoot, wholeRoot};
-ghost use Rattle.number.specs.Wide.{valueOf};
+ghost use Rattle.number.specs.Inner.Wide.{valueOf};
 use crate::EXACT_LIMIT;
 use crate::LEADING;
 use crate::wide;

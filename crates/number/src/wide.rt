@@ -2,7 +2,7 @@
 ghost use mathlib.Core.Path.{_≡_};
 ghost use Prim.Native.Nat.{_*_};
 ghost use lib.Dec.{ltb};
-ghost use Rattle.number.specs.Wide.{valueOf};
+ghost use Rattle.number.specs.Inner.Wide.{valueOf};
 
 // hi * 2^64 + lo.
 pub struct Wide {

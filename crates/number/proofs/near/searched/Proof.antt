@@ -4,7 +4,7 @@ use Prim.Native.Nat.{_^_, _<_}
 use native.Mathlib.Omega.{arith}
 use borrow.Author.Needs.{needs}
 use Rattle.number.specs.Root.{nearestRoot, rounded}
-use Rattle.number.specs.Wide.{valueOf}
+use Rattle.number.specs.Inner.Wide.{valueOf}
 use Rattle.number.proofs.Whole.{whole-says, whole-lt, round-up, round-stay}
 use Rattle.number.proofs.Words.{said-less, said-not}
 use Rattle.number.proofs.near.searched.Statement.{statement}

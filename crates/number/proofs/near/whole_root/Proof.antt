@@ -4,7 +4,7 @@ use mathlib.Core.Path.{_≡_, refl}
 use Prim.Native.Nat.{_+_, _-_, _*_, _^_, _≤_, _<_}
 use native.Mathlib.Omega.{arith}
 use borrow.Author.Needs.{needs}
-use Rattle.number.specs.Wide.{valueOf}
+use Rattle.number.specs.Inner.Wide.{valueOf}
 use Rattle.number.proofs.Whole.{whole-only, whole-says}
 use Rattle.number.proofs.Words.{said-less, said-not}
 use Rattle.number.proofs.near.whole_root.Statement.{statement}

@@ -2,7 +2,7 @@
 use mathlib.Core.Path.{_≡_}
 use Prim.Native.Nat.{_^_}
 use native.Mathlib.Omega.{arith}
-use Rattle.number.specs.Wide.{valueOf}
+use Rattle.number.specs.Inner.Wide.{valueOf}
 use Rattle.number.proofs.Words.{same-high, other-high}
 use Rattle.number.proofs.wide.less.Statement.{statement}
 use Rattle.number.proofs.wide.less.Tie as tie

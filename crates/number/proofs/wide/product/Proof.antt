@@ -1,7 +1,7 @@
 -- `number::wide::product` meets its contract. Assumes nothing.
 use Prim.Native.Nat.{_^_}
 use native.Mathlib.Omega.{arith}
-use Rattle.number.specs.Wide.{valueOf}
+use Rattle.number.specs.Inner.Wide.{valueOf}
 use Rattle.number.proofs.Words.{Halves, halves, columns}
 use Rattle.number.proofs.wide.product.Statement.{statement}
 use Rattle.number.proofs.wide.product.Tie as tie
