@@ -20,6 +20,7 @@ fuavelino: compares a decoded video with its original, and passes only what is s
       --json, --csv      all digits, for programs; without them a table for people
       --jobs N           on so many threads (default: as many as there are cores); the report is the same
       --output FILE      where the report goes; without it, or with -, to standard output
+      --quiet            no table on standard output, and no messages but of what went wrong
       --frames N         both files must have exactly so many frames
       --strict           what is noted of the files is a fault: that they are one, or that rate, interlacing or colour range differ
       --require-threshold
@@ -70,6 +71,8 @@ pub struct Compare {
     pub frames: Option<u64>,
     /// Whether what is noted of the files is a fault.
     pub strict: bool,
+    /// Whether only what went wrong is said.
+    pub quiet: bool,
 }
 
 pub enum Asked {
@@ -120,6 +123,7 @@ const COMPARE: &[Known] = &[
     ("--frames", true),
     ("--require-threshold", false),
     ("--strict", false),
+    ("--quiet", false),
     ("-h", false),
 ];
 
@@ -265,6 +269,7 @@ fn compare(words: Words) -> Result<Asked, Stop> {
         output,
         frames,
         strict: words.has("--strict"),
+        quiet: words.has("--quiet"),
     })))
 }
 

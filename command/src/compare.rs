@@ -7,6 +7,7 @@ use crate::frames::Source;
 use crate::input::{identity, named, shown, Stored};
 use crate::jobs;
 use crate::json::Json;
+use crate::messages::Messages;
 use crate::notes::notes;
 use crate::output::Output;
 use crate::progress::{is_terminal, say, Progress, STANDARD_OUTPUT};
@@ -19,6 +20,7 @@ use crate::thresholds::{self, Broken};
 use crate::totals::Run;
 use std::fs;
 use std::io::{self, Write};
+use std::path::Path;
 
 /// Compares, and gives the status that the command ends with.
 pub fn compare(asked: &Compare) -> Result<u8, Stop> {
@@ -29,9 +31,10 @@ pub fn compare(asked: &Compare) -> Result<u8, Stop> {
         asked,
         report: &mut *report,
         out: &mut out,
-        progress: Progress::new(!rows_are_seen),
+        progress: Progress::new(!rows_are_seen && !asked.quiet),
         worst: Worst::default(),
         summary: Summary::default(),
+        messages: Messages::new(asked.quiet),
         frames: 0,
         broken: 0,
     };
@@ -111,6 +114,7 @@ fn alike(a: &Source, b: &Source) -> Result<(), Fault> {
 fn output(asked: &Compare) -> Result<Output, Stop> {
     let path = match &asked.output {
         Some(path) => path,
+        None if asked.quiet && asked.form == Form::Table => return Output::create(Path::new("/dev/null")),
         None => return Output::standard(),
     };
     let target = fs::metadata(path).ok().filter(|target| target.is_file()).and_then(|_| identity(path));
@@ -129,6 +133,7 @@ struct Walk<'a> {
     progress: Progress,
     worst: Worst,
     summary: Summary,
+    messages: Messages,
     frames: u64,
     broken: u64,
 }
@@ -141,7 +146,7 @@ impl Walk<'_> {
         let format = opened.as_ref().ok().map(|sources| sources[0].format);
         let notes = opened.as_ref().map_or(Vec::new(), |sources| notes(asked, sources));
         self.out.write(|to| begin(report, to, asked, (format, &notes)))?;
-        notes.iter().for_each(|note| say(&format!("note: {}", note)));
+        notes.iter().filter(|_| !asked.quiet).for_each(|note| say(&format!("note: {}", note)));
         let sources = opened?;
         if let (Some(note), true) = (notes.first(), asked.strict) {
             return Err(Fault::new(format!("{} (--strict)", note)).into());
@@ -161,6 +166,7 @@ impl Walk<'_> {
         let held = |run: &FrameScores| thresholds::broken(&self.asked.thresholds, None, run);
         let run_broken = run.as_ref().map_or(Vec::new(), held);
         self.count(&run_broken);
+        self.messages.rest();
         // passed is what is left when nothing else can be said: a run with its figures, and nothing broken
         let status = match (&run, self.broken) {
             (Some(_), 0) => PASSED,
@@ -220,7 +226,7 @@ impl Walk<'_> {
     fn count(&mut self, broken: &[Broken]) {
         for one in broken {
             self.progress.clear();
-            say(&one.show());
+            self.messages.broken(one.option, || one.show());
         }
         self.broken += broken.len() as u64;
     }

@@ -12,6 +12,7 @@ mod frames;
 mod input;
 mod jobs;
 mod json;
+mod messages;
 mod notes;
 mod output;
 mod part;

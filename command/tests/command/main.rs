@@ -8,6 +8,7 @@ mod hostile;
 mod jobs;
 mod json;
 mod limits;
+mod messages;
 mod published;
 mod reports;
 mod run;
