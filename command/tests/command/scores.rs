@@ -4,6 +4,7 @@ use crate::json::Json;
 use crate::run::{run, run_fed, run_in, Room};
 use crate::video::{Plane, Video};
 use crate::words;
+use fuavelino::video::{self, ssim::product};
 use fuavelino::{Kernel, Pair, PlaneKind, PsnrMetrics, Sample, Scratch, Shape};
 
 /// Sides, depth, chroma: bytes and words, odd sides, and the least that each score takes.
@@ -33,8 +34,19 @@ fn figures<T: Sample>(a: &[T], b: &[T], shape: Shape, kind: PlaneKind) -> Vec<(S
     let hvs = fuavelino::psnr_hvs(a, b, shape, kind).unwrap();
     let mut list = error(&record);
     list.extend(pairs(&pair, &five));
+    list.push(("msssim".to_string(), product(&five)));
     list.push(("hvs".to_string(), hvs));
     list
+}
+
+/// The decibels of a plane or of a combination, from its sums and what SSIM's could at best come to.
+fn decibels(told: &Json, [ssim, msssim]: [f64; 2], best: f64) {
+    let of = |sum: f64| video::ssim::decibels(sum, best).unwrap();
+    let hvs = video::psnr_hvs::decibels(told.at("hvs").number()).unwrap();
+    same(
+        told,
+        &[("ssim_db".to_string(), of(ssim)), ("msssim_db".to_string(), of(msssim)), ("hvs_db".to_string(), hvs)],
+    );
 }
 
 fn error(record: &PsnrMetrics) -> Vec<(String, f64)> {
@@ -75,14 +87,27 @@ fn named(list: &[(String, f64)], name: &str) -> f64 {
     list.iter().find(|pair| pair.0 == name).unwrap().1
 }
 
-/// A frame's combination, from its planes' figures by direct calls.
-fn combined(planes: &[Vec<(String, f64)>], chroma: &str) -> Vec<(String, f64)> {
-    let weight = match chroma {
+/// What chroma weighs.
+fn weight(chroma: &str) -> f64 {
+    match chroma {
         "420" => 0.25,
         "422" => 0.5,
         "444" => 1.0,
         _ => 0.0,
-    };
+    }
+}
+
+/// The weighted sums of SSIM and MS-SSIM, and their weight.
+fn weighed(planes: &[Vec<(String, f64)>], chroma: &str) -> ([f64; 2], f64) {
+    let c = weight(chroma);
+    let of = |number: usize, name: &str| planes.get(number).map_or(0.0, |plane| named(plane, name));
+    let sum = |name: &str| of(0, name) + c * (of(1, name) + of(2, name));
+    (["ssim", "msssim"].map(sum), 1.0 + 2.0 * c)
+}
+
+/// A frame's combination, from its planes' figures by direct calls.
+fn combined(planes: &[Vec<(String, f64)>], chroma: &str) -> Vec<(String, f64)> {
+    let weight = weight(chroma);
     let of = |name: &str| {
         let value = |number: usize| planes.get(number).map_or(0.0, |plane| named(plane, name));
         [value(0), value(1), value(2)]
@@ -125,8 +150,11 @@ fn each_format_gives_the_librarys_figures() {
             assert_eq!(planes.len(), each.len());
             for (plane, wanted) in planes.iter().zip(&each) {
                 same(plane, wanted);
+                decibels(plane, ["ssim", "msssim"].map(|name| named(wanted, name)), 1.0);
             }
             same(told.at("combined"), &combined(&each, chroma));
+            let (sums, best) = weighed(&each, chroma);
+            decibels(told.at("combined"), sums, best);
         }
     }
 }
@@ -166,14 +194,14 @@ fn a_run_totals_errors_and_takes_means_of_the_rest() {
         for name in ["sq_err", "n_pixels"] {
             assert_eq!(told.at(name).number(), add(name));
         }
-        for name in ["ssim", "cs", "scale1_ssim", "scale5_cs", "hvs"] {
+        for name in ["ssim", "cs", "scale1_ssim", "scale5_cs", "msssim", "hvs"] {
             assert_eq!(told.at(name).number().to_bits(), (add(name) / 5.0).to_bits(), "{}", name);
         }
     }
     let whole = |name: &str| frames.iter().map(|f| f.at("combined").at(name).number()).sum::<f64>();
     assert_eq!(run.at("combined").at("sq_err").number(), whole("sq_err"));
     let near = |name: &str| (run.at("combined").at(name).number() - whole(name) / 5.0).abs() < 1e-12;
-    assert!(near("ssim") && near("scale3_cs") && near("hvs"));
+    assert!(near("ssim") && near("scale3_cs") && near("msssim") && near("hvs"));
 }
 
 #[test]
