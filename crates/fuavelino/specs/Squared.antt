@@ -2,30 +2,21 @@
 use Prim.Native.Nat.{ℕ}
 use Rattle.psnr.specs.declared.Record.{Record}
 use Rattle.psnr.specs.declared.SquaredError.{SquaredError}
-use Rattle.psnr.specs.declared.SquaredError.the-variants as compared
 use Rattle.psnr.specs.declared.Total.{Total}
 use Rattle.psnr.specs.declared.Summed.{Summed}
-use Rattle.psnr.specs.declared.Summed.the-variants as summed
+use Rattle.psnr.specs.Said.{errorSaid, seriesSaid, figureOr}
 
 -- the refusal's number, and 0 where there is none
 abbrev pub errorNumber : SquaredError → ℕ
-errorNumber (compared.Differs r) = 0
-errorNumber (compared.Identical r) = 0
-errorNumber (compared.Refused k) = k
+errorNumber a = errorSaid a .number
 
 -- what then stands in the places lent: the record, or what stood there
 abbrev pub errorWritten : SquaredError → Record → Record
-errorWritten (compared.Differs r) old = r
-errorWritten (compared.Identical r) old = r
-errorWritten (compared.Refused k) old = old
+errorWritten a old = figureOr (errorSaid a .figure) old
 
 -- the same of a series
 abbrev pub seriesNumber : Summed → ℕ
-seriesNumber (summed.Differs t) = 0
-seriesNumber (summed.Identical t) = 0
-seriesNumber (summed.Refused k) = k
+seriesNumber a = seriesSaid a .number
 
 abbrev pub seriesWritten : Summed → Total → Total
-seriesWritten (summed.Differs t) old = t
-seriesWritten (summed.Identical t) old = t
-seriesWritten (summed.Refused k) old = old
+seriesWritten a old = figureOr (seriesSaid a .figure) old

@@ -7,15 +7,21 @@ use Rattle.refusal.specs.First.{byRefusal}
 use Rattle.plane.specs.Plane.{Planes}
 use Rattle.psnr.specs.declared.Record.{Record}
 use Rattle.psnr.specs.declared.SquaredError.the-variants.{Refused}
-use Rattle.psnr.specs.Squared.{squaredErrorScore, recordOf, compared, squaredErrorRefusal, squaredErrorOf}
+use Rattle.psnr.specs.Squared.{squaredErrorScore, recordOf, errorAnswer, squaredErrorRefusal, squaredErrorOf}
 use Rattle.psnr.specs.Series.{firstMax, errorTotal, countTotal, seriesRefusal, seriesTotal, seriesAnswer, seriesOf}
-use Rattle.psnr.specs.Said.{errorSaid, seriesSaid, saidOf}
+use Rattle.psnr.specs.Said.{Said, saidDiffers, saidIdentical, saidRefused, errorSaid, seriesSaid}
+
+-- what has to be said, from the refusal, the error and the figure
+abbrev pub saidOf : {A : Type 0} → ℕ → ℕ → A → Said A
+saidOf zero zero a = saidIdentical a
+saidOf zero (suc e) a = saidDiffers a
+saidOf (suc k) e a = saidRefused (suc k)
 
 pub error-says : (p : Planes) → errorSaid (squaredErrorOf p) ≡ saidOf (squaredErrorRefusal p) (squaredErrorScore p) (recordOf p)
 unfolding squaredErrorOf
 error-says p = go (squaredErrorRefusal p) (squaredErrorScore p) (recordOf p)
   where
-    go : (n e : ℕ) (r : Record) → errorSaid (byRefusal n (compared e r) (Refused n)) ≡ saidOf n e r
+    go : (n e : ℕ) (r : Record) → errorSaid (byRefusal n (errorAnswer e r) (Refused n)) ≡ saidOf n e r
     go zero zero r = refl
     go zero (suc e) r = refl
     go (suc n) e r = refl

@@ -1,7 +1,7 @@
 -- SCOPE, "Squared error": what each case of an answer says in numbers. Beside an error of 0 that is "identical", and 100: the decibels that
 -- stand for it, since its own would be without end. Definitions only.
 use mathlib.Core.List.{List, [], _∷_}
-use Prim.Native.Nat.{ℕ, zero, suc}
+use Prim.Native.Nat.{ℕ}
 use Rattle.psnr.specs.declared.Record.{Record}
 use Rattle.psnr.specs.declared.SquaredError.{SquaredError}
 use Rattle.psnr.specs.declared.SquaredError.the-variants as compared
@@ -19,15 +19,21 @@ pub record Said (A : Type 0) : Type 0 where
 unfoldable pub identicalDecibels : ℕ
 identicalDecibels = 100
 
--- the three cases, of any figure
-abbrev pub saidDiffers : {A : Type 0} → A → Said A
-saidDiffers a = record { number = 0; figure = a ∷ []; decibels = [] }
+module _ {A : Type 0} where
+  -- the three cases, of any figure
+  abbrev pub saidDiffers : A → Said A
+  saidDiffers a = record { number = 0; figure = a ∷ []; decibels = [] }
 
-abbrev pub saidIdentical : {A : Type 0} → A → Said A
-saidIdentical a = record { number = 0; figure = a ∷ []; decibels = identicalDecibels ∷ [] }
+  abbrev pub saidIdentical : A → Said A
+  saidIdentical a = record { number = 0; figure = a ∷ []; decibels = identicalDecibels ∷ [] }
 
-abbrev pub saidRefused : {A : Type 0} → ℕ → Said A
-saidRefused k = record { number = k; figure = []; decibels = [] }
+  abbrev pub saidRefused : ℕ → Said A
+  saidRefused k = record { number = k; figure = []; decibels = [] }
+
+  -- what stands in places that are lent for the figure: it, where there is one, else what stood there
+  abbrev pub figureOr : List A → A → A
+  figureOr [] old = old
+  figureOr (a ∷ more) old = a
 
 -- what the two answers say, case by case
 abbrev pub errorSaid : SquaredError → Said Record
@@ -39,9 +45,3 @@ abbrev pub seriesSaid : Summed → Said Total
 seriesSaid (summed.Differs t) = saidDiffers t
 seriesSaid (summed.Identical t) = saidIdentical t
 seriesSaid (summed.Refused k) = saidRefused k
-
--- what has to be said, from the refusal, the error and the figure: `proofs/Said.antt` shows that both calls say it
-abbrev pub saidOf : {A : Type 0} → ℕ → ℕ → A → Said A
-saidOf zero zero a = saidIdentical a
-saidOf zero (suc e) a = saidDiffers a
-saidOf (suc k) e a = saidRefused (suc k)

@@ -34,14 +34,14 @@ abbrev pub recordOf : Planes → Record
 recordOf p =
     record { «sq_err» = double (squaredErrorScore p); n = p .size .width * p .size .height; «sample_max» = maxOf (p .size .depth) }
 
--- an error of 0 is told apart
-abbrev pub compared : ℕ → Record → SquaredError
-compared zero r = Identical r
-compared (suc e) r = Differs r
+-- the answer, from the error and the record: an error of 0 is told apart
+abbrev pub errorAnswer : ℕ → Record → SquaredError
+errorAnswer zero r = Identical r
+errorAnswer (suc e) r = Differs r
 
 -- the lowest of 1 2 4 5 6 that applies: 3 does not belong to this call, so that the least side is 0
 abbrev pub squaredErrorRefusal : Planes → ℕ
 squaredErrorRefusal p = pairRefusal p 0
 
 unfoldable pub squaredErrorOf : Planes → SquaredError
-squaredErrorOf p = let n = squaredErrorRefusal p in byRefusal n (compared (squaredErrorScore p) (recordOf p)) (Refused n)
+squaredErrorOf p = let n = squaredErrorRefusal p in byRefusal n (errorAnswer (squaredErrorScore p) (recordOf p)) (Refused n)

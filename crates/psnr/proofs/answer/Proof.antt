@@ -12,17 +12,17 @@ use Rattle.plane.proofs.Depth.{depth-small}
 use Rattle.psnr.specs.declared.Record.{Record}
 use Rattle.psnr.specs.declared.SquaredError.the-variants.{Differs, Identical}
 use Rattle.psnr.specs.Limits.{totalLimit}
-use Rattle.psnr.specs.Squared.{compared, squaredErrorRefusal, squaredErrorOf}
+use Rattle.psnr.specs.Squared.{errorAnswer, squaredErrorRefusal, squaredErrorOf}
 use Rattle.psnr.proofs.Squares.{walkable, error-below, count-le, count-fits}
 use Rattle.psnr.proofs.answer.Statement.{statement}
 use Rattle.psnr.proofs.answer.Tie as tie
 
 -- the answer by its cases
-identical : (e : ℕ) (r : Record) → e ≡ 0 → Identical r ≡ compared e r
+identical : (e : ℕ) (r : Record) → e ≡ 0 → Identical r ≡ errorAnswer e r
 identical zero r z = refl
 identical (suc e) r z = absurd (omega arith)
 
-differs : (e : ℕ) (r : Record) → (e ≡ 0 → ⊥) → Differs r ≡ compared e r
+differs : (e : ℕ) (r : Record) → (e ≡ 0 → ⊥) → Differs r ≡ errorAnswer e r
 differs zero r n = absurd (n refl)
 differs (suc e) r n = refl
 
