@@ -64,11 +64,12 @@ impl Samples {
     }
 }
 
-/// SCOPE's three samples and three; four zeros and four of the largest; any; and any that suit the least depth.
+/// SCOPE's three samples and three; four zeros and four of the largest; any; any that suit the least depth; and any.
 fn samples(r: &mut Random, max: u16, low: u16) -> Vec<u16> {
     let mut list = vec![10, 20, 30, 13, 20, 26, 0, 0, 0, 0, max, max, max, max];
     list.extend((0..46).map(|_| r.within(0, usize::from(max)) as u16));
     list.extend((0..20).map(|_| r.within(0, usize::from(low)) as u16));
+    list.extend((0..60).map(|_| r.within(0, usize::from(max)) as u16));
     list
 }
 
@@ -132,9 +133,9 @@ fn record(samples: &Samples, ask: &Ask) -> (f64, usize, usize) {
 }
 
 /// An SSIM to ask for, under the kernel of this number, with so many places of scratch.
-type Similar = (Ask, usize, usize);
+type SsimAsk = (Ask, usize, usize);
 
-fn similar_asks(wide: bool) -> Vec<Similar> {
+fn ssim_asks(wide: bool) -> Vec<SsimAsk> {
     let ask = padded(wide);
     let mut short = ask;
     short.a.end -= 1;
@@ -158,12 +159,12 @@ fn similar_asks(wide: bool) -> Vec<Similar> {
 
 /// Rows of 15: as `squared` up to the planes, then where the kernel begins and ends, the places of scratch, the answer, and where in
 /// the scores ssim and cs stand.
-pub fn similar(samples: &Samples, scores: &mut Vec<f64>) -> Vec<usize> {
+pub fn ssim_rows(samples: &Samples, scores: &mut Vec<f64>) -> Vec<usize> {
     let mut rows = Vec::new();
-    for (ask, kernel, scratch) in [false, true].into_iter().flat_map(similar_asks) {
+    for (ask, kernel, scratch) in [false, true].into_iter().flat_map(ssim_asks) {
         let begins: usize = KERNELS[..kernel].iter().map(|k| k.len()).sum();
         let kernel = KERNELS[kernel];
-        let no = similar_refusal(samples.refusal(&ask), kernel, scratch, ask.width);
+        let no = ssim_refusal(samples.refusal(&ask), kernel, scratch, ask.width);
         rows.extend(ask.row());
         rows.extend([begins, begins + kernel.len(), scratch]);
         rows.extend(told(no, scores, || pair(samples, &ask, kernel)));
@@ -185,7 +186,7 @@ pub fn kernels() -> Vec<u16> {
 }
 
 /// The planes' refusal before the kernel's, 7, before the scratch's, 8.
-fn similar_refusal(planes: u8, kernel: &[u16], scratch: usize, width: usize) -> u8 {
+fn ssim_refusal(planes: u8, kernel: &[u16], scratch: usize, width: usize) -> u8 {
     let turned: Vec<u16> = kernel.iter().rev().copied().collect();
     let sum: u32 = kernel.iter().map(|tap| u32::from(*tap)).sum();
     let lawful =
@@ -204,22 +205,27 @@ fn pair(samples: &Samples, ask: &Ask, kernel: &[u16]) -> [f64; 2] {
     [ssim, cs]
 }
 
-/// Eight by eight and more, of every kind; and on the other side of the least side, 7.
-fn visual_asks(wide: bool) -> Vec<(Ask, usize)> {
+/// Eight by eight and more, of every kind; two blocks, which share a column; and on the other side of the least side, 7.
+fn hvs_asks(wide: bool) -> Vec<(Ask, usize)> {
     let depth = if wide { 12 } else { 8 };
     let ask = Ask { wide, depth, width: 8, height: 8, a: view(8, 0, 64), b: view(8, 16, 80) };
     let wider = Ask { width: 9, a: view(9, 0, 72), b: view(9, 8, 80), ..ask };
+    let two = Ask { width: 15, a: view(15, 0, 120), b: view(15, 20, 140), ..ask };
     let low = if wide { ask } else { Ask { depth: 7, ..ask } };
     let mut list: Vec<(Ask, usize)> = (0..3).flat_map(|kind| [(ask, kind), (wider, kind)]).collect();
-    list.extend([(Ask { b: ask.a, ..ask }, 0), (Ask { height: 9, a: view(8, 0, 72), b: view(8, 8, 80), ..ask }, 2)]);
+    list.extend([
+        (Ask { b: ask.a, ..ask }, 0),
+        (Ask { height: 9, a: view(8, 0, 72), b: view(8, 8, 80), ..ask }, 2),
+        (two, 0),
+    ]);
     list.extend([(Ask { width: 7, ..ask }, 0), (Ask { height: 7, ..ask }, 1), (low, 1)]);
     list
 }
 
 /// Rows of 15: as `squared` up to the planes, then the kind, 0, 0, the answer, and where in the scores its own stands.
-pub fn visual(samples: &Samples, scores: &mut Vec<f64>) -> Vec<usize> {
+pub fn hvs_rows(samples: &Samples, scores: &mut Vec<f64>) -> Vec<usize> {
     let mut rows = Vec::new();
-    for (ask, kind) in [false, true].into_iter().flat_map(visual_asks) {
+    for (ask, kind) in [false, true].into_iter().flat_map(hvs_asks) {
         let planes = [ask.a, ask.b].map(|v| (v.stride, &samples.of(ask.wide)[v.from..v.end]));
         let Ask { wide, depth, width, height, .. } = ask;
         let no = Lent { wide, depth, width, height, least: 8, planes }.refusal();

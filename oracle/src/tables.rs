@@ -54,9 +54,9 @@ fn planes(samples: &Samples) {
     let families = [
         ("CHECKS", checks.iter().flat_map(row).collect()),
         ("SQUARED", scored::squared(samples, &mut scores)),
-        ("SIMILAR", scored::similar(samples, &mut scores)),
-        ("VISUAL", scored::visual(samples, &mut scores)),
-        ("SCALES", scaled::rows(&mut scores)),
+        ("SSIM", scored::ssim_rows(samples, &mut scores)),
+        ("HVS", scored::hvs_rows(samples, &mut scores)),
+        ("MSSSIM", scaled::rows(&mut scores)),
     ];
     println!("// Rows of 15: words (1) or bytes (0), depth, width, height; three numbers of each plane, its stride first; three more; the");
     println!("// answer; and where its scores begin, 0 where it has none. The families follow each other:");

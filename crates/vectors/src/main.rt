@@ -1,15 +1,15 @@
 // Replays the oracle's stored answers (src/table.rt) and prints for each family how many of them the product gives.
+mod dct_rows;
+mod hvs_rows;
+mod msssim_rows;
 mod planes;
+mod psnr_rows;
 mod root;
 mod rows;
-mod scales;
 mod series;
-mod similar;
-mod squared;
+mod ssim_rows;
 mod table;
 mod tell;
-mod transform;
-mod visual;
 
 fn main() {
     root::replay_others();

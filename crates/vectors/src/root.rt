@@ -4,9 +4,6 @@ use crate::table;
 use crate::tell;
 use number::Rooted;
 
-// The refusal of a root.
-const VALUE: u8 = 12;
-
 // Number i of the table.
 fn entry(i: usize) -> f64 {
     let list = table::ROOTS;
@@ -16,7 +13,7 @@ fn entry(i: usize) -> f64 {
 fn root_is(x: f64, root: f64) -> bool {
     match number::root(x) {
         Rooted::Root(r) => tell::same(r, root),
-        Rooted::Refused(n) => (n == VALUE) & (root == -1.0),
+        Rooted::Refused(n) => (n == refusal::VALUE) & (root == -1.0),
     }
 }
 

@@ -1,21 +1,29 @@
 // The families of stored answers. A row of the largest table asks for a call on two planes, and has the answer.
 ghost use Prim.Native.Nat.{_≤_, _<_};
+use crate::dct_rows;
+use crate::hvs_rows;
+use crate::msssim_rows;
 use crate::planes;
+use crate::psnr_rows;
 use crate::root;
-use crate::scales;
-use crate::similar;
-use crate::squared;
+use crate::ssim_rows;
 use crate::table;
 use crate::tell;
-use crate::transform;
-use crate::visual;
+use plane::Size;
 
-pub struct Size {
-    pub wide: bool,
-    pub depth: u32,
-    pub width: usize,
-    pub height: usize,
+// The families that have a table.
+pub enum Family {
+    Root,
+    Transform,
+    Check,
+    SquaredError,
+    Ssim,
+    PsnrHvs,
+    MsSsim,
 }
+
+// How many numbers a row has.
+const ROW: usize = 15;
 
 // A plane. What `from` and `end` tell is the family's to say.
 pub struct Lent {
@@ -51,9 +59,9 @@ fn size_at(from: usize) -> Size
 {
     Size {
         wide: number(from) != 0,
-        depth: (number(from + 1) % 65536) as u32,
         width: number(from + 2),
         height: number(from + 3),
+        depth: (number(from + 1) % 65536) as u32,
     }
 }
 
@@ -79,11 +87,11 @@ fn told_at(from: usize) -> Told
     }
 }
 
-// Row i, of 15 numbers.
+// Row i.
 fn row_at(i: usize) -> Row
     requires { ⌜ i < 4096 ⌝ }
 {
-    let from = 15 * i;
+    let from = ROW * i;
     Row {
         size: size_at(from),
         a: lent_at(from + 4),
@@ -93,22 +101,22 @@ fn row_at(i: usize) -> Row
 }
 
 // Whether row i gives its answer: of roots, of transforms, or of this table.
-fn row_is(family: usize, i: usize) -> bool
+fn row_is(family: Family, i: usize) -> bool
     requires { ⌜ i < 4096 ⌝ }
 {
     match family {
-        0 => root::pair_is(i),
-        1 => transform::block_is(i),
-        2 => planes::check_is(row_at(i)),
-        3 => squared::error_is(row_at(i)),
-        4 => similar::pair_is(row_at(i)),
-        5 => visual::score_is(row_at(i)),
-        _ => scales::five_are(row_at(i)),
+        Family::Root => root::pair_is(i),
+        Family::Transform => dct_rows::block_is(i),
+        Family::Check => planes::check_is(row_at(i)),
+        Family::SquaredError => psnr_rows::error_is(row_at(i)),
+        Family::Ssim => ssim_rows::pair_is(row_at(i)),
+        Family::PsnrHvs => hvs_rows::score_is(row_at(i)),
+        Family::MsSsim => msssim_rows::five_are(row_at(i)),
     }
 }
 
 // How many rows from `first` on, up to `end`, give their answer.
-fn right_ones(family: usize, first: usize, end: usize) -> usize
+fn right_ones(family: Family, first: usize, end: usize) -> usize
     requires { ⌜ end ≤ 4096 ⌝ }
 {
     let mut right: usize = 0;
@@ -120,7 +128,7 @@ fn right_ones(family: usize, first: usize, end: usize) -> usize
     right
 }
 
-fn family(name: &[u8], family: usize, first: usize, end: usize)
+fn replay(name: &[u8], family: Family, first: usize, end: usize)
     requires { ⌜ (first ≤ end) × (end ≤ 4096) ⌝ }
 {
     tell::line(name, right_ones(family, first, end), end - first);
@@ -130,14 +138,19 @@ fn family(name: &[u8], family: usize, first: usize, end: usize)
 // checks; the kernel 128 0 128 in SSIM; side 7 in PSNR-HVS; sides 15 and 16 in MS-SSIM. The totals of 2^53 and one more are in
 // src/series.rt.
 pub fn replay_plain() {
-    family(b"roots: ", 0, 0, table::PAIRS);
-    family(b"transforms: ", 1, 0, table::BLOCKS);
-    family(b"plane checks: ", 2, 0, table::CHECKS);
-    family(b"squared errors: ", 3, table::CHECKS, table::SQUARED);
+    replay(b"roots: ", Family::Root, 0, table::PAIRS);
+    replay(b"transforms: ", Family::Transform, 0, table::BLOCKS);
+    replay(b"plane checks: ", Family::Check, 0, table::CHECKS);
+    replay(
+        b"squared errors: ",
+        Family::SquaredError,
+        table::CHECKS,
+        table::SQUARED,
+    );
 }
 
 pub fn replay_scores() {
-    family(b"SSIM: ", 4, table::SQUARED, table::SIMILAR);
-    family(b"PSNR-HVS: ", 5, table::SIMILAR, table::VISUAL);
-    family(b"MS-SSIM: ", 6, table::VISUAL, table::SCALES);
+    replay(b"SSIM: ", Family::Ssim, table::SQUARED, table::SSIM);
+    replay(b"PSNR-HVS: ", Family::PsnrHvs, table::SSIM, table::HVS);
+    replay(b"MS-SSIM: ", Family::MsSsim, table::HVS, table::MSSSIM);
 }

@@ -4,16 +4,13 @@ use psnr::Record;
 use psnr::Run;
 use psnr::Summed;
 use psnr::Total;
+use psnr::judge::COUNT_LIMIT;
 
-// The most samples of a record, and its largest error: each of them off by 4,095.
-const SAMPLES: u64 = 67108864;
+// The largest sample of depth 12.
+const MAX: u32 = 4095;
 
+// The largest error of a record: each of its most samples is off by 4,095.
 const MOST: f64 = 1125350218137600.0;
-
-// The refusals of a series.
-const RECORD: u8 = 10;
-
-const TOTAL: u8 = 11;
 
 fn record(sq_err: f64, n: u64, sample_max: u32) -> Record {
     Record {
@@ -49,8 +46,8 @@ fn total_is(t: Total, no: u8, error: f64, n: u64, max: u32) -> bool {
 
 // Eight of the largest records, and one.
 fn nine(error: f64) -> Run {
-    let eight = repeated(psnr::start(), record(MOST, SAMPLES, 4095), 8);
-    psnr::step(eight, record(error, SAMPLES, 4095))
+    let eight = repeated(psnr::start(), record(MOST, COUNT_LIMIT, MAX), 8);
+    psnr::step(eight, record(error, COUNT_LIMIT, MAX))
 }
 
 // A sound record, and one.
@@ -65,20 +62,14 @@ fn equal(times: usize, sample_max: u32) -> Run {
 }
 
 fn spoils(sq_err: f64, n: u64, sample_max: u32) -> bool {
-    sums_to(two(sq_err, n, sample_max), RECORD, 0.0, 0, 0)
+    sums_to(two(sq_err, n, sample_max), refusal::RECORD, 0.0, 0, 0)
 }
 
 // The totals 2^53 and one more.
 fn totals() {
     let list = [
-        sums_to(
-            nine(4397509640192.0),
-            0,
-            9007199254740992.0,
-            603979776,
-            4095,
-        ),
-        sums_to(nine(4397509640193.0), TOTAL, 0.0, 0, 0),
+        sums_to(nine(4397509640192.0), 0, 9007199254740992.0, 603979776, MAX),
+        sums_to(nine(4397509640193.0), refusal::TOTAL, 0.0, 0, 0),
         sums_to(two(0.0, 3, 255), 0, 9.0, 5, 255),
     ];
     tell::held(b"series: ", &list);
@@ -87,10 +78,10 @@ fn totals() {
 // No record, the most and one more; and a largest sample that no depth has.
 fn counts() {
     let list = [
-        sums_to(equal(0, 1), RECORD, 0.0, 0, 0),
+        sums_to(equal(0, 1), refusal::RECORD, 0.0, 0, 0),
         sums_to(equal(65536, 1), 0, 0.0, 327680, 1),
-        sums_to(equal(65537, 1), RECORD, 0.0, 0, 0),
-        sums_to(equal(1, 254), RECORD, 0.0, 0, 0),
+        sums_to(equal(65537, 1), refusal::RECORD, 0.0, 0, 0),
+        sums_to(equal(1, 254), refusal::RECORD, 0.0, 0, 0),
     ];
     tell::held(b"series of equal records: ", &list);
 }
@@ -103,7 +94,7 @@ fn spoiled() {
         spoils(0.0 / 0.0, 3, 255),
         spoils(195076.0, 3, 255),
         spoils(1.0, 0, 255),
-        spoils(1.0, SAMPLES + 1, 255),
+        spoils(1.0, COUNT_LIMIT + 1, 255),
         spoils(1.0, 3, 127),
     ];
     tell::held(b"spoiled series: ", &list);

@@ -1,8 +1,8 @@
--- `vectors::scales::words` is safe and ends. Assumes nothing.
+-- `vectors::msssim_rows::words` is safe and ends. Assumes nothing.
 use Prim.Native.Nat.{_≤_, _-_}
 use borrow.Author.Needs.{needs}
-use Rattle.vectors.proofs.scales.words.Statement.{statement}
-use Rattle.vectors.proofs.scales.words.Tie as tie
+use Rattle.vectors.proofs.msssim_rows.words.Statement.{statement}
+use Rattle.vectors.proofs.msssim_rows.words.Tie as tie
 
 abbrev Inv-loop : tie.InvT-loop
 Inv-loop seed reach list₀ i₀ list i = i ≤ 640

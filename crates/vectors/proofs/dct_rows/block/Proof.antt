@@ -1,8 +1,8 @@
--- `vectors::transform::block` is safe and ends. Assumes nothing.
+-- `vectors::dct_rows::block` is safe and ends. Assumes nothing.
 use Prim.Native.Nat.{_≤_, _-_}
 use borrow.Author.Needs.{needs}
-use Rattle.vectors.proofs.transform.block.Statement.{statement}
-use Rattle.vectors.proofs.transform.block.Tie as tie
+use Rattle.vectors.proofs.dct_rows.block.Statement.{statement}
+use Rattle.vectors.proofs.dct_rows.block.Tie as tie
 
 abbrev Inv-loop : tie.InvT-loop
 Inv-loop from list₀ i₀ list i = i ≤ 64

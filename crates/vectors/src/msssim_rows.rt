@@ -5,6 +5,13 @@ use crate::tell;
 use msssim::MsSsim;
 use msssim::Pairs;
 
+// The samples of a plane, more than any row asks for; and the places lent, of 64 bits and of 32.
+const SAMPLES: usize = 640;
+
+const PLACES: usize = 1632;
+
+const ROOM: usize = 561;
+
 // How far below the largest sample i is: less than `reach`. oracle/src/scaled.rs has the same rule.
 fn below(i: usize, seed: usize, reach: usize) -> usize {
     if reach == 0 {
@@ -13,17 +20,17 @@ fn below(i: usize, seed: usize, reach: usize) -> usize {
     (i % 4096 * 40503 + seed % 4096 * 30011) % 65521 % reach
 }
 
-fn bytes(seed: usize, reach: usize) -> [u8; 640] {
-    let mut list = [0u8; 640];
-    for i in 0..640 {
+fn bytes(seed: usize, reach: usize) -> [u8; SAMPLES] {
+    let mut list = [0u8; SAMPLES];
+    for i in 0..SAMPLES {
         list[i] = (255 - below(i, seed, reach) % 256) as u8;
     }
     list
 }
 
-fn words(seed: usize, reach: usize) -> [u16; 640] {
-    let mut list = [0u16; 640];
-    for i in 0..640 {
+fn words(seed: usize, reach: usize) -> [u16; SAMPLES] {
+    let mut list = [0u16; SAMPLES];
+    for i in 0..SAMPLES {
         list[i] = (4095 - below(i, seed, reach) % 4096) as u16;
     }
     list
@@ -32,9 +39,9 @@ fn words(seed: usize, reach: usize) -> [u16; 640] {
 fn ask8(r: Row) -> MsSsim {
     let a = bytes(r.a.from, r.told.x);
     let b = bytes(r.b.from, r.told.x);
-    let mut scratch = [0i64; 1632];
-    let mut room_a = [0u32; 561];
-    let mut room_b = [0u32; 561];
+    let mut scratch = [0i64; PLACES];
+    let mut room_a = [0u32; ROOM];
+    let mut room_b = [0u32; ROOM];
     msssim::msssim8(
         tell::bytes_of(&a, 0, r.a.end),
         tell::bytes_of(&b, 0, r.b.end),
@@ -52,9 +59,9 @@ fn ask8(r: Row) -> MsSsim {
 fn ask16(r: Row) -> MsSsim {
     let a = words(r.a.from, r.told.x);
     let b = words(r.b.from, r.told.x);
-    let mut scratch = [0i64; 1632];
-    let mut room_a = [0u32; 561];
-    let mut room_b = [0u32; 561];
+    let mut scratch = [0i64; PLACES];
+    let mut room_a = [0u32; ROOM];
+    let mut room_b = [0u32; ROOM];
     msssim::msssim16(
         tell::words_of(&a, 0, r.a.end),
         tell::words_of(&b, 0, r.b.end),

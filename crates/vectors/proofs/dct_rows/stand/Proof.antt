@@ -1,8 +1,8 @@
--- `vectors::transform::stand` is safe and ends. Assumes nothing.
+-- `vectors::dct_rows::stand` is safe and ends. Assumes nothing.
 use Prim.Native.Nat.{_≤_, _-_}
 use borrow.Author.Needs.{needs}
-use Rattle.vectors.proofs.transform.stand.Statement.{statement}
-use Rattle.vectors.proofs.transform.stand.Tie as tie
+use Rattle.vectors.proofs.dct_rows.stand.Statement.{statement}
+use Rattle.vectors.proofs.dct_rows.stand.Tie as tie
 
 abbrev Inv-loop : tie.InvT-loop
 Inv-loop list from right₀ i₀ right i = i ≤ 64
