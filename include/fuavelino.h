@@ -1,14 +1,17 @@
 /* Plane-level video quality scores whose every promise is proved: the calls of libfuavelino.a.
  *
- * Each call answers 0 and writes its result, or answers the lowest refusal number that applies of its own and writes nothing, but that 9
- * leaves scratch as acceptance does. Any numbers may be passed; no caller checks first. What is asked of the caller:
- *   - a pointer is not null and is aligned, also where its count is 0;
+ * A call answers 0 and writes its result, or answers the lowest refusal number that applies of its own and writes nothing, but that 9
+ * leaves scratch as acceptance does. Any numbers may be passed; no caller checks first. What is asked of the caller, since no proof
+ * reaches it:
+ *   - a pointer is not null and is aligned for its type, also where its count is 0;
  *   - the places that a count promises are there;
- *   - what a call writes overlaps nothing else that it is lent. Planes may overlap each other.
+ *   - what a call writes (scratch, rooms, results) overlaps nothing else that the call is lent. Planes may overlap each other.
+ * Scratch and rooms may hold anything on entry, also what malloc gives; results need not be set.
  *
  * A plane is lent as a pointer, its count of samples, and a stride: sample (x, y) stands at y * stride + x. Bytes (8) carry depths
  * 1 to 8, words (16) carry 9 to 12. Both planes of a call share width, height and depth; each has its own stride. Padding is never read.
- * No call allocates, keeps anything between calls, or fails but by a refusal. Calls on different threads may run at once. */
+ * No call allocates, keeps anything between calls, or fails but by a refusal. Calls on different threads may run at once, each with
+ * scratch, rooms and results of its own; they may share what is only read: planes, kernels, records. */
 #ifndef FUAVELINO_H
 #define FUAVELINO_H
 
@@ -18,6 +21,13 @@
 #ifdef __cplusplus
 extern "C" {
 #endif
+
+/* The version that this header belongs to. fuavelino_version() is that of the library: 10000 * major + 100 * minor + patch. */
+#define FUAVELINO_VERSION_MAJOR 0
+#define FUAVELINO_VERSION_MINOR 1
+#define FUAVELINO_VERSION_PATCH 0
+#define FUAVELINO_VERSION (10000 * FUAVELINO_VERSION_MAJOR + 100 * FUAVELINO_VERSION_MINOR + FUAVELINO_VERSION_PATCH)
+uint32_t fuavelino_version(void);
 
 /* What the calls answer. */
 enum fuavelino_refusal {
@@ -36,6 +46,27 @@ enum fuavelino_refusal {
     FUAVELINO_VALUE = 12,      /* a root or a transform of what it does not take */
     FUAVELINO_WEIGHT = 13      /* a weight outside 0 to 1, or a number that is not finite */
 };
+
+/* An answer in words, for messages. Any number may be asked for. */
+static inline const char *fuavelino_refusal_text(unsigned number) {
+    switch (number) {
+    case FUAVELINO_ACCEPTED: return "accepted";
+    case FUAVELINO_DEPTH: return "the depth does not suit the sample width";
+    case FUAVELINO_SIZE: return "width or height is 0 or above 8192";
+    case FUAVELINO_SIDE: return "a side is below the least that this score takes";
+    case FUAVELINO_STRIDE: return "a stride is below the width or above 16384";
+    case FUAVELINO_SHORT: return "a plane has too few samples";
+    case FUAVELINO_SAMPLE: return "a visible sample is above the depth's largest";
+    case FUAVELINO_KERNEL: return "the kernel is unlawful";
+    case FUAVELINO_SCRATCH: return "lent scratch is too short";
+    case FUAVELINO_NOT_FINITE: return "the score is infinite or not a number";
+    case FUAVELINO_RECORD: return "a series of no records, of too many, or with a bad one";
+    case FUAVELINO_TOTAL: return "the exact total of a series is above 2^53";
+    case FUAVELINO_VALUE: return "a value, or a count of values, is out of range";
+    case FUAVELINO_WEIGHT: return "a weight is outside 0 to 1, or a number is not finite";
+    default: return "no answer of this library";
+    }
+}
 
 /* The squared error of a plane, or the total of a series of planes. An error of 0 says that they are identical: PSNR is called 100. */
 typedef struct fuavelino_record {
@@ -65,8 +96,8 @@ uint8_t fuavelino_squared_error16(const uint16_t *a, size_t a_len, const uint16_
 uint8_t fuavelino_series(const fuavelino_record *records, size_t count, double *sq_err, uint64_t *n, uint32_t *sample_max);
 
 /* SSIM under a kernel: an odd count of taps from 1 to 255, each from 0 to 256, summing to 256, the same from both ends, the middle at least 1.
- * `scratch` has at least 6 * width * L places, L the least power of two not below the count of taps; accepted, and at 9, those are 0 after
- * the call. Refuses 1 2 4 5 6 7 8 9. */
+ * `scratch` has at least fuavelino_ssim_places(width, taps) places; accepted, and at 9, those are 0 after the call. Refuses 1 2 4 5 6 7 8 9.
+ * fuavelino_kernel.h builds the kernel that av-metrics chooses for a plane. */
 uint8_t fuavelino_ssim8(const uint8_t *a, size_t a_len, const uint8_t *b, size_t b_len, size_t width, size_t height,
                         size_t stride_a, size_t stride_b, uint32_t depth, const uint16_t *kernel, size_t taps, int64_t *scratch,
                         size_t places, double *ssim, double *cs);
@@ -74,8 +105,13 @@ uint8_t fuavelino_ssim16(const uint16_t *a, size_t a_len, const uint16_t *b, siz
                          size_t stride_a, size_t stride_b, uint32_t depth, const uint16_t *kernel, size_t taps, int64_t *scratch,
                          size_t places, double *ssim, double *cs);
 
-/* MS-SSIM's five scales, the planes themselves first: `pairs` gets ssim and cs of each in turn. Sides are at least 16. `scratch` has at
- * least 96 * width places, each room width * height; accepted, and at 9, those are 0 after the call. Refuses 1 2 3 4 5 6 8 9. */
+/* The places that the scratch of SSIM must have: 6 * width * L, L the least power of two not below the count of taps. 0 where width is not
+ * 1 to 8192 or taps not 1 to 255: such a call is refused by a lower number, whatever is lent. */
+size_t fuavelino_ssim_places(size_t width, size_t taps);
+
+/* MS-SSIM's five scales, the planes themselves first: ssim and cs of scale k, from 0 on, go to pairs[2 * k] and pairs[2 * k + 1]. Sides are at
+ * least 16. `scratch` has at least fuavelino_msssim_places(width) places, each room fuavelino_msssim_samples(width, height); accepted, and
+ * at 9, those are 0 after the call. Refuses 1 2 3 4 5 6 8 9. */
 uint8_t fuavelino_msssim8(const uint8_t *a, size_t a_len, const uint8_t *b, size_t b_len, size_t width, size_t height,
                           size_t stride_a, size_t stride_b, uint32_t depth, int64_t *scratch, size_t places, uint32_t *room_a,
                           size_t places_a, uint32_t *room_b, size_t places_b, double pairs[10]);
@@ -83,19 +119,32 @@ uint8_t fuavelino_msssim16(const uint16_t *a, size_t a_len, const uint16_t *b, s
                            size_t stride_a, size_t stride_b, uint32_t depth, int64_t *scratch, size_t places, uint32_t *room_a,
                            size_t places_a, uint32_t *room_b, size_t places_b, double pairs[10]);
 
+/* The places that the scratch of MS-SSIM must have, 96 * width, and each of its rooms, width * height. 0 where a side is not 16 to 8192: such
+ * a call is refused by a lower number, whatever is lent. */
+size_t fuavelino_msssim_places(size_t width);
+size_t fuavelino_msssim_samples(size_t width, size_t height);
+
 /* PSNR-HVS of two y, u or v planes: 0 where no error is seen. Sides are at least 8. Refuses 1 2 3 4 5 6 9. */
-uint8_t fuavelino_psnr_hvs_y_8(const uint8_t *a, size_t a_len, const uint8_t *b, size_t b_len, size_t width, size_t height,
+uint8_t fuavelino_psnr_hvs_y8(const uint8_t *a, size_t a_len, const uint8_t *b, size_t b_len, size_t width, size_t height,
+                              size_t stride_a, size_t stride_b, uint32_t depth, double *score);
+uint8_t fuavelino_psnr_hvs_u8(const uint8_t *a, size_t a_len, const uint8_t *b, size_t b_len, size_t width, size_t height,
+                              size_t stride_a, size_t stride_b, uint32_t depth, double *score);
+uint8_t fuavelino_psnr_hvs_v8(const uint8_t *a, size_t a_len, const uint8_t *b, size_t b_len, size_t width, size_t height,
+                              size_t stride_a, size_t stride_b, uint32_t depth, double *score);
+uint8_t fuavelino_psnr_hvs_y16(const uint16_t *a, size_t a_len, const uint16_t *b, size_t b_len, size_t width, size_t height,
                                size_t stride_a, size_t stride_b, uint32_t depth, double *score);
-uint8_t fuavelino_psnr_hvs_u_8(const uint8_t *a, size_t a_len, const uint8_t *b, size_t b_len, size_t width, size_t height,
+uint8_t fuavelino_psnr_hvs_u16(const uint16_t *a, size_t a_len, const uint16_t *b, size_t b_len, size_t width, size_t height,
                                size_t stride_a, size_t stride_b, uint32_t depth, double *score);
-uint8_t fuavelino_psnr_hvs_v_8(const uint8_t *a, size_t a_len, const uint8_t *b, size_t b_len, size_t width, size_t height,
+uint8_t fuavelino_psnr_hvs_v16(const uint16_t *a, size_t a_len, const uint16_t *b, size_t b_len, size_t width, size_t height,
                                size_t stride_a, size_t stride_b, uint32_t depth, double *score);
-uint8_t fuavelino_psnr_hvs_y_16(const uint16_t *a, size_t a_len, const uint16_t *b, size_t b_len, size_t width, size_t height,
-                                size_t stride_a, size_t stride_b, uint32_t depth, double *score);
-uint8_t fuavelino_psnr_hvs_u_16(const uint16_t *a, size_t a_len, const uint16_t *b, size_t b_len, size_t width, size_t height,
-                                size_t stride_a, size_t stride_b, uint32_t depth, double *score);
-uint8_t fuavelino_psnr_hvs_v_16(const uint16_t *a, size_t a_len, const uint16_t *b, size_t b_len, size_t width, size_t height,
-                                size_t stride_a, size_t stride_b, uint32_t depth, double *score);
+
+/* The names that these had first. */
+#define fuavelino_psnr_hvs_y_8 fuavelino_psnr_hvs_y8
+#define fuavelino_psnr_hvs_u_8 fuavelino_psnr_hvs_u8
+#define fuavelino_psnr_hvs_v_8 fuavelino_psnr_hvs_v8
+#define fuavelino_psnr_hvs_y_16 fuavelino_psnr_hvs_y16
+#define fuavelino_psnr_hvs_u_16 fuavelino_psnr_hvs_u16
+#define fuavelino_psnr_hvs_v_16 fuavelino_psnr_hvs_v16
 
 /* Scores of three planes with chroma weight c, 0 to 1. SSIM: y + c * (u + v), and 1 + 2c. HVS: (1 + 2c) * (y + c * (u + v)).
  * Refuse 13, then 9. */

@@ -3,7 +3,7 @@
 
 use crate::family::{number, run, Family, Run};
 use crate::random::Random;
-use fuavelino::lent;
+use fuavelino::no_alloc;
 use published::frame::Frame;
 use published::plane::Plane;
 use published::prelude::ChromaSampling;
@@ -98,8 +98,11 @@ impl Case {
         let (c, [y, u, v]) = self.numbers();
         let mut places = BEFORE.map(f64::from_bits);
         let [first, second] = &mut places;
-        let said =
-            if self.hvs { lent::combine_hvs(c, y, u, v, first) } else { lent::combine_ssim(c, y, u, v, first, second) };
+        let said = if self.hvs {
+            no_alloc::combine_hvs(c, y, u, v, first)
+        } else {
+            no_alloc::combine_ssim(c, y, u, v, first, second)
+        };
         (number(said), places.map(f64::to_bits))
     }
 

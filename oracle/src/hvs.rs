@@ -5,7 +5,7 @@ use crate::hvs_ways;
 use crate::plane;
 use crate::random::Random;
 use crate::samples::{sound, sound_of, Pair};
-use fuavelino::{lent, PlaneKind, Sample};
+use fuavelino::{no_alloc, PlaneKind, Sample};
 use published::plane::Plane;
 use published::video::pixel::Pixel;
 use published::video::psnr_hvs;
@@ -84,7 +84,7 @@ impl Family for Scores {
 
 fn asked<T: Sample>(kind: PlaneKind, p: &Pair, a: &[T], b: &[T]) -> (u8, u64) {
     let mut score = f64::from_bits(BEFORE);
-    let answer = number(lent::psnr_hvs(p.plane(0, a), p.plane(1, b), p.shape(), kind, &mut score));
+    let answer = number(no_alloc::psnr_hvs(p.plane(0, a), p.plane(1, b), p.shape(), kind, &mut score));
     (answer, score.to_bits())
 }
 

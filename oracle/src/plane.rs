@@ -3,7 +3,7 @@
 use crate::family::{number, run, Family, Run};
 use crate::model::{Check, Plane};
 use crate::random::Random;
-use fuavelino::{lent, Sample, Shape};
+use fuavelino::{no_alloc, Sample, Shape};
 
 /// Random planes hold no more samples than this.
 const ROOM: u128 = 40_000;
@@ -92,7 +92,7 @@ fn ask16(c: &Check, a: &[u16], b: &[u16]) -> (u8, bool) {
 fn asked<T: Sample>(c: &Check, a: &[T], b: &[T]) -> u8 {
     let shape = Shape { width: c.width, height: c.height, bit_depth: c.depth };
     let (a, b) = (fuavelino::Plane { data: a, stride: c.a.stride }, fuavelino::Plane { data: b, stride: c.b.stride });
-    number(lent::check(a, b, shape, c.least))
+    number(no_alloc::check(a, b, shape, c.least))
 }
 
 /// Smaller numbers to try in place of this one.

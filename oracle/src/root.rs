@@ -3,7 +3,7 @@
 use crate::family::{number, run, Family, Run};
 use crate::model;
 use crate::random::Random;
-use fuavelino::lent;
+use fuavelino::no_alloc;
 
 /// What `out` holds before a call: a pattern that is no root, and must stay on a refusal.
 const BEFORE: u64 = 0x7FF4_DEAD_BEEF_0001;
@@ -31,7 +31,7 @@ impl Family for Roots {
 
     fn judge(&mut self, bits: &u64) -> Result<u8, String> {
         let mut out = f64::from_bits(BEFORE);
-        let answer = number(lent::root(f64::from_bits(*bits), &mut out));
+        let answer = number(no_alloc::root(f64::from_bits(*bits), &mut out));
         let (wanted, left) = match model::root(*bits) {
             Some(root) => (0, root),
             None => (model::VALUE, BEFORE),

@@ -5,7 +5,7 @@ use crate::five;
 use crate::plane;
 use crate::random::Random;
 use crate::samples::{sound, sound_of, Pair};
-use fuavelino::{lent, Sample};
+use fuavelino::{no_alloc, Sample};
 
 /// What each place of the answer holds before a call, and must hold after a refusal.
 const BEFORE: u64 = 0x7FF4_DEAD_BEEF_0001;
@@ -103,7 +103,7 @@ fn asked<T: Sample>(c: &Case, scratch: &mut [i64], x: &mut [u32], y: &mut [u32],
     let before = f64::from_bits(BEFORE);
     let mut out = [fuavelino::Pair { ssim: before, cs: before }; 5];
     let (a, b, shape) = (c.pair.plane(0, a), c.pair.plane(1, b), c.pair.shape());
-    let answer = number(lent::msssim(a, b, shape, scratch, x, y, &mut out));
+    let answer = number(no_alloc::msssim(a, b, shape, scratch, x, y, &mut out));
     let at = |i: usize| if i % 2 == 0 { out[i / 2].ssim } else { out[i / 2].cs };
     (answer, [0, 1, 2, 3, 4, 5, 6, 7, 8, 9].map(|i| at(i).to_bits()))
 }

@@ -4,7 +4,7 @@ use crate::family::{number, run, Family, Run};
 use crate::plane::less;
 use crate::random::Random;
 use crate::samples::runs;
-use fuavelino::{lent, PsnrMetrics as Record};
+use fuavelino::{no_alloc, PsnrMetrics as Record};
 
 /// What is left at the three places: the error's bits, n, sample_max.
 type Left = (u64, u64, u32);
@@ -66,7 +66,7 @@ impl Family for Series {
         let bits = |r: &Record| (r.sq_err.to_bits(), r.n_pixels, r.sample_max);
         let mut total = Record { sq_err: f64::from_bits(BEFORE.0), n_pixels: BEFORE.1, sample_max: BEFORE.2 };
         let copies = records.clone();
-        let answer = number(lent::series(&copies, &mut total));
+        let answer = number(no_alloc::series(&copies, &mut total));
         let left = bits(&total);
         if !copies.iter().map(bits).eq(records.iter().map(bits)) {
             return Err("a record was altered".to_string());

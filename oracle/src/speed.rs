@@ -7,7 +7,7 @@ mod five;
 #[allow(dead_code)]
 mod random;
 
-use fuavelino::{lent, Pair, PlaneKind, PsnrMetrics, Sample, Shape};
+use fuavelino::{no_alloc, Pair, PlaneKind, PsnrMetrics, Sample, Shape};
 use published::plane::Plane;
 use published::video::pixel::Pixel;
 use published::video::{psnr, psnr_hvs, ssim};
@@ -78,7 +78,7 @@ fn root() {
     let product = || {
         let mut out = 0.0;
         for x in &list {
-            let _ = black_box(lent::root(*x, &mut out));
+            let _ = black_box(no_alloc::root(*x, &mut out));
         }
     };
     let other = || {
@@ -106,7 +106,7 @@ fn forward() {
     let product = || {
         let mut out = [0; 64];
         for b in &blocks {
-            let _ = black_box(lent::forward(b, &mut out));
+            let _ = black_box(no_alloc::forward(b, &mut out));
             black_box(&out);
         }
     };
@@ -183,7 +183,7 @@ fn run_squared<T: Sample + Pixel>(scene: &Scene<T>) -> impl FnMut() + '_ {
     let [x, y] = scene.lent();
     move || {
         let mut record = PsnrMetrics::default();
-        assert_eq!(lent::squared_error(x, y, black_box(scene.shape), &mut record), Ok(()));
+        assert_eq!(no_alloc::squared_error(x, y, black_box(scene.shape), &mut record), Ok(()));
         black_box(record);
     }
 }
@@ -206,7 +206,7 @@ fn run_ssim<'a, T: Sample + Pixel>(scene: &'a Scene<T>, taps: &'a [u16]) -> impl
     let mut scratch = vec![0i64; 6 * scene.shape.width * taps.len().next_power_of_two()];
     move || {
         let mut pair = Pair::default();
-        assert_eq!(lent::ssim(x, y, black_box(scene.shape), taps, &mut scratch, &mut pair), Ok(()));
+        assert_eq!(no_alloc::ssim(x, y, black_box(scene.shape), taps, &mut scratch, &mut pair), Ok(()));
         black_box(pair);
     }
 }
@@ -225,7 +225,7 @@ fn run_hvs<T: Sample + Pixel>(scene: &Scene<T>) -> impl FnMut() + '_ {
     let [x, y] = scene.lent();
     move || {
         let mut score = 0.0;
-        assert_eq!(lent::psnr_hvs(x, y, black_box(scene.shape), PlaneKind::Y, &mut score), Ok(()));
+        assert_eq!(no_alloc::psnr_hvs(x, y, black_box(scene.shape), PlaneKind::Y, &mut score), Ok(()));
         black_box(score);
     }
 }
@@ -247,7 +247,7 @@ fn run_scales<T: Sample + Pixel>(scene: &Scene<T>) -> impl FnMut() + '_ {
     move || {
         let mut pairs = [Pair::default(); 5];
         let [p, q] = &mut rooms;
-        assert_eq!(lent::msssim(x, y, black_box(scene.shape), &mut scratch, p, q, &mut pairs), Ok(()));
+        assert_eq!(no_alloc::msssim(x, y, black_box(scene.shape), &mut scratch, p, q, &mut pairs), Ok(()));
         black_box(pairs);
     }
 }

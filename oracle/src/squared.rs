@@ -4,7 +4,7 @@ use crate::family::{number, run, Family, Run};
 use crate::plane;
 use crate::random::Random;
 use crate::samples::{sound, sound_of, Pair};
-use fuavelino::{lent, PsnrMetrics, Sample};
+use fuavelino::{no_alloc, PsnrMetrics, Sample};
 use published::plane::Plane;
 use published::video::pixel::Pixel;
 use published::video::psnr;
@@ -81,7 +81,7 @@ impl Family for Errors {
 
 fn asked<T: Sample>(p: &Pair, a: &[T], b: &[T]) -> (u8, Left) {
     let mut out = PsnrMetrics { sq_err: f64::from_bits(BEFORE.0), n_pixels: BEFORE.1, sample_max: BEFORE.2 };
-    let answer = number(lent::squared_error(p.plane(0, a), p.plane(1, b), p.shape(), &mut out));
+    let answer = number(no_alloc::squared_error(p.plane(0, a), p.plane(1, b), p.shape(), &mut out));
     (answer, (out.sq_err.to_bits(), out.n_pixels, out.sample_max))
 }
 

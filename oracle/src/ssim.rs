@@ -5,7 +5,7 @@ use crate::plane::{self, less};
 use crate::random::Random;
 use crate::samples::{sound, Pair};
 use crate::ssim_ways;
-use fuavelino::{lent, Sample};
+use fuavelino::{no_alloc, Sample};
 use published::video::ssim;
 
 /// What the two places hold before a call, and must hold after a refusal.
@@ -111,7 +111,7 @@ fn asked<T: Sample>(c: &Case, scratch: &mut [i64], a: &[T], b: &[T]) -> (u8, [u6
     let [ssim, cs] = BEFORE.map(f64::from_bits);
     let mut out = fuavelino::Pair { ssim, cs };
     let (a, b, shape) = (c.pair.plane(0, a), c.pair.plane(1, b), c.pair.shape());
-    let answer = number(lent::ssim(a, b, shape, &c.kernel, scratch, &mut out));
+    let answer = number(no_alloc::ssim(a, b, shape, &c.kernel, scratch, &mut out));
     (answer, [out.ssim.to_bits(), out.cs.to_bits()])
 }
 

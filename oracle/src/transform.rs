@@ -4,7 +4,7 @@ use crate::family::{number, run, Family, Run};
 use crate::lifting;
 use crate::model::VALUE;
 use crate::random::Random;
-use fuavelino::lent;
+use fuavelino::no_alloc;
 use published::video::psnr_hvs;
 
 const FORWARD_LIMIT: i32 = 4_095;
@@ -93,7 +93,7 @@ fn limit(back: bool) -> i32 {
 
 fn asked(back: bool, values: &[i32], places: usize) -> (u8, Vec<i32>) {
     let mut out = vec![BEFORE; places];
-    let call = if back { lent::inverse } else { lent::forward };
+    let call = if back { no_alloc::inverse } else { no_alloc::forward };
     (number(call(values, &mut out)), out)
 }
 

@@ -1,6 +1,7 @@
 /* Calls every export of libfuavelino.a through its header: accepted, with answers known from the rules or from av-metrics 0.9.1 (the bits
  * below), and refused, after which every lent place is as it was. It prints each export's name with how often it accepted and refused. */
 #include "fuavelino.h"
+#include "fuavelino_kernel.h"
 
 #include <math.h>
 #include <stdio.h>
@@ -8,7 +9,10 @@
 
 #define COUNT(list) (sizeof(list) / sizeof((list)[0]))
 #define EXPECT(truth) expect((truth), #truth, __LINE__)
+/* a call that answers 0 or a refusal; one that answers a count of places, or 0; one that always answers */
 #define CALL(name, args) told(#name, name args)
+#define PLACES(name, args) placed(#name, name args)
+#define ASK(name, args) asked(#name, name args)
 
 static int failures;
 
@@ -27,19 +31,32 @@ struct tally {
 static struct tally tallies[64];
 static size_t tallied;
 
-/* Counts an answer under its call's name, and hands it on. */
-static uint8_t told(const char *name, uint8_t answer) {
+/* Counts an answer under its call's name. */
+static void tally(const char *name, unsigned accepted, unsigned refused) {
     size_t i = 0;
     while (i < tallied && strcmp(tallies[i].name, name) != 0) i++;
-    if (i == tallied) {
-        if (tallied == COUNT(tallies)) {
-            expect(0, "there is room for every name", __LINE__);
-            return answer;
-        }
-        tallies[tallied++].name = name;
+    if (i == COUNT(tallies)) {
+        expect(0, "there is room for every name", __LINE__);
+        return;
     }
-    if (answer == FUAVELINO_ACCEPTED) tallies[i].accepted++;
-    else tallies[i].refused++;
+    if (i == tallied) tallies[tallied++].name = name;
+    tallies[i].accepted += accepted;
+    tallies[i].refused += refused;
+}
+
+static uint8_t told(const char *name, uint8_t answer) {
+    tally(name, answer == FUAVELINO_ACCEPTED, answer != FUAVELINO_ACCEPTED);
+    return answer;
+}
+
+static size_t placed(const char *name, size_t places) {
+    tally(name, places > 0, places == 0);
+    return places;
+}
+
+/* It has no refusal, which counts as having seen it. */
+static uint32_t asked(const char *name, uint32_t answer) {
+    tally(name, 1, 1);
     return answer;
 }
 
@@ -71,6 +88,11 @@ static void draw(void) {
 /* The planes with these numbers beside them, as a call takes them. */
 #define BYTES(width, height, depth) a8, LEN, b8, LEN, width, height, STRIDE, STRIDE, depth
 #define WORDS(width, height, depth) a16, LEN, b16, LEN, width, height, STRIDE, STRIDE, depth
+
+static void version(void) {
+    EXPECT(ASK(fuavelino_version, ()) == FUAVELINO_VERSION);
+    EXPECT(FUAVELINO_VERSION == 10000 * FUAVELINO_VERSION_MAJOR + 100 * FUAVELINO_VERSION_MINOR + FUAVELINO_VERSION_PATCH);
+}
 
 static void root(void) {
     const double before = -7.25;
@@ -166,6 +188,48 @@ static void soil(void) {
     for (i = 0; i < COUNT(room_a); i++) room_a[i] = room_b[i] = 5;
 }
 
+/* The places at the ends of what is taken, and past them. */
+static void places(void) {
+    EXPECT(PLACES(fuavelino_ssim_places, (WIDTH, 3)) == SSIM_NEED);
+    EXPECT(PLACES(fuavelino_ssim_places, (1, 1)) == 6 && PLACES(fuavelino_ssim_places, (8192, 255)) == (size_t)6 * 8192 * 256);
+    EXPECT(PLACES(fuavelino_ssim_places, (0, 3)) == 0 && PLACES(fuavelino_ssim_places, (8193, 3)) == 0);
+    EXPECT(PLACES(fuavelino_ssim_places, (WIDTH, 0)) == 0 && PLACES(fuavelino_ssim_places, (WIDTH, 256)) == 0);
+    EXPECT(PLACES(fuavelino_ssim_places, (SIZE_MAX, SIZE_MAX)) == 0);
+    EXPECT(PLACES(fuavelino_msssim_places, (WIDTH)) == SCALES_NEED);
+    EXPECT(PLACES(fuavelino_msssim_places, (16)) == 96 * 16 && PLACES(fuavelino_msssim_places, (8192)) == 96 * 8192);
+    EXPECT(PLACES(fuavelino_msssim_places, (15)) == 0 && PLACES(fuavelino_msssim_places, (8193)) == 0);
+    EXPECT(PLACES(fuavelino_msssim_samples, (WIDTH, HEIGHT)) == ROOM_NEED);
+    EXPECT(PLACES(fuavelino_msssim_samples, (8192, 8192)) == (size_t)8192 * 8192);
+    EXPECT(PLACES(fuavelino_msssim_samples, (15, 16)) == 0 && PLACES(fuavelino_msssim_samples, (16, 15)) == 0);
+    EXPECT(PLACES(fuavelino_msssim_samples, (16, 8193)) == 0 && PLACES(fuavelino_msssim_samples, (SIZE_MAX, SIZE_MAX)) == 0);
+}
+
+static int all_taps(size_t count, const uint16_t *taps, const uint16_t *known, size_t known_count) {
+    return count == known_count && memcmp(taps, known, count * sizeof taps[0]) == 0;
+}
+
+/* Kernels of av-metrics, whole and cut short by a narrow plane. */
+static void kernels(void) {
+    static const uint16_t of_640_by_360[] = {1, 3, 8, 18, 31, 43, 48, 43, 31, 18, 8, 3, 1}, of_5_by_1080[] = {13, 14, 15, 16, 140, 16, 15, 14, 13}, of_one[] = {256};
+    uint16_t taps[FUAVELINO_MOST_TAPS];
+    size_t side, longest = 0;
+    EXPECT(all_taps(fuavelino_gaussian_kernel(640, 360, taps, COUNT(taps)), taps, of_640_by_360, COUNT(of_640_by_360)));
+    EXPECT(all_taps(fuavelino_gaussian_kernel(5, 1080, taps, COUNT(taps)), taps, of_5_by_1080, COUNT(of_5_by_1080)));
+    EXPECT(all_taps(fuavelino_gaussian_kernel(1, 1080, taps, COUNT(taps)), taps, of_one, COUNT(of_one)));
+    EXPECT(fuavelino_gaussian_kernel(640, 360, taps, COUNT(of_640_by_360) - 1) == 0);
+    EXPECT(fuavelino_gaussian_kernel(0, 360, taps, COUNT(taps)) == 0 && fuavelino_gaussian_kernel(640, 0, taps, COUNT(taps)) == 0);
+    EXPECT(fuavelino_gaussian_kernel(8193, 8, taps, COUNT(taps)) == 0 && fuavelino_gaussian_kernel(8, 8193, taps, COUNT(taps)) == 0);
+    for (side = 1; side <= 8192; side++) {
+        static const uint8_t sample[] = {7};
+        static int64_t room[6 * 256];
+        double s, c;
+        const size_t count = fuavelino_gaussian_kernel(side, side, taps, COUNT(taps));
+        if (count > longest) longest = count;
+        EXPECT(fuavelino_ssim8(sample, 1, sample, 1, 1, 1, 1, 1, 8, taps, count, room, COUNT(room), &s, &c) == 0);
+    }
+    EXPECT(longest == 163);
+}
+
 static void ssim(void) {
     static const uint16_t kernel[] = {64, 128, 64}, unlawful[] = {128, 0, 128};
     double s = -7.25, c = -8.5;
@@ -230,19 +294,26 @@ static void msssim(void) {
 
 static void psnr_hvs(void) {
     double score = -7.25;
-    EXPECT(CALL(fuavelino_psnr_hvs_y_8, (BYTES(7, HEIGHT, 8), &score)) == FUAVELINO_SIDE);
-    EXPECT(CALL(fuavelino_psnr_hvs_u_8, (BYTES(WIDTH, 7, 8), &score)) == FUAVELINO_SIDE);
-    EXPECT(CALL(fuavelino_psnr_hvs_v_8, (BYTES(WIDTH, HEIGHT, 0), &score)) == FUAVELINO_DEPTH);
-    EXPECT(CALL(fuavelino_psnr_hvs_y_16, (WORDS(7, HEIGHT, 10), &score)) == FUAVELINO_SIDE);
-    EXPECT(CALL(fuavelino_psnr_hvs_u_16, (WORDS(WIDTH, HEIGHT + 1, 10), &score)) == FUAVELINO_SHORT);
-    EXPECT(CALL(fuavelino_psnr_hvs_v_16, (WORDS(WIDTH, HEIGHT, 9), &score)) == FUAVELINO_SAMPLE);
+    EXPECT(CALL(fuavelino_psnr_hvs_y8, (BYTES(7, HEIGHT, 8), &score)) == FUAVELINO_SIDE);
+    EXPECT(CALL(fuavelino_psnr_hvs_u8, (BYTES(WIDTH, 7, 8), &score)) == FUAVELINO_SIDE);
+    EXPECT(CALL(fuavelino_psnr_hvs_v8, (BYTES(WIDTH, HEIGHT, 0), &score)) == FUAVELINO_DEPTH);
+    EXPECT(CALL(fuavelino_psnr_hvs_y16, (WORDS(7, HEIGHT, 10), &score)) == FUAVELINO_SIDE);
+    EXPECT(CALL(fuavelino_psnr_hvs_u16, (WORDS(WIDTH, HEIGHT + 1, 10), &score)) == FUAVELINO_SHORT);
+    EXPECT(CALL(fuavelino_psnr_hvs_v16, (WORDS(WIDTH, HEIGHT, 9), &score)) == FUAVELINO_SAMPLE);
     EXPECT(score == -7.25);
-    EXPECT(CALL(fuavelino_psnr_hvs_y_8, (BYTES(WIDTH, HEIGHT, 8), &score)) == 0 && has_bits(score, UINT64_C(0x3EE5CE10D028344C)));
-    EXPECT(CALL(fuavelino_psnr_hvs_u_8, (BYTES(WIDTH, HEIGHT, 8), &score)) == 0 && has_bits(score, UINT64_C(0x3EEEA1644FA79C45)));
-    EXPECT(CALL(fuavelino_psnr_hvs_v_8, (BYTES(WIDTH, HEIGHT, 8), &score)) == 0 && has_bits(score, UINT64_C(0x3EF2218DF34729B5)));
-    EXPECT(CALL(fuavelino_psnr_hvs_y_16, (WORDS(WIDTH, HEIGHT, 10), &score)) == 0 && has_bits(score, UINT64_C(0x3EB1BC65AB8C5BDC)));
-    EXPECT(CALL(fuavelino_psnr_hvs_u_16, (WORDS(WIDTH, HEIGHT, 10), &score)) == 0 && has_bits(score, UINT64_C(0x3EB8B3BAC049A595)));
-    EXPECT(CALL(fuavelino_psnr_hvs_v_16, (WORDS(WIDTH, HEIGHT, 10), &score)) == 0 && has_bits(score, UINT64_C(0x3EBC1C45294DF492)));
+    /* by their first names */
+    EXPECT(fuavelino_psnr_hvs_y_8(BYTES(7, HEIGHT, 8), &score) == FUAVELINO_SIDE && score == -7.25);
+    EXPECT(fuavelino_psnr_hvs_u_8(BYTES(7, HEIGHT, 8), &score) == FUAVELINO_SIDE && score == -7.25);
+    EXPECT(fuavelino_psnr_hvs_v_8(BYTES(7, HEIGHT, 8), &score) == FUAVELINO_SIDE && score == -7.25);
+    EXPECT(fuavelino_psnr_hvs_y_16(WORDS(7, HEIGHT, 10), &score) == FUAVELINO_SIDE && score == -7.25);
+    EXPECT(fuavelino_psnr_hvs_u_16(WORDS(7, HEIGHT, 10), &score) == FUAVELINO_SIDE && score == -7.25);
+    EXPECT(fuavelino_psnr_hvs_v_16(WORDS(7, HEIGHT, 10), &score) == FUAVELINO_SIDE && score == -7.25);
+    EXPECT(CALL(fuavelino_psnr_hvs_y8, (BYTES(WIDTH, HEIGHT, 8), &score)) == 0 && has_bits(score, UINT64_C(0x3EE5CE10D028344C)));
+    EXPECT(CALL(fuavelino_psnr_hvs_u8, (BYTES(WIDTH, HEIGHT, 8), &score)) == 0 && has_bits(score, UINT64_C(0x3EEEA1644FA79C45)));
+    EXPECT(CALL(fuavelino_psnr_hvs_v8, (BYTES(WIDTH, HEIGHT, 8), &score)) == 0 && has_bits(score, UINT64_C(0x3EF2218DF34729B5)));
+    EXPECT(CALL(fuavelino_psnr_hvs_y16, (WORDS(WIDTH, HEIGHT, 10), &score)) == 0 && has_bits(score, UINT64_C(0x3EB1BC65AB8C5BDC)));
+    EXPECT(CALL(fuavelino_psnr_hvs_u16, (WORDS(WIDTH, HEIGHT, 10), &score)) == 0 && has_bits(score, UINT64_C(0x3EB8B3BAC049A595)));
+    EXPECT(CALL(fuavelino_psnr_hvs_v16, (WORDS(WIDTH, HEIGHT, 10), &score)) == 0 && has_bits(score, UINT64_C(0x3EBC1C45294DF492)));
 }
 
 static void combining(void) {
@@ -274,9 +345,24 @@ static void transform(void) {
     EXPECT(CALL(fuavelino_inverse, (coefs, 64, back, 64)) == FUAVELINO_VALUE && back[63] == 8);
 }
 
+/* tools/refusals compares the words with those of the Rust package. */
+static void words(void) {
+    unsigned number;
+    EXPECT(strcmp(fuavelino_refusal_text(FUAVELINO_ACCEPTED), "accepted") == 0);
+    EXPECT(strcmp(fuavelino_refusal_text(FUAVELINO_SAMPLE), "a visible sample is above the depth's largest") == 0);
+    for (number = 0; number < 300; number++) {
+        const int none = strcmp(fuavelino_refusal_text(number), "no answer of this library") == 0;
+        EXPECT(none == (number > FUAVELINO_WEIGHT));
+    }
+}
+
 int main(void) {
     size_t i;
     draw();
+    version();
+    words();
+    places();
+    kernels();
     root();
     check();
     squared_error();

@@ -1,13 +1,18 @@
 //! The exports of `libfuavelino.a`, declared once, and the only unsafe code of this crate.
 //!
-//! Each export is proved to read and write no place but those that it is lent, whatever the numbers beside them, so that a slice and a
-//! reference are all that a call needs to be safe.
+//! Each export is proved to read and write no place but those that it is lent, whatever the numbers beside them. What is left to its
+//! caller (include/fuavelino.h) is what a slice or a reference of Rust is by itself: not null, aligned, as long as it says, and alone
+//! where it is written.
 
 #![allow(unsafe_code)]
 
 use crate::plane::{Pair, Plane, PlaneKind, PsnrMetrics, Shape};
 
 extern "C" {
+    fn fuavelino_version() -> u32;
+    fn fuavelino_ssim_places(width: usize, taps: usize) -> usize;
+    fn fuavelino_msssim_places(width: usize) -> usize;
+    fn fuavelino_msssim_samples(width: usize, height: usize) -> usize;
     fn fuavelino_root(x: f64, out: &mut f64) -> u8;
     fn fuavelino_series(
         records: *const PsnrMetrics,
@@ -23,33 +28,63 @@ extern "C" {
 }
 
 #[inline]
+pub fn version() -> u32 {
+    // SAFETY: it takes nothing and reads nothing.
+    unsafe { fuavelino_version() }
+}
+
+#[inline]
+pub fn ssim_places(width: usize, taps: usize) -> usize {
+    // SAFETY: it takes any numbers, and no place.
+    unsafe { fuavelino_ssim_places(width, taps) }
+}
+
+#[inline]
+pub fn msssim_places(width: usize) -> usize {
+    // SAFETY: it takes any number, and no place.
+    unsafe { fuavelino_msssim_places(width) }
+}
+
+#[inline]
+pub fn msssim_samples(width: usize, height: usize) -> usize {
+    // SAFETY: it takes any numbers, and no place.
+    unsafe { fuavelino_msssim_samples(width, height) }
+}
+
+#[inline]
 pub fn root(x: f64, out: &mut f64) -> u8 {
+    // SAFETY: any x is taken, and `out` is a place of its own.
     unsafe { fuavelino_root(x, out) }
 }
 
 #[inline]
 pub fn series(records: &[PsnrMetrics], out: &mut PsnrMetrics) -> u8 {
     let PsnrMetrics { sq_err, n_pixels, sample_max } = out;
+    // SAFETY: the pointer and the count are those of one slice, of C's layout; the three fields are places of their own.
     unsafe { fuavelino_series(records.as_ptr(), records.len(), sq_err, n_pixels, sample_max) }
 }
 
 #[inline]
 pub fn combine_ssim(c: f64, y: f64, u: f64, v: f64, sum: &mut f64, weight: &mut f64) -> u8 {
+    // SAFETY: any numbers are taken, and both results are places of their own.
     unsafe { fuavelino_combine_ssim(c, y, u, v, sum, weight) }
 }
 
 #[inline]
 pub fn combine_hvs(c: f64, y: f64, u: f64, v: f64, score: &mut f64) -> u8 {
+    // SAFETY: any numbers are taken, and `score` is a place of its own.
     unsafe { fuavelino_combine_hvs(c, y, u, v, score) }
 }
 
 #[inline]
 pub fn forward(block: &[i32], out: &mut [i32]) -> u8 {
+    // SAFETY: each pointer goes with the count of its own slice, of any length, and `out` is lent to be written.
     unsafe { fuavelino_forward(block.as_ptr(), block.len(), out.as_mut_ptr(), out.len()) }
 }
 
 #[inline]
 pub fn inverse(coefs: &[i32], out: &mut [i32]) -> u8 {
+    // SAFETY: as for `forward`.
     unsafe { fuavelino_inverse(coefs.as_ptr(), coefs.len(), out.as_mut_ptr(), out.len()) }
 }
 
@@ -176,6 +211,8 @@ macro_rules! lend {
     ($name:ident, $a:ident, $b:ident, $shape:ident, $($value:expr),*) => {{
         let (x, y) = ($a.data.as_ptr(), $b.data.as_ptr());
         let (i, j, Shape { width, height, bit_depth }) = ($a.data.len(), $b.data.len(), $shape);
+        // SAFETY: each pointer goes with the count of its own slice, any shape and strides are taken, and what the values name to be
+        // written is lent for that by a `&mut` of the caller.
         unsafe { $name(x, i, y, j, width, height, $a.stride, $b.stride, bit_depth, $($value),*) }
     }};
 }
@@ -186,9 +223,9 @@ width!(
     fuavelino_squared_error8,
     fuavelino_ssim8,
     fuavelino_msssim8,
-    fuavelino_psnr_hvs_y_8,
-    fuavelino_psnr_hvs_u_8,
-    fuavelino_psnr_hvs_v_8
+    fuavelino_psnr_hvs_y8,
+    fuavelino_psnr_hvs_u8,
+    fuavelino_psnr_hvs_v8
 );
 width!(
     u16,
@@ -196,7 +233,7 @@ width!(
     fuavelino_squared_error16,
     fuavelino_ssim16,
     fuavelino_msssim16,
-    fuavelino_psnr_hvs_y_16,
-    fuavelino_psnr_hvs_u_16,
-    fuavelino_psnr_hvs_v_16
+    fuavelino_psnr_hvs_y16,
+    fuavelino_psnr_hvs_u16,
+    fuavelino_psnr_hvs_v16
 );

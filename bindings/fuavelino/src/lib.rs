@@ -28,11 +28,12 @@
 
 #![deny(missing_docs)]
 #![deny(unsafe_code)]
+#![deny(clippy::undocumented_unsafe_blocks)]
 #![warn(rust_2018_idioms)]
 
 mod exports;
 mod kernel;
-pub mod lent;
+pub mod no_alloc;
 mod plane;
 mod refusal;
 mod scores;
@@ -43,7 +44,7 @@ pub use kernel::{build_gaussian_kernel, Kernel};
 pub use plane::{Pair, Plane, PlaneKind, PsnrMetrics, Sample, Shape};
 pub use refusal::Refusal;
 pub use scores::{
-    check, combine_hvs, combine_ssim, forward, inverse, msssim, psnr_hvs, root, series, squared_error, ssim,
+    check, combine_hvs, combine_ssim, forward, inverse, msssim, psnr_hvs, root, series, squared_error, ssim, version,
 };
 pub use scratch::Scratch;
 

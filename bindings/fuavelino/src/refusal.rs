@@ -9,29 +9,29 @@ pub enum Refusal {
     /// 1: the depth does not suit the sample width. Bytes carry 1 to 8, words 9 to 12.
     Depth = 1,
     /// 2: width or height is 0 or above 8,192.
-    Size,
+    Size = 2,
     /// 3: a side is below the call's least: 8 for PSNR-HVS, 16 for MS-SSIM.
-    Side,
+    Side = 3,
     /// 4: a stride is below the width or above 16,384.
-    Stride,
+    Stride = 4,
     /// 5: a plane has fewer than stride × (height − 1) + width samples.
-    Short,
+    Short = 5,
     /// 6: a visible sample is above 2^depth − 1.
-    Sample,
+    Sample = 6,
     /// 7: the lent kernel is unlawful.
-    Kernel,
+    Kernel = 7,
     /// 8: lent scratch is too short.
-    Scratch,
+    Scratch = 8,
     /// 9: nothing else applies, and the defined score is infinite or not a number.
-    NotFinite,
+    NotFinite = 9,
     /// 10: a series of none or over 65,536 records, or with a bad one.
-    Record,
+    Record = 10,
     /// 11: a series whose exact total is above 2^53.
-    Total,
+    Total = 11,
     /// 12: a root of what is not +0 or positive and finite; a transform of other than 64 places, or of a value out of range.
-    Value,
+    Value = 12,
     /// 13: combining with a weight outside 0 to 1, or of a number that is not finite.
-    Weight,
+    Weight = 13,
 }
 
 /// Each refusal with its rule, in the order of the numbers.
@@ -77,12 +77,12 @@ impl fmt::Display for Refusal {
 
 impl Error for Refusal {}
 
-/// What an export's number says.
+/// What an export's number means.
 ///
 /// The library is proved to answer 0 to 13 only. Another number means that this crate is linked with a library that it was not
 /// written for; then nothing that it says can be taken for good, so this panics.
 #[inline]
-pub(crate) fn told(number: u8) -> Result<(), Refusal> {
+pub(crate) fn outcome(number: u8) -> Result<(), Refusal> {
     if number == 0 {
         return Ok(());
     }

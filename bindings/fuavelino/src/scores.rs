@@ -1,12 +1,13 @@
 //! The calls as most callers want them: the answer comes back, and room is kept in a `Scratch`.
 
+use crate::exports;
 use crate::kernel::Kernel;
-use crate::lent;
+use crate::no_alloc::{self, msssim_places, msssim_samples, ssim_places};
 use crate::plane::{Pair, Plane, PlaneKind, PsnrMetrics, Sample, Shape};
 use crate::refusal::Refusal;
-use crate::scratch::{for_msssim, for_ssim, Scratch};
+use crate::scratch::Scratch;
 
-pub use crate::lent::{check, forward, inverse};
+pub use crate::no_alloc::{check, forward, inverse};
 
 /// The least side of MS-SSIM.
 const LEAST: usize = 16;
@@ -25,7 +26,7 @@ const LEAST: usize = 16;
 /// ```
 pub fn squared_error<T: Sample>(a: Plane<'_, T>, b: Plane<'_, T>, shape: Shape) -> Result<PsnrMetrics, Refusal> {
     let mut record = PsnrMetrics::default();
-    lent::squared_error(a, b, shape, &mut record)?;
+    no_alloc::squared_error(a, b, shape, &mut record)?;
     Ok(record)
 }
 
@@ -41,7 +42,7 @@ pub fn squared_error<T: Sample>(a: Plane<'_, T>, b: Plane<'_, T>, shape: Shape) 
 /// ```
 pub fn series(records: &[PsnrMetrics]) -> Result<PsnrMetrics, Refusal> {
     let mut total = PsnrMetrics::default();
-    lent::series(records, &mut total)?;
+    no_alloc::series(records, &mut total)?;
     Ok(total)
 }
 
@@ -65,14 +66,14 @@ pub fn ssim<T: Sample>(
     kernel: &Kernel,
     scratch: &mut Scratch,
 ) -> Result<Pair, Refusal> {
-    let sums = for_ssim(shape.width, kernel.taps().len());
+    let sums = ssim_places(shape.width, kernel.taps().len());
     if !scratch.holds(sums, 0) {
         // it grows for planes that are taken only, so that a wild shape asks for no memory
         check(a, b, shape, 0)?;
         scratch.grow(sums, 0);
     }
     let mut pair = Pair::default();
-    lent::ssim(a, b, shape, kernel.taps(), &mut scratch.sums, &mut pair)?;
+    no_alloc::ssim(a, b, shape, kernel.taps(), &mut scratch.sums, &mut pair)?;
     Ok(pair)
 }
 
@@ -97,13 +98,13 @@ pub fn msssim<T: Sample>(
     shape: Shape,
     scratch: &mut Scratch,
 ) -> Result<[Pair; 5], Refusal> {
-    let (sums, room) = for_msssim(shape.width, shape.height);
+    let (sums, room) = (msssim_places(shape.width), msssim_samples(shape.width, shape.height));
     if !scratch.holds(sums, room) {
         check(a, b, shape, LEAST)?;
         scratch.grow(sums, room);
     }
     let mut pairs = [Pair::default(); 5];
-    lent::msssim(a, b, shape, &mut scratch.sums, &mut scratch.room_a, &mut scratch.room_b, &mut pairs)?;
+    no_alloc::msssim(a, b, shape, &mut scratch.sums, &mut scratch.room_a, &mut scratch.room_b, &mut pairs)?;
     Ok(pairs)
 }
 
@@ -120,7 +121,7 @@ pub fn msssim<T: Sample>(
 /// ```
 pub fn psnr_hvs<T: Sample>(a: Plane<'_, T>, b: Plane<'_, T>, shape: Shape, kind: PlaneKind) -> Result<f64, Refusal> {
     let mut score = 0.0;
-    lent::psnr_hvs(a, b, shape, kind, &mut score)?;
+    no_alloc::psnr_hvs(a, b, shape, kind, &mut score)?;
     Ok(score)
 }
 
@@ -134,7 +135,7 @@ pub fn psnr_hvs<T: Sample>(a: Plane<'_, T>, b: Plane<'_, T>, shape: Shape, kind:
 /// ```
 pub fn combine_ssim(c: f64, y: f64, u: f64, v: f64) -> Result<(f64, f64), Refusal> {
     let (mut sum, mut weight) = (0.0, 0.0);
-    lent::combine_ssim(c, y, u, v, &mut sum, &mut weight)?;
+    no_alloc::combine_ssim(c, y, u, v, &mut sum, &mut weight)?;
     Ok((sum, weight))
 }
 
@@ -145,7 +146,7 @@ pub fn combine_ssim(c: f64, y: f64, u: f64, v: f64) -> Result<(f64, f64), Refusa
 /// ```
 pub fn combine_hvs(c: f64, y: f64, u: f64, v: f64) -> Result<f64, Refusal> {
     let mut score = 0.0;
-    lent::combine_hvs(c, y, u, v, &mut score)?;
+    no_alloc::combine_hvs(c, y, u, v, &mut score)?;
     Ok(score)
 }
 
@@ -157,6 +158,15 @@ pub fn combine_hvs(c: f64, y: f64, u: f64, v: f64) -> Result<f64, Refusal> {
 /// ```
 pub fn root(x: f64) -> Result<f64, Refusal> {
     let mut out = 0.0;
-    lent::root(x, &mut out)?;
+    no_alloc::root(x, &mut out)?;
     Ok(out)
+}
+
+/// The version of the library that is linked: 10,000 × major + 100 × minor + patch.
+///
+/// ```
+/// assert!(fuavelino::version() >= 100, "older than 0.1.0");
+/// ```
+pub fn version() -> u32 {
+    exports::version()
 }

@@ -11,20 +11,6 @@ pub struct Scratch {
     pub(crate) room_b: Vec<u32>,
 }
 
-/// The most taps of a lawful kernel: one with more is refused whatever is lent.
-const MOST_TAPS: usize = 255;
-
-/// The places of `sums` that SSIM needs.
-pub(crate) fn for_ssim(width: usize, taps: usize) -> usize {
-    let lines = taps.min(MOST_TAPS).next_power_of_two();
-    width.saturating_mul(6 * lines)
-}
-
-/// The places of `sums` and of each room that MS-SSIM needs.
-pub(crate) fn for_msssim(width: usize, height: usize) -> (usize, usize) {
-    (width.saturating_mul(96), width.saturating_mul(height))
-}
-
 impl Scratch {
     /// None yet.
     pub fn new() -> Scratch {

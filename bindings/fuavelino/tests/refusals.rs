@@ -105,7 +105,7 @@ fn scratch_too_short_changes_nothing() {
     let a = plane(&bytes, 16);
     let taps = [64, 128, 64];
     let (mut sums, mut out) = (vec![5i64; 6 * 16 * 4 - 1], BEFORE);
-    assert_eq!(lent::ssim(a, a, SHAPE, &taps, &mut sums, &mut out), Err(Refusal::Scratch));
+    assert_eq!(no_alloc::ssim(a, a, SHAPE, &taps, &mut sums, &mut out), Err(Refusal::Scratch));
     assert_eq!((sums, out), (vec![5; 6 * 16 * 4 - 1], BEFORE));
     let needed = [96 * 16, 256, 256];
     for short in 0..3 {
@@ -113,7 +113,7 @@ fn scratch_too_short_changes_nothing() {
         lens[short] -= 1;
         let (mut sums, mut x, mut y) = (vec![5i64; lens[0]], vec![6u32; lens[1]], vec![7u32; lens[2]]);
         let mut out = [BEFORE; 5];
-        let said = lent::msssim(a, a, SHAPE, &mut sums, &mut x, &mut y, &mut out);
+        let said = no_alloc::msssim(a, a, SHAPE, &mut sums, &mut x, &mut y, &mut out);
         assert_eq!(said, Err(Refusal::Scratch));
         assert_eq!((sums, x, y), (vec![5; lens[0]], vec![6; lens[1]], vec![7; lens[2]]));
         assert_eq!(out, [BEFORE; 5]);
@@ -125,7 +125,7 @@ fn scratch_past_the_need_is_kept() {
     let bytes = [7u8; 256];
     let a = plane(&bytes, 16);
     let (mut sums, mut out) = (vec![5i64; 6 * 16 * 4 + 9], BEFORE);
-    lent::ssim(a, a, SHAPE, &[64, 128, 64], &mut sums, &mut out).unwrap();
+    no_alloc::ssim(a, a, SHAPE, &[64, 128, 64], &mut sums, &mut out).unwrap();
     assert!(sums[..6 * 16 * 4].iter().all(|s| *s == 0) && sums[6 * 16 * 4..] == [5; 9]);
     assert_ne!(out, BEFORE);
 }
@@ -149,7 +149,7 @@ fn series_of_records() {
         PsnrMetrics { sample_max: 1_023, ..RECORD },
     ]) {
         let mut total = RECORD;
-        assert_eq!(lent::series(&[RECORD, record], &mut total), Err(Refusal::Record));
+        assert_eq!(no_alloc::series(&[RECORD, record], &mut total), Err(Refusal::Record));
         assert_eq!(total, RECORD);
     }
 }
@@ -158,7 +158,7 @@ fn series_of_records() {
 fn values() {
     for x in [-0.0, -1.0, f64::NAN, f64::INFINITY] {
         let mut out = 3.0;
-        assert_eq!(lent::root(x, &mut out), Err(Refusal::Value));
+        assert_eq!(no_alloc::root(x, &mut out), Err(Refusal::Value));
         assert_eq!(out, 3.0);
         assert_eq!(root(x), Err(Refusal::Value));
     }
@@ -184,8 +184,8 @@ fn combining() {
     }
     let (mut sum, mut weight, mut score) = (3.0, 4.0, 5.0);
     let high = f64::MAX;
-    assert_eq!(lent::combine_ssim(1.0, high, high, 0.0, &mut sum, &mut weight), Err(Refusal::NotFinite));
-    assert_eq!(lent::combine_hvs(1.0, high, 0.0, 0.0, &mut score), Err(Refusal::NotFinite));
+    assert_eq!(no_alloc::combine_ssim(1.0, high, high, 0.0, &mut sum, &mut weight), Err(Refusal::NotFinite));
+    assert_eq!(no_alloc::combine_hvs(1.0, high, 0.0, 0.0, &mut score), Err(Refusal::NotFinite));
     assert_eq!((sum, weight, score), (3.0, 4.0, 5.0));
     assert_eq!(combine_ssim(-0.0, 1.0, 9.0, 9.0), Ok((1.0, 1.0)));
 }

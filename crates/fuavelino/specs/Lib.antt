@@ -1,6 +1,8 @@
-pub mod Planar
+pub mod Combine
+pub mod Hvs
+pub mod Msssim
+pub mod Places
+pub mod Psnr
 pub mod Root
-pub mod Scales
-pub mod Squared
 pub mod Ssim
-pub mod Visual
+pub mod Version

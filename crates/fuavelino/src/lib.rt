@@ -1,20 +1,38 @@
-// The face: what other languages link. Each call answers 0 where it accepts, or the number of its refusal, and writes its results to
-// places that the caller lends. Nothing is asked of the caller but that what it lends is there.
+// The face: what other languages link. A call answers 0 where it accepts, or the number of its refusal, and writes its results to
+// places that the caller lends; any numbers may be passed. What another language must see to, since no proof reaches it: pointers are
+// not null, aligned and have what their counts promise, and what is written overlaps nothing else (include/fuavelino.h).
 ghost use mathlib.Core.Path.{_≡_};
 ghost use mathlib.Core.Bool.{true, false};
 ghost use Rattle.number.specs.Root.{rootOf};
 ghost use Rattle.plane.specs.Plane.{called};
 ghost use Rattle.plane.specs.Tests.{pairRefusal};
 ghost use Rattle.fuavelino.specs.Root.{rootNumber, rootWritten};
+ghost use Rattle.fuavelino.specs.Version.{version};
 
-pub mod planar;
-pub mod scales;
-pub mod similarity;
-pub mod squared;
-pub mod transform;
-pub mod visual;
+pub mod combine_calls;
+pub mod dct_calls;
+pub mod hvs_calls;
+pub mod msssim_calls;
+pub mod places;
+pub mod psnr_calls;
+pub mod ssim_calls;
 
 use number::Rooted;
+
+// The version: 0.1.0.
+const MAJOR: u32 = 0;
+
+const MINOR: u32 = 1;
+
+const PATCH: u32 = 0;
+
+// The version as one number, so that a caller can compare it with the one that it was written for.
+#[no_mangle]
+pub extern "C" fn fuavelino_version() -> u32
+    ensures { λ r. ⌜ r ≡ version ⌝ }
+{
+    10000 * MAJOR + 100 * MINOR + PATCH
+}
 
 // The square root of x, written to `out`; 12 where x is not +0 or positive and finite, and `out` is as it was.
 #[no_mangle]

@@ -1,0 +1,132 @@
+//! Each export of the library as a safe function, with everything that it writes lent by the caller.
+//!
+//! A call that refuses leaves every lent place as it was, but that refusal 9 leaves scratch as acceptance does: the needed part 0, the
+//! rest unchanged. Nothing here allocates. The functions above this module are these with the places kept for you.
+//!
+//! ```
+//! use fuavelino::{no_alloc, Pair, Plane, Refusal, Shape};
+//!
+//! let plane = Plane { data: &[9u8; 12][..], stride: 4 };
+//! let shape = Shape { width: 4, height: 3, bit_depth: 8 };
+//! let mut pair = Pair::default();
+//! // six sums for each of 4 columns, in as many lines as the least power of two not below 3 taps
+//! assert_eq!(no_alloc::ssim_places(4, 3), 6 * 4 * 4);
+//! let mut scratch = [7i64; 6 * 4 * 4];
+//! let short = no_alloc::ssim(plane, plane, shape, &[64, 128, 64], &mut scratch[1..], &mut pair);
+//! assert_eq!((short, scratch), (Err(Refusal::Scratch), [7; 96]));
+//! no_alloc::ssim(plane, plane, shape, &[64, 128, 64], &mut scratch, &mut pair)?;
+//! assert_eq!((pair.cs, scratch), (1.0, [0; 96]));
+//! # Ok::<(), Refusal>(())
+//! ```
+
+use crate::exports;
+use crate::plane::{Pair, Plane, PlaneKind, PsnrMetrics, Sample, Shape};
+use crate::refusal::{outcome, Refusal};
+
+/// The square root of `x`, the double nearest the exact one. Refuses 12.
+#[inline]
+pub fn root(x: f64, out: &mut f64) -> Result<(), Refusal> {
+    outcome(exports::root(x, out))
+}
+
+/// Judges two planes by tests 1 to 6. `least` is the least side that is taken, 0 where any is.
+pub fn check<T: Sample>(a: Plane<'_, T>, b: Plane<'_, T>, shape: Shape, least: usize) -> Result<(), Refusal> {
+    outcome(T::check(a, b, shape, least))
+}
+
+/// The squared error of two planes. Refuses 1 2 4 5 6.
+pub fn squared_error<T: Sample>(
+    a: Plane<'_, T>,
+    b: Plane<'_, T>,
+    shape: Shape,
+    out: &mut PsnrMetrics,
+) -> Result<(), Refusal> {
+    outcome(T::squared_error(a, b, shape, out))
+}
+
+/// The total of a run of records. Refuses 10 11.
+#[inline]
+pub fn series(records: &[PsnrMetrics], out: &mut PsnrMetrics) -> Result<(), Refusal> {
+    outcome(exports::series(records, out))
+}
+
+/// The places of scratch that [`ssim`] needs: 6 × width × L, L the least power of two not below the count of taps. 0 where the width is not
+/// 1 to 8,192 or the count of taps not 1 to 255: such a call is refused by a lower number than 8, whatever is lent.
+#[inline]
+pub fn ssim_places(width: usize, taps: usize) -> usize {
+    exports::ssim_places(width, taps)
+}
+
+/// SSIM under a lent kernel. It needs [`ssim_places`] of scratch. Refuses 1 2 4 5 6 7 8 9.
+pub fn ssim<T: Sample>(
+    a: Plane<'_, T>,
+    b: Plane<'_, T>,
+    shape: Shape,
+    kernel: &[u16],
+    scratch: &mut [i64],
+    out: &mut Pair,
+) -> Result<(), Refusal> {
+    outcome(T::ssim(a, b, shape, kernel, scratch, out))
+}
+
+/// The places of scratch that [`msssim`] needs: 96 × width. 0 where the width is not 16 to 8,192: such a call is refused by a lower number
+/// than 8, whatever is lent.
+#[inline]
+pub fn msssim_places(width: usize) -> usize {
+    exports::msssim_places(width)
+}
+
+/// The places of room that [`msssim`] needs for each plane: width × height. 0 where a side is not 16 to 8,192, as above.
+#[inline]
+pub fn msssim_samples(width: usize, height: usize) -> usize {
+    exports::msssim_samples(width, height)
+}
+
+/// The five scales, the planes themselves first. It needs [`msssim_places`] of scratch, and [`msssim_samples`] of room for each plane.
+/// Refuses 1 2 3 4 5 6 8 9.
+pub fn msssim<T: Sample>(
+    a: Plane<'_, T>,
+    b: Plane<'_, T>,
+    shape: Shape,
+    scratch: &mut [i64],
+    room_a: &mut [u32],
+    room_b: &mut [u32],
+    out: &mut [Pair; 5],
+) -> Result<(), Refusal> {
+    outcome(T::msssim(a, b, shape, scratch, room_a, room_b, out))
+}
+
+/// PSNR-HVS. Refuses 1 2 3 4 5 6 9.
+pub fn psnr_hvs<T: Sample>(
+    a: Plane<'_, T>,
+    b: Plane<'_, T>,
+    shape: Shape,
+    kind: PlaneKind,
+    out: &mut f64,
+) -> Result<(), Refusal> {
+    outcome(T::psnr_hvs(a, b, shape, kind, out))
+}
+
+/// SSIM of three planes with chroma weight `c`: y + c × (u + v), and 1 + 2c. Refuses 13, then 9.
+#[inline]
+pub fn combine_ssim(c: f64, y: f64, u: f64, v: f64, sum: &mut f64, weight: &mut f64) -> Result<(), Refusal> {
+    outcome(exports::combine_ssim(c, y, u, v, sum, weight))
+}
+
+/// PSNR-HVS of three planes with chroma weight `c`: (1 + 2c) × (y + c × (u + v)). Refuses 13, then 9.
+#[inline]
+pub fn combine_hvs(c: f64, y: f64, u: f64, v: f64, score: &mut f64) -> Result<(), Refusal> {
+    outcome(exports::combine_hvs(c, y, u, v, score))
+}
+
+/// The transform of a block of 64 numbers from −4,095 to 4,095 into 64 places. Refuses 12.
+#[inline]
+pub fn forward(block: &[i32], out: &mut [i32]) -> Result<(), Refusal> {
+    outcome(exports::forward(block, out))
+}
+
+/// The one block whose transform is these 64 coefficients, each from −1,048,575 to 1,048,575. Refuses 12.
+#[inline]
+pub fn inverse(coefs: &[i32], out: &mut [i32]) -> Result<(), Refusal> {
+    outcome(exports::inverse(coefs, out))
+}
