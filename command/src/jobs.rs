@@ -77,20 +77,10 @@ fn spread<T: Stored>(
 ) -> Result<(), Stop> {
     let format = sources[0].format;
     let (lend, lent) = channel();
-    let (ask, asked) = channel();
     let (hand, outcomes) = channel();
-    let asked = Arc::new(Mutex::new(asked));
-    for number in 0..jobs {
-        let (asked, hand, scorer) = (asked.clone(), hand.clone(), Scorer::new(&format, metrics));
-        match started(move || score(&asked, &hand, scorer)) {
-            // fewer threads give the same report
-            Err(error) if number == 0 => return Err(no_thread(&error)),
-            Err(_) => break,
-            Ok(()) => (0..PAIRS).for_each(|_| drop(lend.send(pair::<T>(&format)))),
-        }
-    }
-    started(move || read(sources, &lent, &ask, &hand)).map_err(|error| no_thread(&error))?;
-    drop(asked);
+    (0..PAIRS * jobs).for_each(|_| drop(lend.send(pair::<T>(&format))));
+    let crew = Crew::new(format, metrics, jobs, hand);
+    started(move || crew.read(sources, &lent)).map_err(|error| no_thread(&error))?;
     gather(&outcomes, &lend, tell)
 }
 
@@ -103,25 +93,64 @@ fn started(work: impl FnOnce() + Send + 'static) -> io::Result<()> {
     thread::Builder::new().spawn(work).map(drop)
 }
 
-fn no_thread(error: &io::Error) -> Stop {
-    Fault::new(format!("cannot start a thread: {} (--jobs 1 needs none)", error)).into()
+fn no_thread(error: &io::Error) -> Fault {
+    Fault::new(format!("cannot start a thread: {} (--jobs 1 needs none)", error))
 }
 
-/// The reader: fills each pair that it is lent, and ends with what ended the files.
-fn read<T: Stored>(
-    mut sources: [Source; 2],
-    lent: &Receiver<Pair<T>>,
-    ask: &Sender<Numbered<Pair<T>>>,
-    hand: &Sender<Numbered<Outcome<T>>>,
-) {
-    for (number, mut pair) in (0..).zip(lent.iter()) {
-        let ended = match both(&mut sources, &mut pair) {
-            Ok(true) if ask.send((number, pair)).is_ok() => continue,
-            Ok(_) => Ok(()),
-            Err(fault) => Err(fault),
-        };
-        let _ = hand.send((number, Outcome::Ended(ended)));
-        break;
+/// The reader, and what it knows of the threads that score. Each of those starts when the next frame is there for it, so that
+/// a short clip needs few.
+struct Crew<T> {
+    format: Format,
+    metrics: Metrics,
+    started: usize,
+    most: usize,
+    ask: Sender<Numbered<Pair<T>>>,
+    asked: Arc<Mutex<Receiver<Numbered<Pair<T>>>>>,
+    hand: Sender<Numbered<Outcome<T>>>,
+}
+
+impl<T: Stored> Crew<T> {
+    fn new(format: Format, metrics: Metrics, most: usize, hand: Sender<Numbered<Outcome<T>>>) -> Crew<T> {
+        let (ask, asked) = channel();
+        Crew { format, metrics, started: 0, most, ask, asked: Arc::new(Mutex::new(asked)), hand }
+    }
+
+    /// Fills each pair that is lent, and ends with what ended the files.
+    fn read(mut self, mut sources: [Source; 2], lent: &Receiver<Pair<T>>) {
+        for (number, pair) in (0..).zip(lent.iter()) {
+            let ended = match self.next(&mut sources, number, pair) {
+                Ok(true) => continue,
+                Ok(false) => Ok(()),
+                Err(fault) => Err(fault),
+            };
+            let _ = self.hand.send((number, Outcome::Ended(ended)));
+            break;
+        }
+    }
+
+    /// Reads a frame of each file and asks for its scores; there may be none.
+    fn next(&mut self, sources: &mut [Source; 2], number: u64, mut pair: Pair<T>) -> Result<bool, Fault> {
+        let more = both(sources, &mut pair)?;
+        if more {
+            self.grow()?;
+            let _ = self.ask.send((number, pair));
+        }
+        Ok(more)
+    }
+
+    /// One thread more, until there are enough. Where no more can be had, fewer give the same report.
+    fn grow(&mut self) -> Result<(), Fault> {
+        if self.started == self.most {
+            return Ok(());
+        }
+        let (asked, hand) = (self.asked.clone(), self.hand.clone());
+        let scorer = Scorer::new(&self.format, self.metrics);
+        match started(move || score(&asked, &hand, scorer)) {
+            Ok(()) => self.started += 1,
+            Err(error) if self.started == 0 => return Err(no_thread(&error)),
+            Err(_) => self.most = self.started,
+        }
+        Ok(())
     }
 }
 

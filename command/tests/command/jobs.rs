@@ -129,6 +129,17 @@ fn memory_is_bounded_by_the_jobs() {
     assert_eq!(ended.passes().lines().filter(|line| line.starts_with("frame,")).count(), 2 * count);
 }
 
+/// Each of 1,024 threads has a stack, for which there is no room.
+#[test]
+fn a_short_clip_needs_few_threads() {
+    let room = Room::new("jobs-few");
+    let original = Video::new(16, 16, 8, "444", 3, 106);
+    let (a, b) = (room.file("a.y4m", &original.y4m()), room.file("b.y4m", &original.noisy(107).y4m()));
+    let script = "export MALLOC_ARENA_MAX=1; ulimit -v 50000; exec \"$0\" compare \"$@\" --csv --jobs=1024";
+    let ended = run_in(script, &[&a, &b]);
+    assert_eq!(ended.passes(), run(&words!["compare", &a, &b, "--csv", "--jobs=1"]).passes());
+}
+
 /// A fault is told at once, though the pipe has no more frames and no end.
 #[test]
 fn a_fault_does_not_wait_for_a_pipe() {
