@@ -25,6 +25,9 @@ fuavelino: compares a decoded video with its original, and passes only what is s
       --strict           what is noted of the files is a fault: that they are one, or that rate, interlacing or colour range differ
       --require-threshold
                          wrong use without a threshold
+    With --pairs LIST in the place of the two files, each pair of a list: lines of two names with a TAB between them.
+      The status is the worst. --output names a folder, of fuavelino-summary.json and fuavelino-0001.json on (.csv, .txt);
+      without it the summary goes to standard output.
     Thresholds, each held for every plane of every frame and for every frame's combination; with y=X, u=X, v=X or combined=X
     for X, for that plane alone (once for each plane, and once without):
       --max-error X      squared error per sample, at most X
@@ -50,6 +53,15 @@ Status: 0 every asked score was given and every threshold met; 1 a threshold is 
 short or unlike file, no frames, or a report that could not be written.
 ";
 
+/// Where a report goes.
+#[derive(Clone)]
+pub enum To {
+    Standard,
+    File(PathBuf),
+    /// Nobody wants it.
+    Nowhere,
+}
+
 #[derive(Clone, Copy, PartialEq, Eq)]
 pub enum Form {
     Table,
@@ -57,6 +69,7 @@ pub enum Form {
     Csv,
 }
 
+#[derive(Clone)]
 pub struct Compare {
     pub original: PathBuf,
     pub decoded: PathBuf,
@@ -66,7 +79,7 @@ pub struct Compare {
     pub jobs: usize,
     pub thresholds: Vec<Threshold>,
     pub form: Form,
-    pub output: Option<PathBuf>,
+    pub output: To,
     /// How many frames there must be.
     pub frames: Option<u64>,
     /// Whether what is noted of the files is a fault.
@@ -75,10 +88,17 @@ pub struct Compare {
     pub quiet: bool,
 }
 
+/// A list of pairs, and how each is compared. What the report's file would be is their folder.
+pub struct Pairs {
+    pub list: PathBuf,
+    pub each: Compare,
+}
+
 pub enum Asked {
     Help,
     Version,
     Compare(Box<Compare>),
+    Pairs(Box<Pairs>),
     Clip(Clip),
 }
 
@@ -120,6 +140,7 @@ const COMPARE: &[Known] = &[
     ("--metrics", true),
     ("--jobs", true),
     ("--output", true),
+    ("--pairs", true),
     ("--frames", true),
     ("--require-threshold", false),
     ("--strict", false),
@@ -234,9 +255,12 @@ fn compare(words: Words) -> Result<Asked, Stop> {
     if words.wants_help()? {
         return Ok(Asked::Help);
     }
-    let [original, decoded] = match &words.others[..] {
-        [original, decoded] => [PathBuf::from(original), PathBuf::from(decoded)],
-        _ => return Err(usage("compare takes two files: ORIGINAL DECODED")),
+    let list = words.get("--pairs").map(PathBuf::from);
+    let [original, decoded] = match (&words.others[..], &list) {
+        ([original, decoded], None) => [PathBuf::from(original), PathBuf::from(decoded)],
+        ([], Some(_)) => [PathBuf::new(), PathBuf::new()],
+        (_, None) => return Err(usage("compare takes two files: ORIGINAL DECODED")),
+        (_, Some(_)) => return Err(usage("--pairs takes a LIST in the place of the two files")),
     };
     if original.as_os_str() == "-" && decoded.as_os_str() == "-" {
         return Err(usage("only one of the two can be standard input"));
@@ -257,8 +281,11 @@ fn compare(words: Words) -> Result<Asked, Stop> {
     let jobs = words.jobs()?;
     let count = |text: &str| decimal(text.as_bytes()).filter(|count| *count > 0).map(|count| count as u64);
     let frames = words.value("--frames", "a number of frames, at least 1", count)?;
-    let output = words.get("--output").filter(|path| *path != "-").map(PathBuf::from);
-    Ok(Asked::Compare(Box::new(Compare {
+    let output = match words.get("--output") {
+        Some(path) if path != "-" => To::File(PathBuf::from(path)),
+        _ => To::Standard,
+    };
+    let each = Compare {
         original,
         decoded,
         raw: raw(&words)?,
@@ -270,7 +297,11 @@ fn compare(words: Words) -> Result<Asked, Stop> {
         frames,
         strict: words.has("--strict"),
         quiet: words.has("--quiet"),
-    })))
+    };
+    Ok(match list {
+        Some(list) => Asked::Pairs(Box::new(Pairs { list, each })),
+        None => Asked::Compare(Box::new(each)),
+    })
 }
 
 /// All three make both files raw; one without the others is no format.

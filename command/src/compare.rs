@@ -1,6 +1,6 @@
 //! `fuavelino compare`: reads both files frame by frame, scores, reports, and judges.
 
-use crate::args::{Compare, Form};
+use crate::args::{Compare, Form, To};
 use crate::csv::Csv;
 use crate::format::Format;
 use crate::frames::Source;
@@ -20,13 +20,28 @@ use crate::thresholds::{self, Broken};
 use crate::totals::Run;
 use std::fs;
 use std::io::{self, Write};
-use std::path::Path;
+
+/// How a comparison ended that was reported.
+pub struct Ended {
+    pub status: u8,
+    pub frames: u64,
+    /// How many times a threshold was broken.
+    pub broken: u64,
+    pub fault: Option<Fault>,
+    /// The run's figures, where every frame had its scores.
+    pub run: Option<FrameScores>,
+}
 
 /// Compares, and gives the status that the command ends with.
 pub fn compare(asked: &Compare) -> Result<u8, Stop> {
+    Ok(one(asked)?.status)
+}
+
+/// Compares two files.
+pub fn one(asked: &Compare) -> Result<Ended, Stop> {
     let mut out = output(asked)?;
     let mut report = report(asked.form);
-    let rows_are_seen = asked.output.is_none() && is_terminal(STANDARD_OUTPUT);
+    let rows_are_seen = matches!(asked.output, To::Standard) && is_terminal(STANDARD_OUTPUT);
     let mut walk = Walk {
         asked,
         report: &mut *report,
@@ -39,9 +54,9 @@ pub fn compare(asked: &Compare) -> Result<u8, Stop> {
         broken: 0,
     };
     let walked = walk.whole();
-    let status = walk.end(walked)?;
+    let ended = walk.end(walked)?;
     out.close()?;
-    Ok(status)
+    Ok(ended)
 }
 
 fn report(form: Form) -> Box<dyn Report> {
@@ -64,7 +79,7 @@ fn begin(
 }
 
 /// What stands in the report's file until the run has ended: a whole report of a run that did not pass.
-fn unfinished(asked: &Compare) -> io::Result<Vec<u8>> {
+pub fn unfinished(asked: &Compare) -> io::Result<Vec<u8>> {
     let mut text = Vec::new();
     let mut report = report(asked.form);
     begin(&mut *report, &mut text, asked, (None, &[]))?;
@@ -113,9 +128,10 @@ fn alike(a: &Source, b: &Source) -> Result<(), Fault> {
 /// Makes the report's file, but never over a file that is to be read.
 fn output(asked: &Compare) -> Result<Output, Stop> {
     let path = match &asked.output {
-        Some(path) => path,
-        None if asked.quiet && asked.form == Form::Table => return Output::create(Path::new("/dev/null")),
-        None => return Output::standard(),
+        To::File(path) => path,
+        To::Standard if asked.quiet && asked.form == Form::Table => return Ok(Output::nowhere()),
+        To::Standard => return Output::standard(),
+        To::Nowhere => return Ok(Output::nowhere()),
     };
     let target = fs::metadata(path).ok().filter(|target| target.is_file()).and_then(|_| identity(path));
     if target.is_some() && [&asked.original, &asked.decoded].iter().any(|input| identity(input) == target) {
@@ -157,7 +173,7 @@ impl Walk<'_> {
     }
 
     /// Closes the report, whatever ended the walk, unless it could not be written.
-    fn end(&mut self, walked: Result<FrameScores, Stop>) -> Result<u8, Stop> {
+    fn end(&mut self, walked: Result<FrameScores, Stop>) -> Result<Ended, Stop> {
         let (run, fault) = match walked {
             Ok(run) => (Some(run), None),
             Err(Stop::Fault(fault)) => (None, Some(fault)),
@@ -177,12 +193,13 @@ impl Walk<'_> {
             say(&fault.message);
         }
         let (frames, worst, broken) = (self.frames, &self.worst, self.broken);
-        let (run, run_broken, fault) = (run.as_ref(), &run_broken[..], fault.as_ref());
-        let summary = run.map(|_| &self.summary);
-        let end = End { frames, run, run_broken, summary, worst, broken, fault, status };
+        let run_broken = &run_broken[..];
+        let summary = run.as_ref().map(|_| &self.summary);
+        let (told, failed) = (run.as_ref(), fault.as_ref());
+        let end = End { frames, run: told, run_broken, summary, worst, broken, fault: failed, status };
         let report = &mut self.report;
         self.out.write(|to| report.end(to, &end))?;
-        Ok(status)
+        Ok(Ended { status, frames, broken, fault, run })
     }
 
     fn walk<T: Stored>(&mut self, sources: [Source; 2]) -> Result<FrameScores, Stop> {

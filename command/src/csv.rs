@@ -49,7 +49,8 @@ fn row(out: &mut dyn Write, start: &str, plane: &str, values: &[Value]) -> io::R
     writeln!(out, "{},{},{}", start, plane, cells.join(","))
 }
 
-fn shown(value: &Value) -> String {
+/// A figure as a cell.
+pub fn shown(value: &Value) -> String {
     match value {
         // the shortest decimal that reads back to the same bits
         Value::Double(value) => format!("{:?}", value),

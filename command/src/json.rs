@@ -3,9 +3,9 @@
 use crate::format::{Format, COMBINED};
 use crate::report::{metric_of, values, End, Job, Place, Report, Value, FIELDS};
 use crate::score::{FrameScores, Metrics, Scores};
-use crate::stop::PASSED;
+use crate::stop::{Fault, PASSED};
 use crate::summary::{Statistic, Summary, STATISTICS};
-use crate::thresholds::Broken;
+use crate::thresholds::{Broken, Threshold};
 use crate::writer::{self, Writer};
 use std::io::{self, Write};
 
@@ -23,16 +23,8 @@ impl Report for Json {
         json.field("fuavelino", env!("CARGO_PKG_VERSION"));
         json.field("original", job.original).field("decoded", job.decoded);
         format(json.name("format"), job.format);
-        json.name("metrics").list();
-        for (name, _) in Metrics::NAMES.iter().zip(self.asked).filter(|named| named.1) {
-            json.value(*name);
-        }
-        json.close().name("thresholds").list();
-        for threshold in job.thresholds {
-            json.object().field("option", threshold.option()).field("plane", threshold.plane);
-            json.field("limit", threshold.limit).close();
-        }
-        json.close().name("notes").list();
+        asked(json, &job.metrics, job.thresholds);
+        json.name("notes").list();
         for note in job.notes {
             json.value(&note[..]);
         }
@@ -63,16 +55,8 @@ impl Report for Json {
         let json = &mut self.json;
         json.name("worst").list();
         end.worst.places().flatten().for_each(|place| worst(json, place));
-        json.close().field("broken", end.broken).name("error");
-        match end.fault {
-            Some(fault) => {
-                let refusal = fault.refusal.map(|refusal| u64::from(refusal.number()));
-                json.object().field("message", &fault.message[..]).field("refusal", refusal).close();
-            }
-            None => {
-                json.null();
-            }
-        }
+        json.close().field("broken", end.broken);
+        error(json, end.fault);
         json.field("status", u64::from(end.status)).field("passed", end.status == PASSED).close();
         self.out(out)?;
         writeln!(out)
@@ -90,22 +74,50 @@ impl Json {
         self.json.name("planes").list();
         for (plane, scores) in scores.named().take(scores.planes.len()) {
             self.json.object().field("plane", plane);
-            self.figures(scores);
+            figures(&mut self.json, &self.asked, scores);
             self.json.close();
         }
         self.json.close().name("combined").object();
-        self.figures(&scores.combined);
+        figures(&mut self.json, &self.asked, &scores.combined);
         self.json.close().name("broken").list();
         broken.iter().for_each(|one| breach(&mut self.json, one));
         self.json.close();
     }
+}
 
-    /// Each asked figure.
-    fn figures(&mut self, scores: &Scores) {
-        for (number, value) in values(scores).iter().enumerate() {
-            if self.asked[metric_of(number)] {
-                self.json.field(FIELDS[number], value);
-            }
+/// What was asked: scores and thresholds.
+pub fn asked(json: &mut Writer, metrics: &Metrics, thresholds: &[Threshold]) {
+    json.name("metrics").list();
+    for (name, _) in Metrics::NAMES.iter().zip(metrics.asked()).filter(|named| named.1) {
+        json.value(*name);
+    }
+    json.close().name("thresholds").list();
+    for threshold in thresholds {
+        json.object().field("option", threshold.option()).field("plane", threshold.plane);
+        json.field("limit", threshold.limit).close();
+    }
+    json.close();
+}
+
+/// Each asked figure.
+pub fn figures(json: &mut Writer, asked: &[bool], scores: &Scores) {
+    for (number, value) in values(scores).iter().enumerate() {
+        if asked[metric_of(number)] {
+            json.field(FIELDS[number], value);
+        }
+    }
+}
+
+/// What went wrong, if anything did.
+pub fn error(json: &mut Writer, fault: Option<&Fault>) {
+    json.name("error");
+    match fault {
+        Some(fault) => {
+            let refusal = fault.refusal.map(|refusal| u64::from(refusal.number()));
+            json.object().field("message", &fault.message[..]).field("refusal", refusal).close();
+        }
+        None => {
+            json.null();
         }
     }
 }

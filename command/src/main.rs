@@ -12,9 +12,12 @@ mod frames;
 mod input;
 mod jobs;
 mod json;
+mod list;
 mod messages;
 mod notes;
 mod output;
+mod overview;
+mod pairs;
 mod part;
 mod progress;
 mod report;
@@ -45,6 +48,7 @@ fn done() -> Result<u8, Stop> {
         Asked::Help => Output::standard()?.write(|to| to.write_all(args::HELP.as_bytes()))?,
         Asked::Version => Output::standard()?.write(|to| writeln!(to, "fuavelino {}", env!("CARGO_PKG_VERSION")))?,
         Asked::Compare(asked) => return compare::compare(&asked),
+        Asked::Pairs(asked) => return pairs::pairs(&asked),
         Asked::Clip(clip) => clip::write(&clip)?,
     }
     Ok(PASSED)

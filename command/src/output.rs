@@ -5,6 +5,7 @@ use crate::part::{synced, Part};
 use crate::stop::Stop;
 use std::fs::{self, File};
 use std::io::{self, BufWriter, Seek, Write};
+use std::mem;
 use std::path::Path;
 
 /// Standard output, as messages name it.
@@ -12,7 +13,8 @@ const STANDARD: &str = "standard output";
 
 pub struct Output {
     name: String,
-    to: BufWriter<File>,
+    /// Where it is written to, unless nobody wants it.
+    to: Option<BufWriter<File>>,
     /// The file that takes the report's place when it is closed, where the report is written beside it.
     part: Option<Part>,
     /// A first version stands in the file itself, and what is written now goes over it.
@@ -24,6 +26,11 @@ impl Output {
     pub fn standard() -> Result<Output, Stop> {
         let unwritten = |error| Stop::unwritten(STANDARD, &error);
         Ok(Output::of(STANDARD.to_string(), crate::descriptor::standard_output().map_err(unwritten)?))
+    }
+
+    /// For a report that was not asked for.
+    pub fn nowhere() -> Output {
+        Output { name: String::new(), to: None, part: None, over: false }
     }
 
     pub fn create(path: &Path) -> Result<Output, Stop> {
@@ -53,38 +60,45 @@ impl Output {
     fn over(path: &Path, first: &[u8]) -> Result<Output, Stop> {
         let mut output = Output::create(path)?;
         output.write(|to| to.write_all(first))?;
-        synced(output.to.get_ref()).map_err(|error| Stop::unwritten(&output.name, &error))?;
+        output.synced().map_err(|error| Stop::unwritten(&output.name, &error))?;
         output.over = true;
         Ok(output)
     }
 
     fn of(name: String, file: File) -> Output {
-        Output { name, to: BufWriter::new(file), part: None, over: false }
+        Output { to: Some(BufWriter::new(file)), name, ..Output::nowhere() }
     }
 
     /// Writes something, and lets it out at once.
     pub fn write(&mut self, what: impl FnOnce(&mut dyn Write) -> io::Result<()>) -> Result<(), Stop> {
-        let cleared = self.clear();
-        let written = cleared.and_then(|()| what(&mut self.to)).and_then(|()| self.to.flush());
+        let over = mem::take(&mut self.over);
+        let written = match &mut self.to {
+            Some(to) => cleared(to, over).and_then(|()| what(to)).and_then(|()| to.flush()),
+            None => Ok(()),
+        };
         written.map_err(|error| Stop::unwritten(&self.name, &error))
-    }
-
-    /// Takes the first version out of the file, once.
-    fn clear(&mut self) -> io::Result<()> {
-        if self.over {
-            self.over = false;
-            let file = self.to.get_mut();
-            file.set_len(0)?;
-            file.rewind()?;
-        }
-        Ok(())
     }
 
     /// A file is only well written once its disk has it, in its place.
     pub fn close(mut self) -> Result<(), Stop> {
         let part = self.part.take();
-        let closed = self.to.flush().and_then(|()| synced(self.to.get_ref()));
-        let placed = closed.and_then(|()| part.map_or(Ok(()), Part::place));
+        let placed = self.synced().and_then(|()| part.map_or(Ok(()), Part::place));
         placed.map_err(|error| Stop::unwritten(&self.name, &error))
     }
+
+    fn synced(&mut self) -> io::Result<()> {
+        match &self.to {
+            Some(to) => synced(to.get_ref()),
+            None => Ok(()),
+        }
+    }
+}
+
+/// Takes the first version out of the file, where it is to be written over.
+fn cleared(to: &mut BufWriter<File>, over: bool) -> io::Result<()> {
+    if over {
+        to.get_mut().set_len(0)?;
+        to.get_mut().rewind()?;
+    }
+    Ok(())
 }

@@ -2,6 +2,7 @@
 
 use std::io::{self, Write};
 use std::os::raw::c_int;
+use std::sync::Mutex;
 use std::time::{Duration, Instant};
 
 /// Shorter runs show nothing.
@@ -49,9 +50,20 @@ impl Progress {
     }
 }
 
+/// What messages are about, where several comparisons are made.
+static LABEL: Mutex<String> = Mutex::new(String::new());
+
+/// Begins each message from now on with this.
+pub fn label(text: &str) {
+    if let Ok(mut label) = LABEL.lock() {
+        *label = text.to_string();
+    }
+}
+
 /// A message on standard error. Where that cannot be written the status still tells.
 pub fn say(message: &str) {
-    say_raw(&format!("fuavelino: {}\n", message));
+    let label = LABEL.lock().map_or(String::new(), |label| label.clone());
+    say_raw(&format!("fuavelino: {}{}\n", label, message));
 }
 
 fn say_raw(text: &str) {

@@ -41,6 +41,11 @@ fn every_field_is_documented() {
     }
     let json = run(&words!["compare", &a, &b, "--json", "--max-error=0"]);
     names(&Json::read(&json.out));
+    let list = [&a, &b, &a, &a].map(|name| name.to_str().unwrap());
+    let list = room.file("list", format!("{}\t{}\n{}\t{}x\n", list[0], list[1], list[2], list[3]).as_bytes());
+    names(&Json::read(&run(&words!["compare", "--pairs", &list, "--json", "--max-error=0"]).out));
+    let csv = run(&words!["compare", "--pairs", &list, "--csv"]);
+    csv.out.lines().next().unwrap().split(',').take(9).for_each(named);
 }
 
 fn names(json: &Json) {

@@ -9,6 +9,7 @@ mod jobs;
 mod json;
 mod limits;
 mod messages;
+mod pairs;
 mod published;
 mod reports;
 mod run;
