@@ -25,9 +25,8 @@ fuavelino: compares a decoded video with its original, and passes only what is s
       --strict           what is noted of the files is a fault: that they are one, or that rate, interlacing or colour range differ
       --require-threshold
                          wrong use without a threshold
-    With --pairs LIST in the place of the two files, each pair of a list: lines of two names with a TAB between them.
-      The status is the worst. --output names a folder, of fuavelino-summary.json and fuavelino-0001.json on (.csv, .txt);
-      without it the summary goes to standard output.
+      --pairs LISTFILE   in the place of the two files: each pair of a list, whose lines are two names with a TAB between
+                         them; the status is the worst, and --output names a folder for a summary and each pair's report
     Thresholds, each held for every plane of every frame and for every frame's combination; with y=X, u=X, v=X or combined=X
     for X, for that plane alone (once for each plane, and once without):
       --max-error X      squared error per sample, at most X
@@ -260,7 +259,7 @@ fn compare(words: Words) -> Result<Asked, Stop> {
         ([original, decoded], None) => [PathBuf::from(original), PathBuf::from(decoded)],
         ([], Some(_)) => [PathBuf::new(), PathBuf::new()],
         (_, None) => return Err(usage("compare takes two files: ORIGINAL DECODED")),
-        (_, Some(_)) => return Err(usage("--pairs takes a LIST in the place of the two files")),
+        (_, Some(_)) => return Err(usage("--pairs takes a list in the place of the two files")),
     };
     if original.as_os_str() == "-" && decoded.as_os_str() == "-" {
         return Err(usage("only one of the two can be standard input"));
