@@ -22,6 +22,9 @@ pub const MOST: usize = 1_024;
 /// The pairs of frames that each job may hold: one that it scores, one that waits.
 const PAIRS: usize = 2;
 
+/// A thread's stack. The scores were seen to do with a sixteenth of it: frames and scratch stand elsewhere.
+const STACK: usize = 1 << 20;
+
 /// As many jobs as there are cores.
 pub fn cores() -> usize {
     thread::available_parallelism().map_or(1, NonZeroUsize::get).min(MOST)
@@ -90,7 +93,7 @@ fn pair<T>(format: &Format) -> Pair<T> {
 
 /// Threads are not waited for: each ends when what it waits for is gone, and a reader may wait for a pipe without end.
 fn started(work: impl FnOnce() + Send + 'static) -> io::Result<()> {
-    thread::Builder::new().spawn(work).map(drop)
+    thread::Builder::new().stack_size(STACK).spawn(work).map(drop)
 }
 
 fn no_thread(error: &io::Error) -> Fault {
