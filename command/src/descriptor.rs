@@ -25,9 +25,9 @@ extern "C" fn look() {
     CLOSED.store(flags == -1, Ordering::Relaxed);
 }
 
-/// What the system runs before `main`. Where it has no such list nothing is looked at, and a closed descriptor is not told.
+/// One of the functions that are run before `main`: systems with ELF files find them in this section, Apple's in another.
 #[used]
-#[cfg_attr(any(target_os = "linux", target_os = "android", target_os = "freebsd"), link_section = ".init_array")]
+#[cfg_attr(not(any(target_os = "macos", target_os = "ios")), link_section = ".init_array")]
 #[cfg_attr(any(target_os = "macos", target_os = "ios"), link_section = "__DATA,__mod_init_func")]
 static LOOK: extern "C" fn() = look;
 

@@ -119,15 +119,11 @@ impl Overview for Csv {
     fn pair(&mut self, out: &mut dyn Write, row: &Row<'_>) -> io::Result<()> {
         let Ended { status, frames, broken, fault, run } = row.ended;
         let message = fault.as_ref().map_or("", |fault| &fault.message);
-        write!(out, "pair,{},{},{},{}", row.number, status, frames, broken)?;
-        for text in [row.original, row.decoded, row.report.unwrap_or_default(), message] {
-            write!(out, ",{}", quoted(text))?;
-        }
+        let texts = [row.original, row.decoded, row.report.unwrap_or_default(), message].map(quoted);
         let combined = run.as_ref().map_or(Scores::default(), |run| run.combined);
-        for value in values(&combined) {
-            write!(out, ",{}", csv::shown(&value))?;
-        }
-        writeln!(out)
+        let figures: Vec<String> = values(&combined).iter().map(csv::shown).collect();
+        write!(out, "pair,{},{},{},{}", row.number, status, frames, broken)?;
+        writeln!(out, ",{},{}", texts.join(","), figures.join(","))
     }
 
     fn end(&mut self, out: &mut dyn Write, total: &Total<'_>) -> io::Result<()> {

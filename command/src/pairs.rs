@@ -127,25 +127,25 @@ fn first(asked: &Pairs) -> io::Result<Vec<u8>> {
 /// Sees to it that no report of an earlier run stands for a pair of this one: each pair's says that it did not pass until
 /// it is whole, and those of more pairs than there are now are taken away.
 fn prepare(folder: &Path, form: Form, jobs: &[Compare]) -> Result<(), Stop> {
-    let compared: HashSet<(u64, u64)> =
-        jobs.iter().flat_map(|job| [identity(&job.original), identity(&job.decoded)]).flatten().collect();
     let earlier = earlier(folder, form).map_err(|error| Stop::unwritten(&shown(folder), &error))?;
-    for (_, path) in &earlier {
-        if identity(path).map_or(false, |known| compared.contains(&known)) {
-            let message = format!("{} is to be compared, and has the name of a report", shown(path));
-            return Err(Fault::new(message).into());
-        }
+    let inputs = jobs.iter().flat_map(|job| [identity(&job.original), identity(&job.decoded)]);
+    let inputs: HashSet<(u64, u64)> = inputs.flatten().collect();
+    let compared = |path: &Path| identity(path).map_or(false, |known| inputs.contains(&known));
+    if let Some((_, path)) = earlier.iter().find(|report| compared(&report.1)) {
+        return Err(Fault::new(format!("{} is to be compared, and has the name of a report", shown(path))).into());
     }
     for (_, path) in earlier.iter().filter(|report| report.0 > jobs.len()) {
         fs::remove_file(path).map_err(|error| Stop::unwritten(&shown(path), &error))?;
     }
-    for job in jobs {
-        if let (To::File(path), Ok(first)) = (&job.output, unfinished(job)) {
-            // what cannot be written now is told when the pair's turn comes
-            drop(Output::replace(path, &first));
-        }
-    }
+    jobs.iter().for_each(put_unfinished);
     Ok(())
+}
+
+fn put_unfinished(job: &Compare) {
+    if let (To::File(path), Ok(first)) = (&job.output, unfinished(job)) {
+        // what cannot be written now is told when the pair's turn comes
+        drop(Output::replace(path, &first));
+    }
 }
 
 /// The reports of pairs that stand in a folder, with their numbers.

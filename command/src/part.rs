@@ -87,3 +87,44 @@ pub fn synced(file: &File) -> io::Result<()> {
         synced => synced,
     }
 }
+
+#[cfg(test)]
+mod tests {
+    use super::*;
+
+    /// A folder of a test's own.
+    fn room(name: &str) -> PathBuf {
+        let room = std::env::temp_dir().join(format!("fuavelino-{}-{}", name, process::id()));
+        fs::create_dir_all(&room).unwrap();
+        room
+    }
+
+    #[test]
+    fn what_a_killed_run_left_is_not_touched() {
+        let room = room("left");
+        let place = room.join("report");
+        fs::write(&place, "old").unwrap();
+        fs::write(named(&place, 0), "left").unwrap();
+        let part = Part::beside(&place).unwrap();
+        assert_eq!(part.at, Some(named(&place, 1)));
+        drop(part);
+        assert!(!named(&place, 1).exists());
+        assert_eq!(fs::read_to_string(&place).unwrap(), "old");
+        Part::beside(&place).unwrap().write(b"new").unwrap();
+        assert_eq!(fs::read_to_string(&place).unwrap(), "new");
+        assert_eq!(fs::read_to_string(named(&place, 0)).unwrap(), "left");
+        fs::remove_dir_all(&room).unwrap();
+    }
+
+    #[test]
+    fn a_place_that_cannot_be_taken_is_an_error() {
+        let room = room("taken");
+        assert!(Part::beside(&room.join("no/such/folder")).is_err());
+        let place = room.join("folder");
+        fs::create_dir_all(&place).unwrap();
+        assert!(Part::beside(&place).unwrap().write(b"new").is_err());
+        // and nothing is left beside it
+        assert_eq!(fs::read_dir(&room).unwrap().count(), 1);
+        fs::remove_dir_all(&room).unwrap();
+    }
+}

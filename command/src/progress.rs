@@ -37,7 +37,7 @@ impl Progress {
         if self.wanted && Instant::now() >= self.next {
             self.next = Instant::now() + BETWEEN;
             self.shown = true;
-            say_raw(&format!("\r{} frames compared", frames));
+            say_raw(&format!("\r{}{} frames compared", labelled(), frames));
         }
     }
 
@@ -62,8 +62,11 @@ pub fn label(text: &str) {
 
 /// A message on standard error. Where that cannot be written the status still tells.
 pub fn say(message: &str) {
-    let label = LABEL.lock().map_or(String::new(), |label| label.clone());
-    say_raw(&format!("fuavelino: {}{}\n", label, message));
+    say_raw(&format!("fuavelino: {}{}\n", labelled(), message));
+}
+
+fn labelled() -> String {
+    LABEL.lock().map_or(String::new(), |label| label.clone())
 }
 
 fn say_raw(text: &str) {
