@@ -9,8 +9,8 @@ use crate::overview::{overview, Counts, Overview, Row, Total};
 use crate::progress::{label, say};
 use crate::stop::{Fault, Stop, FAULT, PASSED};
 use std::collections::HashSet;
-use std::fs;
-use std::io;
+use std::fs::{self, File};
+use std::io::{self, Read};
 use std::path::{Path, PathBuf};
 
 /// Compares each pair of the list, and gives the worst of their statuses.
@@ -36,11 +36,15 @@ pub fn pairs(asked: &Pairs) -> Result<u8, Stop> {
 }
 
 fn walk(asked: &Pairs, overview: &mut dyn Overview, out: &mut Output, counts: &mut Counts) -> Result<u8, Stop> {
-    let list = list::read(&asked.list)?;
-    let jobs = jobs(asked, &list);
-    if let Some(folder) = asked.folder() {
-        prepare(folder, asked.each.form, &jobs)?;
-    }
+    let jobs = match asked.folder() {
+        Some(folder) => {
+            clear(folder, &asked.each)?;
+            let jobs = jobs(asked, &list::read(&asked.list)?);
+            prepare(folder, asked.each.form, &jobs)?;
+            jobs
+        }
+        None => jobs(asked, &list::read(&asked.list)?),
+    };
     let mut worst = PASSED;
     for (at, job) in jobs.iter().enumerate() {
         let number = at + 1;
@@ -124,18 +128,41 @@ fn first(asked: &Pairs) -> io::Result<Vec<u8>> {
     Ok(text)
 }
 
-/// Sees to it that no report of an earlier run stands for a pair of this one: each pair's says that it did not pass until
-/// it is whole, and those of more pairs than there are now are taken away.
+/// Takes away the pairs' reports of an earlier run: no list is read yet, and none may stand for a pair of this one. A file
+/// that only has such a name, and does not begin as a report does, is left.
+fn clear(folder: &Path, each: &Compare) -> Result<(), Stop> {
+    let unwritten = |path: &Path| {
+        let name = shown(path);
+        move |error| Stop::unwritten(&name, &error)
+    };
+    let first = unfinished(each).map_err(unwritten(folder))?;
+    // the first word of a report, whatever its files and its version
+    let word = first.iter().position(|byte| b":,".contains(byte)).map_or(&first[..], |end| &first[..=end]);
+    for path in named_as_reports(folder, each.form).map_err(unwritten(folder))? {
+        if begins(&path, word).map_err(unwritten(&path))? {
+            fs::remove_file(&path).map_err(unwritten(&path))?;
+        }
+    }
+    Ok(())
+}
+
+fn begins(path: &Path, word: &[u8]) -> io::Result<bool> {
+    if !fs::metadata(path)?.is_file() {
+        return Ok(false);
+    }
+    let mut start = Vec::new();
+    File::open(path)?.take(word.len() as u64).read_to_end(&mut start)?;
+    Ok(start == word)
+}
+
+/// Puts a report that did not pass in each pair's place, until its own is whole, but over no file that is to be compared.
 fn prepare(folder: &Path, form: Form, jobs: &[Compare]) -> Result<(), Stop> {
-    let earlier = earlier(folder, form).map_err(|error| Stop::unwritten(&shown(folder), &error))?;
     let inputs = jobs.iter().flat_map(|job| [identity(&job.original), identity(&job.decoded)]);
     let inputs: HashSet<(u64, u64)> = inputs.flatten().collect();
-    let compared = |path: &Path| identity(path).map_or(false, |known| inputs.contains(&known));
-    if let Some((_, path)) = earlier.iter().find(|report| compared(&report.1)) {
+    let compared = |path: &PathBuf| identity(path).map_or(false, |known| inputs.contains(&known));
+    let found = named_as_reports(folder, form).map_err(|error| Stop::unwritten(&shown(folder), &error))?;
+    if let Some(path) = found.iter().find(|path| compared(path)) {
         return Err(Fault::new(format!("{} is to be compared, and has the name of a report", shown(path))).into());
-    }
-    for (_, path) in earlier.iter().filter(|report| report.0 > jobs.len()) {
-        fs::remove_file(path).map_err(|error| Stop::unwritten(&shown(path), &error))?;
     }
     jobs.iter().for_each(put_unfinished);
     Ok(())
@@ -148,16 +175,16 @@ fn put_unfinished(job: &Compare) {
     }
 }
 
-/// The reports of pairs that stand in a folder, with their numbers.
-fn earlier(folder: &Path, form: Form) -> io::Result<Vec<(usize, PathBuf)>> {
+/// What has the name of a pair's report in a folder.
+fn named_as_reports(folder: &Path, form: Form) -> io::Result<Vec<PathBuf>> {
     let mut list = Vec::new();
     for entry in fs::read_dir(folder)? {
         let entry = entry?;
         let found = entry.file_name();
         let digits = |text: &str| text.chars().filter(char::is_ascii_digit).collect::<String>().parse::<usize>().ok();
         let number = found.to_str().and_then(digits);
-        if let Some(number) = number.filter(|number| found == *name(form, *number)) {
-            list.push((number, entry.path()));
+        if number.map_or(false, |number| found == *name(form, number)) {
+            list.push(entry.path());
         }
     }
     Ok(list)

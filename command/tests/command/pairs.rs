@@ -145,16 +145,6 @@ fn each_pair_has_the_report_of_its_own_comparison() {
     }
 }
 
-/// Whether every report of the folder says that nothing passed.
-fn all_not_passed(night: &Night, count: usize) {
-    let names = night.names();
-    assert_eq!(names.iter().filter(|name| name.ends_with(".json")).count(), count, "{:?}", names);
-    for name in names.iter().filter(|name| name.ends_with(".json")) {
-        let report = Json::read(&night.report(name));
-        assert_eq!((report.at("passed"), report.at("status").number()), (&Json::Truth(false), 3.0), "{}", name);
-    }
-}
-
 #[test]
 fn a_list_that_is_not_understood_is_a_fault_and_compares_nothing() {
     let night = Night::new("pairs-list");
@@ -168,15 +158,19 @@ fn a_list_that_is_not_understood_is_a_fault_and_compares_nothing() {
         (&format!("{}\t\n", a), "list: line 1: a name is missing"),
         (&format!("-\t{}\n", a), "list: line 1: a pair of a list cannot be standard input"),
     ] {
-        fs::create_dir_all(night.folder()).unwrap();
-        fs::write(night.folder().join("fuavelino-summary.json"), "{\"passed\":true}").unwrap();
+        // an earlier night that passed, with more in its folder than reports of this form
+        compare(&night.list(&[&night.good, &night.good]), &words!["--json", "--output", night.folder()]).passes();
+        fs::write(night.folder().join("fuavelino-0001.csv"), "scope,").unwrap();
+        fs::write(night.folder().join("fuavelino-x1.json"), "{\"fuavelino\":").unwrap();
         let list = night.room.file("list", text.as_bytes());
         let ended = compare(&list, &words!["--json", "--output", night.folder()]);
         ended.says(3, &[message]);
         let summary = Json::read(&night.report("fuavelino-summary.json"));
         assert!(summary.at("error").at("message").text().contains(message));
         assert!(summary.at("pairs").list().is_empty());
-        all_not_passed(&night, 1);
+        let kept = ["fuavelino-0001.csv", "fuavelino-summary.json", "fuavelino-x1.json"];
+        assert_eq!(night.names(), kept);
+        assert_eq!((summary.at("passed"), summary.at("status").number()), (&Json::Truth(false), 3.0));
         for form in [&[][..], &words!["--csv"]] {
             let ended = compare(&list, form);
             ended.says(3, &[message]);
@@ -227,6 +221,28 @@ fn a_killed_list_has_passed_only_what_had_ended() {
     assert_eq!(["0001", "0002", "0003", "summary"].map(passed), [true, false, false, false].map(Json::Truth));
     // of the fourth, which is no longer there, nothing is said
     assert_eq!(night.names().iter().filter(|name| name.ends_with(".json")).count(), 4);
+}
+
+/// The list is a pipe, from which nothing comes.
+#[test]
+fn while_a_list_is_awaited_nothing_has_passed() {
+    for (form, extension) in [("--json", "json"), ("--csv", "csv"), ("", "txt")] {
+        let night = Night::new(&format!("pairs-awaited-{}", extension));
+        let form: Vec<OsString> = Some(form).filter(|form| !form.is_empty()).map(OsString::from).into_iter().collect();
+        let list = night.list(&[&night.good, &night.good]);
+        compare(&list, &[&form[..], &words!["--output", night.folder()]].concat()).passes();
+        let script =
+            "mkfifo \"$1\" && { \"$0\" compare --pairs \"$@\" & } && pid=$! && exec 3>\"$1\" && kill -9 $pid && \
+                      ! wait $pid 2>/dev/null";
+        let words = [&words![night.room.path("pipe"), "--output", night.folder()][..], &form].concat();
+        assert_eq!(run_in(script, &words).status, 0);
+        let summary = format!("fuavelino-summary.{}", extension);
+        let reports: Vec<String> = night.names().into_iter().filter(|name| !name.ends_with(".part")).collect();
+        assert_eq!(reports, [&summary[..]]);
+        let said = night.report(&summary);
+        let not_passed = ["\"passed\":false}", "\nnot passed,", "\nNOT PASSED: "];
+        assert!(not_passed.iter().any(|words| said.contains(words)), "{}", said);
+    }
 }
 
 #[test]
