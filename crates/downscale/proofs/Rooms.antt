@@ -11,7 +11,8 @@ use lib.ListN.{length, set}
 use lib.Seq.{getD-set-same, getD-set-other}
 use Rattle.plane.specs.Limits.{sideLimit}
 use Rattle.plane.specs.Plane.{at, planeOf, sampleAt}
-use Rattle.window.specs.Columns.{mostSample, Readable}
+use Rattle.plane.specs.Inner.Lawful.{Bounded}
+use Rattle.window.specs.Moments.{mostSample}
 use Rattle.downscale.specs.Summed.{summedOf}
 use Rattle.downscale.specs.Rooms.{Put, Filled, Held}
 
@@ -123,9 +124,9 @@ four-room = lit< tt
 -- ---- a scale's plane
 
 -- it can be read
-pub readable : {width height : ℕ} {room : List ℕ} → Held mostSample width height room → 1 ≤ height → Readable width height (planeOf room width)
+pub readable : {width height : ℕ} {room : List ℕ} → Held mostSample width height room → 1 ≤ height → Bounded mostSample width height (planeOf room width)
 readable {width} {height} h some =
-    record { long = omega (arith, h .long, mul-sub width height 1, mul-le-mul-left width some); small = h .small }
+    record { long = omega (arith, h .long, mul-sub width height 1, mul-le-mul-left width some); small = λ r c k m. h .small _ }
 
 pub held-small : {max width height : ℕ} {room : List ℕ} → max ≤ mostSample → Held max width height room → Held mostSample width height room
 held-small m h = record { long = h .long; small = λ i. le-trans (h .small i) m }

@@ -4,7 +4,7 @@ ghost use Prim.Native.Nat.{ℕ, _+_, _*_, _/_, _<_, _≤_};
 ghost use lib.ListN.{length, replicate};
 ghost use Rattle.plane.specs.Limits.{sideLimit};
 ghost use Rattle.plane.specs.Plane.{at, planeOf, samplesOf, Long, lent, sampleAt};
-ghost use Rattle.window.specs.Columns.{mostSample};
+ghost use Rattle.window.specs.Moments.{mostSample};
 ghost use Rattle.downscale.specs.Summed.{summedOf};
 ghost use Rattle.downscale.specs.Rooms.{Put, Filled};
 use plane::Size;

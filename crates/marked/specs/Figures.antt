@@ -13,7 +13,7 @@ use Rattle.psnr.specs.declared.SquaredError.{SquaredError}
 use Rattle.psnr.specs.declared.SquaredError.the-variants.{Differs, Identical, Refused}
 use Rattle.lifting.specs.Steps.{half}
 use Rattle.dct.specs.Block.{fdct8, rows, fdct8x8}
-use Rattle.window.specs.Parts.{momentsAt}
+use Rattle.window.specs.Moments.{momentsAt}
 use Rattle.window.specs.declared.Moments.{Moments}
 use Rattle.hvs_block.specs.Fold.{listTo}
 use Rattle.psnr_hvs.specs.Score.{blocksPerSide}

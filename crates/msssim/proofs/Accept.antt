@@ -17,7 +17,7 @@ use Rattle.plane.specs.Tests.{pairTests, pairRefusal}
 use Rattle.plane.specs.Inner.Lawful.{AcceptedPair}
 use Rattle.plane.proofs.Accept.{accepted, plane-named}
 use Rattle.plane.proofs.Several.{planes-pass}
-use Rattle.window.specs.Columns.{mostSample}
+use Rattle.window.specs.Moments.{mostSample}
 use Rattle.window.proofs.Demand.{scales, scaleMax, scale-small}
 use Rattle.ssim.proofs.Accept.{halves}
 use Rattle.downscale.specs.Rooms.{Filled, Held}

@@ -14,7 +14,7 @@ use lib.ListN.{length, set, take, drop, length-drop, drop-of-length-le}
 use Rattle.plane.specs.declared.Size.{Size}
 use Rattle.plane.specs.Plane.{Plane, planeOf, planesOf, maxOf, sampleAt}
 use Rattle.plane.specs.Inner.Lawful.{Alike}
-use Rattle.window.specs.Columns.{mostSample}
+use Rattle.window.specs.Moments.{mostSample}
 use Rattle.window.proofs.Visible.{Same}
 use Rattle.ssim.proofs.Visible.{totals-ext}
 use Rattle.downscale.specs.Summed.{summedOf}

@@ -5,62 +5,17 @@ ghost use Prim.Native.Nat.{_+_, _*_, _^_, _<_, _≤_};
 ghost use lib.ListN.{length, drop};
 ghost use Rattle.plane.specs.Limits.{sideLimit};
 ghost use Rattle.plane.specs.Plane.{planeOf, sampleAt};
-ghost use Rattle.plane.specs.Sums.{sumTo};
-ghost use Rattle.window.specs.Kernel.{tap, fixedKernel};
-ghost use Rattle.window.specs.Parts.{Kernel};
-ghost use Rattle.window.specs.Columns.{mostSample, columnsOf, Margins};
-ghost use Rattle.ssim.specs.Score.{totalsOf};
+ghost use Rattle.window.specs.Kernel.{fixedKernel};
+ghost use Rattle.window.specs.Inner.Columns.{columnsOf};
+ghost use Rattle.window.specs.Moments.{mostSample};
 ghost use Rattle.downscale.specs.Rooms.{Held};
 ghost use Rattle.msssim.specs.Scale.{scaleOf, sumsOf, ssimOf, csOf, pairsFrom};
 use ssim::Totals;
+use window::Grid;
+use window::Samples;
 
 // What the taps of the fixed kernel sum to.
 const FIXED_TOTAL: u64 = 1024;
-
-// Every row of two planes of 32-bit samples: its column sums, then its centres.
-fn rows(
-    cols: &mut [i64],
-    max2: f64,
-    kernel: &[u16],
-    total: u64,
-    a: &[u32],
-    b: &[u32],
-    width: usize,
-    height: usize,
-) -> Totals
-    requires { ⌜ (width ≤ sideLimit) × (height ≤ sideLimit) × (5 * columnsOf (now kernel) width ≤ length (now cols)) ⌝ }
-    requires { ⌜ Margins (now cols) (now kernel) width ⌝ }
-    requires { ⌜ Kernel (now kernel) ⌝ }
-    requires { ⌜ total ≡ sumTo (tap (now kernel)) (length (now kernel)) ⌝ }
-    requires { ⌜ Held mostSample width height (now a) ⌝ }
-    requires { ⌜ Held mostSample width height (now b) ⌝ }
-    ensures { λ r. ⌜ r ≡ totalsOf max2 (now (kernel .entry)) width height (sampleAt (planeOf (now (a .entry)) width))
-        (sampleAt (planeOf (now (b .entry)) width)) height ⌝ }
-{
-    let start = 5 * (kernel.len() / 2);
-    let end = start + 5 * width;
-    let mut t = Totals {
-        ssim: 0.0,
-        cs: 0.0,
-        ssimw: 0.0,
-    };
-    for y in 0..height {
-        window::columns32::fill32(
-            &mut cols[start..end],
-            kernel,
-            a,
-            b,
-            width,
-            width,
-            width,
-            height,
-            y,
-        );
-        let down = window::row::weight(kernel, total, height, y);
-        t = ssim::walk::centres(max2, t, kernel, total, cols, width, down);
-    }
-    t
-}
 
 // The sums over every centre of a scale, under the fixed kernel. What an earlier scale left in the margins is cleared first.
 fn sums(cols: &mut [i64], a: &[u32], b: &[u32], max: u32, width: usize, height: usize) -> Totals
@@ -72,8 +27,27 @@ fn sums(cols: &mut [i64], a: &[u32], b: &[u32], max: u32, width: usize, height: 
 {
     let kernel = [8u16, 37, 112, 218, 274, 218, 112, 37, 8];
     let max2 = ssim::score::squared(max);
+    let grid = Grid {
+        samples: Samples::Longs,
+        width,
+        height,
+        stride_a: width,
+        stride_b: width,
+    };
     ssim::walk::clear(cols);
-    rows(cols, max2, &kernel, FIXED_TOTAL, a, b, width, height)
+    ssim::walk::rows(
+        &[0u8; 0],
+        &[0u16; 0],
+        a,
+        &[0u8; 0],
+        &[0u16; 0],
+        b,
+        grid,
+        &kernel,
+        FIXED_TOTAL,
+        max2,
+        cols,
+    )
 }
 
 // The pair of a scale to the first two places.

@@ -6,7 +6,7 @@ ghost use lib.ListN.{length, replicate};
 ghost use Rattle.plane.specs.Plane.{planes};
 ghost use Rattle.plane.specs.Inner.Lawful.{AcceptedPair};
 ghost use Rattle.window.specs.Kernel.{fixedKernel};
-ghost use Rattle.window.specs.Columns.{columnsOf};
+ghost use Rattle.window.specs.Inner.Columns.{columnsOf};
 ghost use Rattle.msssim.specs.Scale.{scaleCount, pairsFrom};
 ghost use Rattle.msssim.specs.Answer.{leastSide, roomOf, firstScale, scoreOf};
 use crate::MsSsim;

@@ -16,7 +16,7 @@ use Rattle.plane.specs.Plane.{at}
 use Rattle.plane.specs.Tests.{sidesSuit, noneAbove}
 use Rattle.plane.proofs.Accept.{sides-say}
 use Rattle.plane.proofs.All.{none-at}
-use Rattle.window.specs.Columns.{mostSample}
+use Rattle.window.specs.Moments.{mostSample}
 use Rattle.downscale.proofs.Rooms.{area-room}
 use Rattle.probe.specs.Downscale.{downscaleRefusal, Later}
 

@@ -8,7 +8,7 @@ use Rattle.refusal.specs.Numbers.{sizeNo, shortNo, sampleNo}
 use Rattle.refusal.specs.First.{firstBroken}
 use Rattle.plane.specs.Plane.{planeOf, at, sampleAt}
 use Rattle.plane.specs.Tests.{sidesSuit, noneAbove}
-use Rattle.window.specs.Columns.{mostSample}
+use Rattle.window.specs.Moments.{mostSample}
 use Rattle.downscale.specs.Summed.{summedOf}
 use Rattle.downscale.specs.Rooms.{Filled}
 

@@ -3,7 +3,7 @@ ghost use mathlib.Core.Path.{_≡_};
 ghost use lib.ListN.{length};
 ghost use Rattle.plane.specs.Plane.{at};
 ghost use Rattle.plane.specs.Tests.{noneAbove};
-ghost use Rattle.window.specs.Columns.{mostSample};
+ghost use Rattle.window.specs.Moments.{mostSample};
 ghost use Rattle.probe.specs.Downscale.{downscaleRefusal, Later};
 
 // The largest sample that the sums of a scale are made for.

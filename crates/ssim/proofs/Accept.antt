@@ -7,21 +7,24 @@ use native.Mathlib.Nat.{mul-le-mul-left, mul-add, mul-comm, mul-assoc}
 use native.Mathlib.Omega.{arith}
 use borrow.Author.Tests.{leb-true, le-leb, lt-leb}
 use lib.Dec.{lit≤}
-use lib.ListN.{length, getD}
+use lib.ListN.{length}
 use Rattle.refusal.specs.Numbers.{kernelNo, scratchNo}
 use Rattle.refusal.specs.First.{firstBroken}
 use Rattle.refusal.proofs.Chain.{Named, passed}
-use Rattle.plane.specs.Plane.{Planes, samplesOf, both}
+use Rattle.plane.specs.Limits.{mostDepth}
+use Rattle.plane.specs.Plane.{Planes, maxOf, both}
 use Rattle.plane.specs.Tests.{pairTests, pairRefusal}
 use Rattle.plane.proofs.Accept.{accepted, plane-named}
-use Rattle.plane.proofs.Depth.{depth-small}
+use Rattle.plane.proofs.Depth.{depth-small, max-small}
 use Rattle.plane.proofs.Several.{planes-stop, planes-pass}
 use Rattle.window.specs.Kernel.{mostTaps, lawful, lentTotal}
-use Rattle.window.specs.Columns.{columnsOf, mostSample}
+use Rattle.window.specs.Inner.Columns.{columnsOf}
+use Rattle.window.specs.Moments.{mostSample}
+use Rattle.window.proofs.Grids.{bounded-most}
 use Rattle.window.proofs.KernelSays.{kernel-says, kernel-serves, lent-total}
 use Rattle.ssim.specs.Scratch.{linesOf, placesOf}
 use Rattle.ssim.specs.Answer.{lentTests, ssimRefusal}
-use Rattle.ssim.specs.Sound.{Sound}
+use Rattle.ssim.specs.Inner.Sound.{Sound}
 use Rattle.ssim.proofs.Powers.{lines-reach}
 
 -- ---- what a lawful kernel says of the count of its taps
@@ -67,6 +70,11 @@ room width ker l odd =
     let all : width * (2 * off + 1) ≤ width * linesOf (length ker) = mul-le-mul-left width reach in
     omega (arith, mul-add width (2 * off) 1, mul-comm width (2 * off), mul-assoc 6 width (linesOf (length ker)))
 
+-- the largest sample of any depth can be summed
+samples-fit : (wide : Bool) {depth : ℕ} → depth ≤ mostDepth wide → maxOf depth ≤ mostSample
+unfolding mostSample
+samples-fit wide l = omega (arith, max-small wide l)
+
 pub sound : (p : Planes) (ker : List ℕ) (lent : ℕ) {n : ℕ} → n ≡ ssimRefusal p ker lent → n ≡ 0 → Sound p ker lent
 unfolding lentTests
 sound p ker lent e z =
@@ -74,6 +82,7 @@ sound p ker lent e z =
     let q = accepted (p .size) (both p) 0 (h .0) in
     let t = passed (lentTests (p .size .width) ker lent) (lit≤ tt, (lit≤ tt, tt)) (h .1) in
     let k = kernel-says lentTotal ker (t .0) in
+    let max-fits = samples-fit (p .size .wide) (q .sized .depth-most) in
     record {
       taps-least = omega (arith, k .odd);
       taps-most = k .short;
@@ -82,15 +91,7 @@ sound p ker lent e z =
       depth-most = omega (arith, q .sized .depth-most, depth-small (p .size .wide));
       kernel = kernel-serves lentTotal ker lent-total (t .0);
       total = sym (k .sum);
-      long-a = q .each .0 .bounded .long;
-      long-b = q .each .1 .0 .bounded .long;
+      summable = record { first = bounded-most (q .each .0 .bounded) max-fits; second = bounded-most (q .each .1 .0 .bounded) max-fits };
       lent-enough = leb-true _ _ (t .1 .0);
       columns-fit = room (p .size .width) ker (q .sized .width-least) (k .odd);
     }
-
--- samples of either width are small enough to be summed
-pub either-small : (wide : Bool) (bytes words : List ℕ) → ((i : ℕ) → getD bytes i 0 ≤ 255) → ((i : ℕ) → getD words i 0 ≤ 65535)
-    → (i : ℕ) → getD (samplesOf wide bytes words) i 0 ≤ mostSample
-unfolding mostSample
-either-small true bytes words h k i = omega (arith, k i)
-either-small false bytes words h k i = omega (arith, h i)

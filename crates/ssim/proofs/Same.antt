@@ -7,8 +7,8 @@ use lib.IntN.{ℤ}
 use lib.ListN.{length}
 use borrow.Rule.Slice.PartMut.{putMid}
 use Rattle.number.proofs.Folds.{fold-more, fold-none, fold-ext}
-use Rattle.window.specs.Parts.{weightOf}
-use Rattle.window.specs.Columns.{columnsOf, Holds, Margins, momentsIn}
+use Rattle.window.specs.Inner.Parts.{weightOf}
+use Rattle.window.specs.Inner.Columns.{columnsOf, Holds, Margins, momentsIn}
 use Rattle.window.proofs.Held.{moments-same}
 use Rattle.ssim.specs.Score.{stepOf, rowOf, noneYet, totalsOf}
 

@@ -1,4 +1,4 @@
 pub mod Score
 pub mod Scratch
 pub mod Answer
-pub mod Sound
+pub mod Inner

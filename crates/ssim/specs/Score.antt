@@ -5,7 +5,7 @@ use Prim.Native.Nat.{ℕ}
 use lib.Ieee.{Float, binary64, ofBits}
 use Rattle.number.specs.Steps.{_⊕_, _⊖_, _⊗_, _⊘_, double, foldTo}
 use Rattle.plane.specs.Plane.{Planes, sampleAt}
-use Rattle.window.specs.Parts.{momentsAt}
+use Rattle.window.specs.Moments.{momentsAt}
 use Rattle.window.specs.declared.Moments.{Moments}
 use Rattle.ssim.specs.declared.Totals.{Totals}
 

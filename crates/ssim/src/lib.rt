@@ -9,7 +9,7 @@ ghost use Rattle.plane.specs.Plane.{planes, called};
 ghost use Rattle.window.specs.Kernel.{mostTaps};
 ghost use Rattle.ssim.specs.Scratch.{grownOf, linesOf, placesOf, cleared, scratchAfter};
 ghost use Rattle.ssim.specs.Answer.{ssimRefusal, scoreOf, ssimOf};
-ghost use Rattle.ssim.specs.Sound.{Sound};
+ghost use Rattle.ssim.specs.Inner.Sound.{Sound};
 use plane::Layout;
 use plane::Size;
 
@@ -85,13 +85,13 @@ fn refusal(
 
 // The score of two planes of either width that no test refuses. The needed part of the scratch is all zero afterwards.
 fn scored(
-    scratch: &mut [i64],
     a8: &[u8],
     a16: &[u16],
     b8: &[u8],
     b16: &[u16],
     layout: Layout,
     kernel: &[u16],
+    scratch: &mut [i64],
 ) -> Ssim
     requires { ⌜ Sound (planes layout a8 a16 b8 b16) (now kernel) (length (now scratch)) ⌝ }
     ensures { λ r. ⌜ r ≡ scoreOf (planes layout (a8 .entry) (a16 .entry) (b8 .entry) (b16 .entry)) (now (kernel .entry)) ⌝ }
@@ -100,29 +100,32 @@ fn scored(
 {
     let need = places(layout.size.width, kernel.len());
     let max2 = score::squared(plane::sample_max(layout.size.depth));
+    let grid = window::columns::grid_of(layout);
     let t = walk::totals(
-        &mut scratch[..need],
-        max2,
-        kernel,
-        window::LENT_TOTAL,
         a8,
         a16,
+        &[0u32; 0],
         b8,
         b16,
-        layout,
+        &[0u32; 0],
+        grid,
+        kernel,
+        window::LENT_TOTAL,
+        max2,
+        &mut scratch[..need],
     );
     score::pair(t)
 }
 
 // SSIM of two planes of either width.
 fn of_either(
-    scratch: &mut [i64],
     a8: &[u8],
     a16: &[u16],
     b8: &[u8],
     b16: &[u16],
     layout: Layout,
     kernel: &[u16],
+    scratch: &mut [i64],
 ) -> Ssim
     ensures { λ r. ⌜ r ≡ ssimOf (planes layout (a8 .entry) (a16 .entry) (b8 .entry) (b16 .entry))
         (now (kernel .entry)) (length (now (scratch .entry))) ⌝ }
@@ -134,7 +137,7 @@ fn of_either(
     if no != 0 {
         return Ssim::Refused(no);
     }
-    scored(scratch, a8, a16, b8, b16, layout, kernel)
+    scored(a8, a16, b8, b16, layout, kernel, scratch)
 }
 
 // SSIM of two planes of bytes. Refused, scratch is as it was; else, and at 9, its needed part is all zero and the rest as it was.
@@ -165,7 +168,7 @@ pub fn ssim8(
         stride_a,
         stride_b,
     };
-    of_either(scratch, a, &[0u16; 0], b, &[0u16; 0], layout, kernel)
+    of_either(a, &[0u16; 0], b, &[0u16; 0], layout, kernel, scratch)
 }
 
 // The same of words.
@@ -196,5 +199,5 @@ pub fn ssim16(
         stride_a,
         stride_b,
     };
-    of_either(scratch, &[0u8; 0], a, &[0u8; 0], b, layout, kernel)
+    of_either(&[0u8; 0], a, &[0u8; 0], b, layout, kernel, scratch)
 }

@@ -4,25 +4,25 @@ ghost use Prim.Native.Nat.{_*_, _≤_};
 ghost use lib.IntN.{pos};
 ghost use lib.ListN.{length, replicate};
 ghost use Rattle.plane.specs.Limits.{sideLimit};
-ghost use Rattle.plane.specs.Plane.{planes};
 ghost use Rattle.plane.specs.Sums.{sumTo};
 ghost use Rattle.window.specs.Kernel.{tap, fixedTotal};
-ghost use Rattle.window.specs.Parts.{Kernel};
-ghost use Rattle.window.specs.Columns.{ReadablePair, columnsOf, Margins, AllSmall, momentsIn};
-ghost use Rattle.ssim.specs.Score.{rowOf, totalsIn};
+ghost use Rattle.window.specs.Inner.Parts.{Kernel};
+ghost use Rattle.window.specs.Inner.Columns.{onGrid, Summable, columnsOf, Margins, AllSmall, momentsIn};
+ghost use Rattle.ssim.specs.Score.{rowOf};
+ghost use Rattle.ssim.specs.Inner.Walk.{totalsOn};
 use crate::Totals;
 use crate::score;
-use plane::Layout;
+use window::Grid;
 
 // The centres of one row, whose column sums stand in `cols`. `down` is the weight of the rows, `total` what all taps sum to.
 pub fn centres(
-    max2: f64,
-    t: Totals,
-    kernel: &[u16],
-    total: u64,
     cols: &[i64],
     width: usize,
+    kernel: &[u16],
+    total: u64,
     down: u64,
+    max2: f64,
+    t: Totals,
 ) -> Totals
     requires { ⌜ (width ≤ sideLimit) × (5 * columnsOf (now kernel) width ≤ length (now cols)) × (down ≤ fixedTotal) ⌝ }
     requires { ⌜ Kernel (now kernel) ⌝ }
@@ -35,7 +35,7 @@ pub fn centres(
         t = score::step(
             max2,
             t,
-            window::row::moments_at(kernel, total, cols, width, down, x),
+            window::row::moments_at(cols, width, kernel, total, down, x),
         );
     }
     t
@@ -51,28 +51,29 @@ pub fn clear(s: &mut [i64])
 }
 
 // Every row: its column sums, between the margins of zeros that stand there, then its centres.
-fn rows(
-    cols: &mut [i64],
-    max2: f64,
-    kernel: &[u16],
-    total: u64,
+pub fn rows(
     a8: &[u8],
     a16: &[u16],
+    a32: &[u32],
     b8: &[u8],
     b16: &[u16],
-    layout: Layout,
+    b32: &[u32],
+    grid: Grid,
+    kernel: &[u16],
+    total: u64,
+    max2: f64,
+    cols: &mut [i64],
 ) -> Totals
-    requires { ⌜ (layout .size .width ≤ sideLimit) × (layout .size .height ≤ sideLimit)
-        × (5 * columnsOf (now kernel) (layout .size .width) ≤ length (now cols)) ⌝ }
-    requires { ⌜ Margins (now cols) (now kernel) (layout .size .width) ⌝ }
+    requires { ⌜ (grid .width ≤ sideLimit) × (grid .height ≤ sideLimit) × (5 * columnsOf (now kernel) (grid .width) ≤ length (now cols)) ⌝ }
+    requires { ⌜ Margins (now cols) (now kernel) (grid .width) ⌝ }
     requires { ⌜ Kernel (now kernel) ⌝ }
     requires { ⌜ total ≡ sumTo (tap (now kernel)) (length (now kernel)) ⌝ }
-    requires { ⌜ ReadablePair (planes layout a8 a16 b8 b16) ⌝ }
-    ensures { λ r. ⌜ r ≡ totalsIn max2 (now (kernel .entry)) (planes layout (a8 .entry) (a16 .entry) (b8 .entry) (b16 .entry))
-        (layout .size .height) ⌝ }
+    requires { ⌜ (1 ≤ grid .height → Summable (onGrid grid a8 a16 a32 b8 b16 b32)) ⌝ }
+    ensures { λ r. ⌜ r ≡ totalsOn max2 (now (kernel .entry))
+        (onGrid grid (a8 .entry) (a16 .entry) (a32 .entry) (b8 .entry) (b16 .entry) (b32 .entry)) (grid .height) ⌝ }
 {
-    let width = layout.size.width;
-    let height = layout.size.height;
+    let width = grid.width;
+    let height = grid.height;
     let start = 5 * (kernel.len() / 2);
     let end = start + 5 * width;
     let mut t = Totals {
@@ -81,36 +82,60 @@ fn rows(
         ssimw: 0.0,
     };
     for y in 0..height {
-        window::columns::fill(&mut cols[start..end], kernel, a8, a16, b8, b16, layout, y);
+        window::columns::fill(
+            a8,
+            a16,
+            a32,
+            b8,
+            b16,
+            b32,
+            grid,
+            kernel,
+            y,
+            &mut cols[start..end],
+        );
         let down = window::row::weight(kernel, total, height, y);
-        t = centres(max2, t, kernel, total, cols, width, down);
+        t = centres(cols, width, kernel, total, down, max2, t);
     }
     t
 }
 
 // The sums over every centre. All of the scratch is zero afterwards.
 pub fn totals(
-    scratch: &mut [i64],
-    max2: f64,
-    kernel: &[u16],
-    total: u64,
     a8: &[u8],
     a16: &[u16],
+    a32: &[u32],
     b8: &[u8],
     b16: &[u16],
-    layout: Layout,
+    b32: &[u32],
+    grid: Grid,
+    kernel: &[u16],
+    total: u64,
+    max2: f64,
+    scratch: &mut [i64],
 ) -> Totals
-    requires { ⌜ (layout .size .width ≤ sideLimit) × (layout .size .height ≤ sideLimit)
-        × (5 * columnsOf (now kernel) (layout .size .width) ≤ length (now scratch)) ⌝ }
+    requires { ⌜ (grid .width ≤ sideLimit) × (grid .height ≤ sideLimit) × (5 * columnsOf (now kernel) (grid .width) ≤ length (now scratch)) ⌝ }
     requires { ⌜ Kernel (now kernel) ⌝ }
     requires { ⌜ total ≡ sumTo (tap (now kernel)) (length (now kernel)) ⌝ }
-    requires { ⌜ ReadablePair (planes layout a8 a16 b8 b16) ⌝ }
-    ensures { λ r. ⌜ r ≡ totalsIn max2 (now (kernel .entry)) (planes layout (a8 .entry) (a16 .entry) (b8 .entry) (b16 .entry))
-        (layout .size .height) ⌝ }
+    requires { ⌜ (1 ≤ grid .height → Summable (onGrid grid a8 a16 a32 b8 b16 b32)) ⌝ }
+    ensures { λ r. ⌜ r ≡ totalsOn max2 (now (kernel .entry))
+        (onGrid grid (a8 .entry) (a16 .entry) (a32 .entry) (b8 .entry) (b16 .entry) (b32 .entry)) (grid .height) ⌝ }
     ensures { λ _. ⌜ now (scratch .exit) ≡ replicate (length (now (scratch .entry))) (pos 0) ⌝ }
 {
     clear(scratch);
-    let t = rows(scratch, max2, kernel, total, a8, a16, b8, b16, layout);
+    let t = rows(
+        a8,
+        a16,
+        a32,
+        b8,
+        b16,
+        b32,
+        grid,
+        kernel,
+        total,
+        max2,
+        scratch,
+    );
     clear(scratch);
     t
 }

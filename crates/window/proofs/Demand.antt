@@ -15,8 +15,7 @@ use Rattle.plane.specs.Plane.{Planes, maxOf, sampleAt}
 use Rattle.plane.specs.Inner.Lawful.{AcceptedPair}
 use Rattle.plane.proofs.Depth.{max-grows}
 use Rattle.window.specs.Kernel.{lentTotal, fixedKernel, fixedTotal, lawful}
-use Rattle.window.specs.Moments.{momentAt, muxAt, muyAt, x2At, xyAt, y2At, wAt}
-use Rattle.window.specs.Columns.{mostSample}
+use Rattle.window.specs.Moments.{momentAt, muxAt, muyAt, x2At, xyAt, y2At, wAt, mostSample}
 use Rattle.window.proofs.KernelSays.{kernel-says, lent-total, fixed-lawful}
 use Rattle.window.proofs.Separable.{weights}
 use Rattle.window.proofs.Cauchy.{first-le, second-le, signed-le}

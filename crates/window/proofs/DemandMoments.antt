@@ -11,7 +11,7 @@ use Rattle.plane.specs.Sums.{sumTo}
 use Rattle.plane.proofs.Sums.{sum-term}
 use Rattle.window.specs.Kernel.{tap}
 use Rattle.window.specs.Moments.{inside, seenAt, momentAt}
-use Rattle.window.specs.Parts.{partOf, weightOf}
+use Rattle.window.specs.Inner.Parts.{partOf, weightOf}
 use Rattle.window.proofs.Windows.{inside-in, inside-below, inside-above, part-below}
 use Rattle.window.proofs.Separable.{separable}
 use Rattle.window.proofs.Cauchy.{Gram, gram-point, gram-none, gram-sum}

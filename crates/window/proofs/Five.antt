@@ -8,9 +8,10 @@ use lib.Dec.{lit<, lit≤}
 use lib.IntN.{ℤ}
 use lib.ListN.{length}
 use Rattle.window.specs.Kernel.{tap, fixedTotal}
-use Rattle.window.specs.Parts.{partOf, Kernel, quantOf, fiveOf, nth, tappedOf, Room, partsOf}
-use Rattle.window.specs.Columns.{mostSample, Fits, cellOf, AllSmall}
-use Rattle.window.specs.declared.Sums.{Sums}
+use Rattle.window.specs.Inner.Parts.{partOf, Kernel, quantOf, fiveOf, nth, tappedOf, Room, partsOf}
+use Rattle.window.specs.Inner.Columns.{Fits, cellOf, AllSmall}
+use Rattle.window.specs.Moments.{mostSample}
+use Rattle.window.specs.declared.FiveSums.{FiveSums}
 use Rattle.window.proofs.Windows.{part-more, part-first, part-last, part-room, part-le}
 
 -- g and h agree
@@ -75,7 +76,7 @@ module _ (ker : List ℕ) (side : ℕ) (f : ℕ → ℕ → ℕ) (x : ℕ) where
   unfolding partsOf
   parts-last r k l m = five-ext _ _ (λ i. part-last ker side (f i) x r k l m)
 
-  pub parts-room : (t : Sums) (k : ℕ) → t ≡ partsOf ker side f x k → Kernel ker
+  pub parts-room : (t : FiveSums) (k : ℕ) → t ≡ partsOf ker side f x k → Kernel ker
       → ((m : ℕ) → m < 5 → (k : ℕ) → k < length ker → length ker / 2 ≤ x + k → x + k < length ker / 2 + side
       → f m (x + k - length ker / 2) ≤ 2 ^ 50)
       → k < length ker → length ker / 2 ≤ x + k → x + k < length ker / 2 + side
@@ -89,7 +90,7 @@ module _ (ker : List ℕ) (side : ℕ) (f : ℕ → ℕ → ℕ) (x : ℕ) where
       low q = omega (arith, row-room)
 
   -- and all of the taps of values of at most 2 ^ 40 come to what scratch can hold
-  pub parts-low : (t : Sums) → t ≡ partsOf ker side f x (length ker) → Kernel ker
+  pub parts-low : (t : FiveSums) → t ≡ partsOf ker side f x (length ker) → Kernel ker
       → ((m k : ℕ) → k < length ker → length ker / 2 ≤ x + k → x + k < length ker / 2 + side → f m (x + k - length ker / 2) ≤ 2 ^ 40)
       → Fits t
   unfolding partsOf
@@ -98,7 +99,7 @@ module _ (ker : List ℕ) (side : ℕ) (f : ℕ → ℕ → ℕ) (x : ℕ) where
       (λ m. lt-of-le-of-lt (le-trans (part-le ker side (f m) x (2 ^ 40) r (h m) _ (le-refl _)) column-room) (lit< tt)))
 
 -- what was read from scratch is small
-pub cells-low : (s : List ℤ) (n c : ℕ) (t : Sums) → t ≡ fiveOf (λ (m : ℕ). cellOf s m c) → AllSmall s (5 * n) → c < n
+pub cells-low : (s : List ℤ) (n c : ℕ) (t : FiveSums) → t ≡ fiveOf (λ (m : ℕ). cellOf s m c) → AllSmall s (5 * n) → c < n
     → (m : ℕ) → m < 5 → nth t m ≤ 2 ^ 50
 cells-low s n c t e small l =
     rw e (nth-of (λ (m v : ℕ). v ≤ 2 ^ 50) (λ (m : ℕ). cellOf s m c) (λ m q. small (5 * c + m) (omega arith) .low))

@@ -9,8 +9,8 @@ use lib.ListN.{length}
 use Rattle.plane.specs.Sums.{sumTo}
 use Rattle.plane.proofs.Sums.{sum-none, sum-more, sum-mono, sum-mul, sum-le, sum-ext, sum-fold}
 use Rattle.window.specs.Kernel.{tap, fixedTotal}
-use Rattle.window.specs.Parts.{Kernel, acrossOf, foldedOf, foldsOf, fiveOf, tappedOf, Room}
-use Rattle.window.specs.declared.Sums.{Sums}
+use Rattle.window.specs.Inner.Parts.{Kernel, acrossOf, foldedOf, foldsOf, fiveOf, tappedOf, Room}
+use Rattle.window.specs.declared.FiveSums.{FiveSums}
 use Rattle.window.proofs.Five.{five-ext, nth-of, row-room}
 
 module _ (ker : List ℕ) (g : ℕ → ℕ) (x : ℕ) where
@@ -86,7 +86,7 @@ module _ (ker : List ℕ) (g : ℕ → ℕ → ℕ) (x : ℕ) where
         nth-of (λ (m v : ℕ). v + tap ker (length ker / 2) * g m (x + length ker / 2) < 2 ^ 64) (λ (m : ℕ). 0)
         (λ m l. low (rw (folded-none ker (g m) x) at (folded-le ker (g m) x (2 ^ 50) 0 r (small m l) (omega arith))))
 
-    pub folds-room : (t : Sums) (k : ℕ) → t ≡ foldsOf ker g x k → k < length ker / 2
+    pub folds-room : (t : FiveSums) (k : ℕ) → t ≡ foldsOf ker g x k → k < length ker / 2
         → Room t (tap ker k) (λ (m : ℕ). g m (x + k) + g m (x + 2 * (length ker / 2) - k))
     unfolding foldsOf
     folds-room t k e l =

@@ -13,10 +13,10 @@ use lib.ListN.{length, set, take, drop, replicate, length-set, length-drop, leng
 use lib.Seq.{getD-set-same, getD-set-other, getD-append-add, getD-take, getD-drop, length-take-le}
 use Rattle.plane.proofs.Sums.{sum-ext}
 use Rattle.window.specs.Kernel.{tap}
-use Rattle.window.specs.Moments.{inside, momentAt}
-use Rattle.window.specs.Parts.{partOf, partsOf, windowOf, weightOf, acrossOf, Kernel, quantOf, nth, momentsAt}
-use Rattle.window.specs.Columns.{atZ, cellOf, columnAt, columnsOf, mostSample, Holds, Margins, Small, AllSmall, momentsIn}
-use Rattle.window.specs.declared.Sums.{Sums}
+use Rattle.window.specs.Moments.{inside, momentAt, momentsAt, mostSample}
+use Rattle.window.specs.Inner.Parts.{partOf, partsOf, windowOf, weightOf, acrossOf, Kernel, quantOf, nth}
+use Rattle.window.specs.Inner.Columns.{atZ, cellOf, columnTo, columnAt, columnsOf, Holds, Margins, Small, AllSmall, momentsIn}
+use Rattle.window.specs.declared.FiveSums.{FiveSums}
 use Rattle.window.proofs.Windows.{inside-in, inside-below, inside-above, part-le}
 use Rattle.window.proofs.Separable.{separable, weights}
 use Rattle.window.proofs.Five.{quant-le, column-room, nth-five}
@@ -69,22 +69,25 @@ module _ (s cols : List ℤ) (k : ℕ) (ker : List ℕ) (width height : ℕ) (a 
   between i l = put-in start k s cols (omega arith) same i (omega arith) ∙ held i l
 
   -- what zero and every column's place has, every place has
-  every-place : (P : ℤ → Type 0) → P (pos 0) → ((i : ℕ) → P (pos (columnAt ker height a b y i))) → (j : ℕ) → P (atZ now′ j)
+  every-place : (P : ℤ → Type 0) → P (pos 0) → ((i : ℕ) → i < 5 * width → P (pos (columnAt ker height a b y i))) → (j : ℕ) → P (atZ now′ j)
   every-place P none some j = go (decLt j start) (decLt j (start + 5 * width))
     where
       go : Dec (j < start) → Dec (j < start + 5 * width) → P (atZ now′ j)
       go (yes m) d = rw (margins-kept .left j m) none
       go (no m) (no n) = rw (margins-kept .right j (omega arith)) none
-      go (no m) (yes n) = let e : start + (j - start) ≡ j = omega arith in rw (rw e at (between (j - start) (omega arith))) (some (j - start))
+      go (no m) (yes n) = let e : start + (j - start) ≡ j = omega arith in rw (rw e at (between (j - start) (omega arith))) (some (j - start) (omega arith))
 
   -- so all of them can be read
-  pub all-small : Kernel ker → ((r c : ℕ) → a r c ≤ mostSample) → ((r c : ℕ) → b r c ≤ mostSample) → AllSmall now′ (5 * columnsOf ker width)
+  pub all-small : Kernel ker → ((r c : ℕ) → r < height → c < width → a r c ≤ mostSample)
+      → ((r c : ℕ) → r < height → c < width → b r c ≤ mostSample) → AllSmall now′ (5 * columnsOf ker width)
   all-small r sa sb j l =
-      every-place Small (record { sign = tt; low = lit≤ tt }) (λ i.
+      every-place Small (record { sign = tt; low = lit≤ tt }) (λ i (q : i < 5 * width).
       record {
         sign = tt;
         low = le-trans
-            (part-le ker height _ y (2 ^ 40) r (λ k f g d. quant-le (i % 5) _ _ (sa _ _) (sb _ _)) (length ker) (le-refl _)) column-room;
+            (part-le ker height _ y (2 ^ 40) r
+            (λ k f g d. quant-le (i % 5) _ _ (sa _ (i / 5) (omega arith) (omega arith)) (sb _ (i / 5) (omega arith) (omega arith))) (length ker) (le-refl _))
+            column-room;
       }) j
 
   -- sum m of column c, as a window along the row sees it
@@ -160,18 +163,18 @@ five-more l l′ i g e old h j m =
 
 -- the sums of column x, put after those of the columns before it
 module _ (ker : List ℕ) (height : ℕ) (a b : ℕ → ℕ → ℕ) (y x : ℕ) where
-  sum-there : (t : Sums) → t ≡ partsOf ker height (λ (m r : ℕ). quantOf m (a r x) (b r x)) y (length ker)
+  sum-there : (t : FiveSums) → t ≡ columnTo ker height a b x y (length ker)
       → (m : ℕ) → m < 5 → nth t m ≡ columnAt ker height a b y (5 * x + m)
-  unfolding partsOf
+  unfolding columnTo partsOf
   sum-there t e m l =
       let u : (5 * x + m) % 5 ≡ m = omega arith in
       let v : (5 * x + m) / 5 ≡ x = omega arith in
       rw (e, u, v) (nth-five (λ (i : ℕ). windowOf ker height (λ (r : ℕ). quantOf i (a r x) (b r x)) y) m l)
 
-  pub holds-more : (s s′ : List ℤ) (t : Sums)
+  pub holds-more : (s s′ : List ℤ) (t : FiveSums)
       → s′ ≡ set (set (set (set (set s (5 * x) (pos (t .mux))) (5 * x + 1) (pos (t .muy))) (5 * x + 2) (pos (t .x2)))
       (5 * x + 3) (pos (t .xy))) (5 * x + 4) (pos (t .y2))
-      → t ≡ partsOf ker height (λ (m r : ℕ). quantOf m (a r x) (b r x)) y (length ker)
+      → t ≡ columnTo ker height a b x y (length ker)
       → Holds s (5 * x) ker height a b y → 5 * x + 5 ≤ length s → Holds s′ (5 * (x + 1)) ker height a b y
   unfolding Holds
   holds-more s s′ t e f held room j l =

@@ -12,7 +12,7 @@ use Rattle.plane.specs.Plane.{allTo}
 use Rattle.plane.specs.Sums.{sumTo}
 use Rattle.plane.proofs.All.{all-at}
 use Rattle.window.specs.Kernel.{tap, mostTaps, lentTotal, fixedTotal, fixedKernel, oddCount, tapsSuit, sumsTo, mirrored, middled, lawful}
-use Rattle.window.specs.Parts.{Kernel}
+use Rattle.window.specs.Inner.Parts.{Kernel}
 
 -- each part of the test, where it passes
 pub odd-says : (ker : List ℕ) → oddCount ker ≡ true → (length ker ≡ 2 * (length ker / 2) + 1) × (length ker ≤ mostTaps)

@@ -2,6 +2,8 @@ pub mod KernelSays
 pub mod Windows
 pub mod Separable
 pub mod Five
+pub mod Column
+pub mod Grids
 pub mod Folded
 pub mod Held
 pub mod Cauchy

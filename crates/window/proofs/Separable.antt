@@ -10,7 +10,7 @@ use Rattle.plane.specs.Sums.{sumTo}
 use Rattle.plane.proofs.Sums.{sum-ext, sum-mul, sum-zero, sum-swap}
 use Rattle.window.specs.Kernel.{tap}
 use Rattle.window.specs.Moments.{inside, momentAt, wAt}
-use Rattle.window.specs.Parts.{partOf, windowOf, weightOf}
+use Rattle.window.specs.Inner.Parts.{partOf, windowOf, weightOf}
 use Rattle.window.proofs.Windows.{inside-in, inside-below, inside-above, inside-both, window-same}
 
 module _ (off side : ℕ) (j : ℕ) where

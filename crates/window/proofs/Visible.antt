@@ -6,8 +6,7 @@ use native.Mathlib.Omega.{arith}
 use lib.ListN.{length}
 use Rattle.plane.proofs.Sums.{sum-ext}
 use Rattle.window.specs.Kernel.{tap}
-use Rattle.window.specs.Moments.{inside, momentAt}
-use Rattle.window.specs.Parts.{momentsAt}
+use Rattle.window.specs.Moments.{inside, momentAt, momentsAt}
 use Rattle.window.proofs.Windows.{inside-both}
 
 abbrev pub Same : ℕ → ℕ → (ℕ → ℕ → ℕ) → (ℕ → ℕ → ℕ) → Type 0

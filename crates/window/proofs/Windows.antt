@@ -12,7 +12,7 @@ use Rattle.plane.specs.Sums.{sumTo}
 use Rattle.plane.proofs.Sums.{sum-more, sum-tail, sum-zero, sum-mono, sum-mul, sum-le, sum-ext}
 use Rattle.window.specs.Kernel.{tap, fixedTotal, mostTaps}
 use Rattle.window.specs.Moments.{inside}
-use Rattle.window.specs.Parts.{partOf, windowOf, weightOf, Kernel}
+use Rattle.window.specs.Inner.Parts.{partOf, windowOf, weightOf, Kernel}
 
 -- ---- inside, below and above
 module _ (off side : ℕ) (f : ℕ → ℕ) (j : ℕ) where

@@ -1,4 +1,3 @@
 pub mod Kernel
 pub mod Moments
-pub mod Parts
-pub mod Columns
+pub mod Inner

@@ -2,11 +2,16 @@
 -- A view gives what stands at row r and column c: a plane's sample, or a product of two. Definitions only.
 use mathlib.Core.Bool.{cond}
 use mathlib.Core.List.{List}
-use Prim.Native.Nat.{ℕ, _+_, _-_, _*_, _/_}
+use Prim.Native.Nat.{ℕ, _+_, _-_, _*_, _/_, _^_}
 use lib.Dec.{ltb}
 use lib.ListN.{length}
 use Rattle.plane.specs.Sums.{sumTo}
 use Rattle.window.specs.Kernel.{tap}
+use Rattle.window.specs.declared.Moments.{Moments}
+
+-- the largest sample that the sums are made for: words are below it, and so are the summed samples of the five scales
+unfoldable pub mostSample : ℕ
+mostSample = 2 ^ 20
 
 -- Along one side: place k of a kernel whose middle stands at x lies at x + k - off, off being half the count of taps. f there, where
 -- that is inside, and 0 outside; j is x + k.
@@ -42,3 +47,15 @@ module _ (ker : List ℕ) (width height : ℕ) (a b : ℕ → ℕ → ℕ) (x y 
 
   abbrev pub wAt : ℕ
   wAt = momentAt ker width height (λ (r c : ℕ). 1) x y
+
+-- all six
+abbrev pub momentsAt : List ℕ → ℕ → ℕ → (ℕ → ℕ → ℕ) → (ℕ → ℕ → ℕ) → ℕ → ℕ → Moments
+momentsAt ker width height a b x y =
+    record {
+      mux = muxAt ker width height a b x y;
+      muy = muyAt ker width height a b x y;
+      x2 = x2At ker width height a b x y;
+      xy = xyAt ker width height a b x y;
+      y2 = y2At ker width height a b x y;
+      w = wAt ker width height a b x y;
+    }

@@ -1,12 +1,11 @@
 // Windows over planes: which kernels are lawful, and the six sums under a kernel at each centre. The sums are made a side at a time:
-// `columns` (and `columns32`) sums down the columns of one centre row into lent scratch, `row` sums along them at each centre.
+// `columns` sums down the columns of one centre row into lent scratch, `row` sums along them at each centre.
 ghost use mathlib.Core.Path.{_≡_};
 ghost use Prim.Native.Nat.{_≤_, _<_};
 ghost use lib.ListN.{length};
 ghost use Rattle.window.specs.Kernel.{mostTaps, lentTotal, oddCount, tapsSuit, sumsTo, mirrored, middled, lawful};
 
 pub mod columns;
-pub mod columns32;
 pub mod row;
 
 // The largest count of taps.
@@ -14,8 +13,24 @@ pub const MOST_TAPS: usize = 255;
 // What the taps of a lent kernel sum to.
 pub const LENT_TOTAL: u64 = 256;
 
+// Which of three slices holds the samples of a plane. The 32-bit ones are those that MS-SSIM sums.
+pub enum Samples {
+    Bytes,
+    Words,
+    Longs,
+}
+
+// Two planes as the sums read them: their samples and sides, and the stride of each.
+pub struct Grid {
+    pub samples: Samples,
+    pub width: usize,
+    pub height: usize,
+    pub stride_a: usize,
+    pub stride_b: usize,
+}
+
 // Five sums under a window: of a, b, a², ab and b².
-pub struct Sums {
+pub struct FiveSums {
     pub mux: u64,
     pub muy: u64,
     pub x2: u64,

@@ -9,10 +9,10 @@ ghost use lib.Signed.{nonNeg};
 ghost use Rattle.plane.specs.Limits.{sideLimit};
 ghost use Rattle.plane.specs.Sums.{sumTo};
 ghost use Rattle.window.specs.Kernel.{tap, fixedTotal};
-ghost use Rattle.window.specs.Parts.{Kernel, tappedOf, Room, nth, fiveOf, acrossOf, weightOf};
-ghost use Rattle.window.specs.Columns.{atZ, cellOf, columnsOf, Small, AllSmall, momentsIn};
+ghost use Rattle.window.specs.Inner.Parts.{Kernel, tappedOf, Room, nth, fiveOf, acrossOf, weightOf};
+ghost use Rattle.window.specs.Inner.Columns.{atZ, cellOf, columnsOf, Small, AllSmall, momentsIn};
+use crate::FiveSums;
 use crate::Moments;
-use crate::Sums;
 use crate::columns;
 
 // A place of the scratch as a number.
@@ -33,13 +33,13 @@ fn get(cols: &[i64], i: usize) -> u64
 }
 
 // The five sums of column c, of n that stand there.
-fn cells(cols: &[i64], n: usize, c: usize) -> Sums
+fn cells(cols: &[i64], n: usize, c: usize) -> FiveSums
     requires { ⌜ (c < n) × (5 * n ≤ length (now cols)) ⌝ }
     requires { ⌜ AllSmall (now cols) (5 * n) ⌝ }
     ensures { λ r. ⌜ r ≡ fiveOf (λ (m : ℕ). cellOf (now (cols .entry)) m c) ⌝ }
 {
     let at = 5 * c;
-    Sums {
+    FiveSums {
         mux: get(cols, at),
         muy: get(cols, at + 1),
         x2: get(cols, at + 2),
@@ -49,7 +49,7 @@ fn cells(cols: &[i64], n: usize, c: usize) -> Sums
 }
 
 // The five sums of columns i and j together.
-fn pair(cols: &[i64], n: usize, i: usize, j: usize) -> Sums
+fn pair(cols: &[i64], n: usize, i: usize, j: usize) -> FiveSums
     requires { ⌜ (i < n) × (j < n) × (5 * n ≤ length (now cols)) ⌝ }
     requires { ⌜ AllSmall (now cols) (5 * n) ⌝ }
     ensures { λ r. ⌜ r ≡ fiveOf (λ (m : ℕ). cellOf (now (cols .entry)) m i + cellOf (now (cols .entry)) m j) ⌝ }
@@ -61,7 +61,7 @@ fn pair(cols: &[i64], n: usize, i: usize, j: usize) -> Sums
     let x2 = s.x2 + u.x2;
     let xy = s.xy + u.xy;
     let y2 = s.y2 + u.y2;
-    Sums {
+    FiveSums {
         mux,
         muy,
         x2,
@@ -71,7 +71,7 @@ fn pair(cols: &[i64], n: usize, i: usize, j: usize) -> Sums
 }
 
 // One tap more of each sum.
-fn tapped(t: Sums, tap: u16, s: Sums) -> Sums
+fn tapped(t: FiveSums, tap: u16, s: FiveSums) -> FiveSums
     requires { ⌜ Room t tap (nth s) ⌝ }
     ensures { λ r. ⌜ r ≡ tappedOf t tap (nth s) ⌝ }
 {
@@ -81,7 +81,7 @@ fn tapped(t: Sums, tap: u16, s: Sums) -> Sums
     let x2 = t.x2 + k * s.x2;
     let xy = t.xy + k * s.xy;
     let y2 = t.y2 + k * s.y2;
-    Sums {
+    FiveSums {
         mux,
         muy,
         x2,
@@ -91,10 +91,10 @@ fn tapped(t: Sums, tap: u16, s: Sums) -> Sums
 }
 
 // No tap yet.
-fn none() -> Sums
+fn none() -> FiveSums
     ensures { λ r. ⌜ r ≡ fiveOf (λ (m : ℕ). 0) ⌝ }
 {
-    Sums {
+    FiveSums {
         mux: 0,
         muy: 0,
         x2: 0,
@@ -105,7 +105,7 @@ fn none() -> Sums
 
 // The five sums along the columns from x on, which begin with half a kernel of zeros and end with as many. A kernel is the same from both
 // ends, so that two columns share each tap but the middle one.
-fn along(kernel: &[u16], cols: &[i64], n: usize, x: usize) -> Sums
+fn along(cols: &[i64], n: usize, kernel: &[u16], x: usize) -> FiveSums
     requires { ⌜ (x + 2 * (length (now kernel) / 2) < n) × (5 * n ≤ length (now cols)) ⌝ }
     requires { ⌜ Kernel (now kernel) ⌝ }
     requires { ⌜ AllSmall (now cols) (5 * n) ⌝ }
@@ -149,10 +149,10 @@ pub fn weight(kernel: &[u16], total: u64, side: usize, x: usize) -> u64
 
 // The six moments at x. `down` is the weight of the rows.
 pub fn moments_at(
-    kernel: &[u16],
-    total: u64,
     cols: &[i64],
     width: usize,
+    kernel: &[u16],
+    total: u64,
     down: u64,
     x: usize,
 ) -> Moments
@@ -162,7 +162,7 @@ pub fn moments_at(
     requires { ⌜ AllSmall (now cols) (5 * columnsOf (now kernel) width) ⌝ }
     ensures { λ r. ⌜ r ≡ momentsIn (now (kernel .entry)) (now (cols .entry)) width down x ⌝ }
 {
-    let t = along(kernel, cols, width + 2 * (kernel.len() / 2), x);
+    let t = along(cols, width + 2 * (kernel.len() / 2), kernel, x);
     let w = down * weight(kernel, total, width, x);
     Moments {
         mux: t.mux,

@@ -8,7 +8,7 @@ use denote.Ref.{now}
 use Rattle.plane.specs.Plane.{at}
 use Rattle.plane.specs.Tests.{noneAbove}
 use Rattle.plane.proofs.All.{none-none, none-more}
-use Rattle.window.specs.Columns.{mostSample}
+use Rattle.window.specs.Moments.{mostSample}
 use Rattle.probe.proofs.none_above.Statement.{statement}
 use Rattle.probe.proofs.none_above.Tie as tie
 

@@ -1,11 +1,16 @@
 -- `ssim::scored` meets its contract. Assumes nothing.
-use mathlib.Core.Path.{sym}
-use native.Mathlib.Omega.{arith}
+use mathlib.Core.Path.{sym, refl, ap, subst⁻¹}
+use Prim.Native.Nat.{_*_}
 use borrow.Author.Needs.{needs}
 use denote.Ref.{now}
 use lib.Seq.{length-take-le}
+use Rattle.number.specs.Steps.{double}
+use Rattle.plane.specs.Plane.{maxOf}
 use Rattle.window.specs.Kernel.{lentTotal}
-use Rattle.ssim.proofs.Accept.{either-small}
+use Rattle.window.specs.Inner.Columns.{OnGrid, Summable}
+use Rattle.window.proofs.Grids.{grid-same}
+use Rattle.ssim.specs.Answer.{pairOf}
+use Rattle.ssim.specs.Inner.Walk.{totalsOn}
 use Rattle.ssim.proofs.scored.Statement.{statement}
 use Rattle.ssim.proofs.scored.Tie as tie
 
@@ -18,30 +23,35 @@ sample-max-requires c κs = search needs
 squared-requires : tie.Need-squared-requires
 squared-requires c κs = search needs
 
+grid-of-requires : tie.Need-grid-of-requires
+grid-of-requires c κs = search needs
+
+slice-aggregate-totals : tie.Need-slice-aggregate-totals
+slice-aggregate-totals c = search needs
+
+slice-aggregate-totals-2 : tie.Need-slice-aggregate-totals-2
+slice-aggregate-totals-2 c = search needs
+
 slice-relend-prefix-totals : tie.Need-slice-relend-prefix-totals
 slice-relend-prefix-totals c = search needs
 
-slice-aggregate-totals : tie.Need-slice-aggregate-totals
-slice-aggregate-totals c =
-    let s = c .before .before .before .before .before .before .before .before .before in
-    sym (length-take-le _ (now (s .args .scratch)) (rw (c .before .before .before .places .ensures) (s .pre .lent-enough)))
+slice-aggregate-totals-3 : tie.Need-slice-aggregate-totals-3
+slice-aggregate-totals-3 c =
+    let s = c .before .before .before .before .before .before .before .before .before .before .before .before in
+    let need = c .before .before .before .before .before .before .places in
+    sym (length-take-le _ (now (s .args .scratch)) (rw (need .ensures) (s .pre .lent-enough)))
 
 totals-requires : tie.Need-totals-requires
 unfolding lentTotal
 totals-requires c κs =
-    let s = c .before .before .before .before .before .before .before .before .before in
-    let e = c .before .before .before .places .ensures in
-    let long = length-take-le (c .before .before .before .places .result) (now (s .args .scratch)) (rw e (s .pre .lent-enough)) in
-    let small-a = either-small (s .args .layout .size .wide) (now (s .args .a8)) (now (s .args .a16))
-    (λ i. omega (arith, c .before .before .before .before .before .before .before .before .shared-slice-known .given i))
-    (λ i. omega (arith, c .before .before .before .before .before .before .before .shared-slice-known2 .given i)) in
-    let small-b = either-small (s .args .layout .size .wide) (now (s .args .b8)) (now (s .args .b16))
-    (λ i. omega (arith, c .before .before .before .before .before .before .shared-slice-known3 .given i))
-    (λ i. omega (arith, c .before .before .before .before .before .shared-slice-known4 .given i)) in (
-      (s .pre .width-most, s .pre .height-most, rw (long, e) (s .pre .columns-fit)),
+    let s = c .before .before .before .before .before .before .before .before .before .before .before .before in
+    let need = c .before .before .before .before .before .before .places in
+    let long = length-take-le (need .result) (now (s .args .scratch)) (rw (need .ensures) (s .pre .lent-enough)) in
+    rw (c .before .before .before .grid-of .ensures) (
+      (s .pre .width-most, s .pre .height-most, rw (long, need .ensures) (s .pre .columns-fit)),
       (
         s .pre .kernel,
-        (s .pre .total, record { first = record { long = s .pre .long-a; small = small-a }; second = record { long = s .pre .long-b; small = small-b } }),
+        (s .pre .total, λ _. subst⁻¹ (λ (p : OnGrid). Summable p) (grid-same (s .args .layout) _ _ _ _ _ _ _ refl) (s .pre .summable)),
       ),
     )
 
@@ -53,13 +63,16 @@ same-length c = search needs
 
 returns : tie.Need-returns
 returns c =
-    let s = c .before .before .before .before .before .before .before .before .before .before .before .before in
-    let need = c .before .before .before .before .before .before .places .result in
-    let e = c .before .before .before .before .before .before .places .ensures in
-    let max = c .before .before .before .before .squared .ensures in
-    let largest = c .before .before .before .before .before .sample-max .ensures in (
-      rw (c .pair .ensures, c .before .before .totals .ensures .0, max, largest),
-      rw (c .before .before .totals .ensures .1, length-take-le need (now (s .args .scratch)) (rw e (s .pre .lent-enough)), e),
+    let s = c .before .before .before .before .before .before .before .before .before .before .before .before .before .before .before in
+    let need = c .before .before .before .before .before .before .before .before .before .places in
+    let largest = c .before .before .before .before .before .before .before .before .sample-max .ensures in
+    let max = c .before .before .before .before .before .before .before .squared .ensures in
+    let grid = c .before .before .before .before .before .before .grid-of .ensures in
+    let totals = c .before .before .totals .ensures in
+    let m = maxOf (s .args .layout .size .depth) in (
+      rw (c .pair .ensures, totals .0, max, largest, grid)
+          (ap (λ (p : OnGrid). pairOf (totalsOn (double (m * m)) (now (s .args .kernel)) p (p .height))) (grid-same (s .args .layout) _ _ _ _ _ _ _ refl)),
+      rw (totals .1, length-take-le (need .result) (now (s .args .scratch)) (rw (need .ensures) (s .pre .lent-enough)), need .ensures),
     )
 
 pub scored-spec : {M : Type 1} → statement M
@@ -69,8 +82,11 @@ scored-spec =
     places-requires
     sample-max-requires
     squared-requires
-    slice-relend-prefix-totals
+    grid-of-requires
     slice-aggregate-totals
+    slice-aggregate-totals-2
+    slice-relend-prefix-totals
+    slice-aggregate-totals-3
     totals-requires
     pair-requires
     same-length

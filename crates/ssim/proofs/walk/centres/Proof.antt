@@ -4,16 +4,16 @@ use Prim.Native.Nat.{_≤_, _-_}
 use native.Mathlib.Omega.{arith}
 use borrow.Author.Needs.{needs}
 use Rattle.number.proofs.Folds.{fold-more, fold-none}
-use Rattle.window.specs.Columns.{momentsIn}
+use Rattle.window.specs.Inner.Columns.{momentsIn}
 use Rattle.ssim.specs.Score.{rowOf}
 use Rattle.ssim.proofs.walk.centres.Statement.{statement}
 use Rattle.ssim.proofs.walk.centres.Tie as tie
 
 abbrev Inv-loop : tie.InvT-loop
-Inv-loop max2 kernel total cols width down t₀ x₀ t x = (x ≤ width) × (t ≡ rowOf max2 (momentsIn kernel cols width down) t₀ x)
+Inv-loop cols width kernel total down max2 t₀ x₀ t x = (x ≤ width) × (t ≡ rowOf max2 (momentsIn kernel cols width down) t₀ x)
 
 abbrev μ-loop : tie.MeasureT-loop
-μ-loop max2 kernel total cols width down t₀ x₀ t x = width - x
+μ-loop cols width kernel total down max2 t₀ x₀ t x = width - x
 
 loop-holds : tie.Need-loop-holds Inv-loop μ-loop
 loop-holds c = (search needs, sym (fold-none _ _))

@@ -6,25 +6,25 @@ use borrow.Author.Needs.{needs}
 use borrow.Rule.Slice.PartMut.{same-len-mid}
 use denote.Ref.{now}
 use lib.ListN.{length}
-use Rattle.plane.specs.Plane.{Planes, planes, planesIn, sampleAt}
+use Rattle.plane.specs.Plane.{sampleAt}
 use Rattle.plane.proofs.Limits.{side-small}
-use Rattle.window.specs.Columns.{Margins}
+use Rattle.window.specs.Inner.Columns.{OnGrid, onGrid, onGridIn, Margins}
 use Rattle.window.proofs.Windows.{weight-le, taps-room}
 use Rattle.window.proofs.Held.{part-length, all-small, margins-kept}
-use Rattle.ssim.specs.Score.{totalsIn}
+use Rattle.ssim.specs.Inner.Walk.{totalsOn}
 use Rattle.ssim.proofs.Same.{totals-none, totals-more}
 use Rattle.ssim.proofs.walk.rows.Statement.{statement}
 use Rattle.ssim.proofs.walk.rows.Tie as tie
 
 abbrev Inv-loop : tie.InvT-loop
-Inv-loop cols₀ max2 kernel total a8 a16 b8 b16 layout width height start end t₀ y₀ cols t y =
-    (y ≤ height) × (length cols ≡ length cols₀) × Margins cols kernel width × (t ≡ totalsIn max2 kernel (planesIn layout a8 a16 b8 b16) y)
+Inv-loop a8 a16 a32 b8 b16 b32 grid kernel total max2 cols₀ width height start end t₀ y₀ cols t y =
+    (y ≤ height) × (length cols ≡ length cols₀) × Margins cols kernel width × (t ≡ totalsOn max2 kernel (onGridIn grid a8 a16 a32 b8 b16 b32) y)
 
 abbrev μ-loop : tie.MeasureT-loop
-μ-loop cols₀ max2 kernel total a8 a16 b8 b16 layout width height start end t₀ y₀ cols t y = height - y
+μ-loop a8 a16 a32 b8 b16 b32 grid kernel total max2 cols₀ width height start end t₀ y₀ cols t y = height - y
 
-abbrev both : tie.Start Inv-loop μ-loop → Planes
-both s = planes (s .args .layout) (s .args .a8) (s .args .a16) (s .args .b8) (s .args .b16)
+abbrev both : tie.Start Inv-loop μ-loop → OnGrid
+both s = onGrid (s .args .grid) (s .args .a8) (s .args .a16) (s .args .a32) (s .args .b8) (s .args .b16) (s .args .b32)
 
 mul-start : tie.Need-mul-start Inv-loop μ-loop
 mul-start c = omega (arith, side-small, taps-room)
@@ -36,7 +36,7 @@ add-end : tie.Need-add-end Inv-loop μ-loop
 add-end c = omega (arith, side-small, taps-room)
 
 loop-holds : tie.Need-loop-holds Inv-loop μ-loop
-loop-holds c = (search needs, refl, c .before .before .before .before .before .pre .1 .0, sym (totals-none _ _ _ _ _ _))
+loop-holds c = (search needs, refl, c .before .before .before .before .before .before .before .pre .1 .0, sym (totals-none _ _ _ _ _ _))
 
 mul-fill : tie.Need-mul-fill Inv-loop μ-loop
 mul-fill c = omega (arith, taps-room)
@@ -52,45 +52,48 @@ part-fill-end c = omega arith
 
 fill-requires : tie.Need-fill-requires Inv-loop μ-loop
 fill-requires c κs =
-    let s = c .before .before .before .before .before .before .before .before in
+    let s = c .before .before .before .before .before .before .before .before .before .before in
     let l = c .before .before .loop in
     let start = 5 * (length (now (s .args .kernel)) / 2) in
-    let k = start + 5 * s .args .layout .size .width - start in
+    let k = start + 5 * s .args .grid .width - start in
     let room : start + k ≤ length (l .cols) = omega arith in
-    (omega (arith, part-length start k (l .cols) room), (s .pre .1 .1 .0, s .pre .1 .1 .1 .1))
+    (omega (arith, part-length start k (l .cols) room), (s .pre .1 .1 .0, s .pre .1 .1 .1 .1 (omega arith)))
 
 weight-requires : tie.Need-weight-requires Inv-loop μ-loop
-weight-requires c κs = let s = c .before .before .before .before .before .before .before .before .before .before in (omega arith, (s .pre .1 .1 .0, s .pre .1 .1 .1 .0))
+weight-requires c κs = let s = c .before .before .before .before .before .before .before .before .before .before .before .before in (omega arith, (s .pre .1 .1 .0, s .pre .1 .1 .1 .0))
 
 centres-requires : tie.Need-centres-requires Inv-loop μ-loop
 centres-requires c κs =
-    let s = c .before .before .before .before .before .before .before .before .before .before .before .before in
+    let s = c .before .before .before .before .before .before .before .before .before .before .before .before .before .before in
     let f = c .before .before .before .fill in
+    let after = f .last .1 .1 .1 .1 .1 .1 .1 .1 .1 .0 in
+    let kept = f .kept .1 .1 .1 .1 .1 .1 .1 .1 .1 .0 in
     let l = c .before .before .before .before .before .before .loop in
     let start = 5 * (length (now (s .args .kernel)) / 2) in
-    let k = start + 5 * s .args .layout .size .width - start in
+    let k = start + 5 * s .args .grid .width - start in
     let room : start + k ≤ length (l .cols) = omega arith in
-    let same = f .kept .0 ∙ part-length start k (l .cols) room in (
+    let same = kept ∙ part-length start k (l .cols) room in
+    let small = s .pre .1 .1 .1 .1 (omega arith) in (
       omega (
         arith,
-        same-len-mid start k (l .cols) (f .last .0) (f .kept .0),
-        weight-le (now (s .args .kernel)) (s .args .layout .size .height) (l .y) (s .pre .1 .1 .0),
+        same-len-mid start k (l .cols) after kept,
+        weight-le (now (s .args .kernel)) (s .args .grid .height) (l .y) (s .pre .1 .1 .0),
       ),
       (
         s .pre .1 .1 .0,
         (
           s .pre .1 .1 .1 .0,
-          all-small (l .cols) (f .last .0) k (now (s .args .kernel)) (s .args .layout .size .width) (s .args .layout .size .height)
+          all-small (l .cols) after k (now (s .args .kernel)) (s .args .grid .width) (s .args .grid .height)
               (sampleAt (both s .a))
               (sampleAt (both s .b)) (l .y) (f .ensures) (l .inv .2) (omega arith) (omega arith) same
-              (s .pre .1 .1 .0) (λ r x. s .pre .1 .1 .1 .1 .first .small _) (λ r x. s .pre .1 .1 .1 .1 .second .small _),
+              (s .pre .1 .1 .0) (small .first .small) (small .second .small),
         ),
       ),
     )
 
 add-y : tie.Need-add-y Inv-loop μ-loop
 add-y c =
-    let s = c .before .before .before .before .before .before .before .before .before .before .before .before .before in
+    let s = c .before .before .before .before .before .before .before .before .before .before .before .before .before .before .before in
     omega (arith, side-small, s .pre .0)
 
 loop-less : tie.Need-loop-less Inv-loop μ-loop
@@ -98,23 +101,25 @@ loop-less c = search needs
 
 loop-again : tie.Need-loop-again Inv-loop μ-loop
 loop-again c =
-    let s = c .before .before .before .before .before .before .before .before .before .before .before .before .before in
+    let s = c .before .before .before .before .before .before .before .before .before .before .before .before .before .before .before in
     let f = c .before .before .before .before .fill in
+    let after = f .last .1 .1 .1 .1 .1 .1 .1 .1 .1 .0 in
+    let kept = f .kept .1 .1 .1 .1 .1 .1 .1 .1 .1 .0 in
     let l = c .before .before .before .before .before .before .before .loop in
     let start = 5 * (length (now (s .args .kernel)) / 2) in
-    let k = start + 5 * s .args .layout .size .width - start in
+    let k = start + 5 * s .args .grid .width - start in
     let room : start + k ≤ length (l .cols) = omega arith in
-    let same = f .kept .0 ∙ part-length start k (l .cols) room in (
+    let same = kept ∙ part-length start k (l .cols) room in (
       search needs,
-      same-len-mid start k (l .cols) (f .last .0) (f .kept .0) ∙ l .inv .1,
-      margins-kept (l .cols) (f .last .0) k (now (s .args .kernel)) (s .args .layout .size .width) (s .args .layout .size .height)
+      same-len-mid start k (l .cols) after kept ∙ l .inv .1,
+      margins-kept (l .cols) after k (now (s .args .kernel)) (s .args .grid .width) (s .args .grid .height)
           (sampleAt (both s .a))
           (sampleAt (both s .b)) (l .y) (f .ensures) (l .inv .2) (omega arith) (omega arith) same,
       rw (c .centres .ensures, c .before .before .weight .ensures, l .inv .3)
-          (totals-more (s .args .max2) (now (s .args .kernel)) (s .args .layout .size .width) (s .args .layout .size .height)
+          (totals-more (s .args .max2) (now (s .args .kernel)) (s .args .grid .width) (s .args .grid .height)
           (sampleAt (both s .a))
           (sampleAt (both s .b))
-          (l .cols) (f .last .0) k (l .y) (f .ensures) (l .inv .2) (omega arith) (omega arith) same),
+          (l .cols) after k (l .y) (f .ensures) (l .inv .2) (omega arith) (omega arith) same),
     )
 
 same-length : tie.Need-same-length Inv-loop μ-loop
@@ -122,7 +127,7 @@ same-length c = c .before .loop .inv .1
 
 returns : tie.Need-returns Inv-loop μ-loop
 returns c =
-    let e : c .before .loop .y ≡ c .before .before .before .before .before .before .before .args .layout .size .height = omega arith in
+    let e : c .before .loop .y ≡ c .before .before .before .before .before .before .before .before .before .args .grid .height = omega arith in
     rw e at (c .before .loop .inv .3)
 
 pub rows-spec : {M : Type 1} → statement M

@@ -15,7 +15,7 @@ clear-requires c κs = search needs
 
 rows-requires : tie.Need-rows-requires
 rows-requires c κs =
-    let s = c .before .before .before .before .before .before .before .before .before in (
+    let s = c .before .before .before .before .before .before .before .before .before .before .before in (
       omega (arith, c .before .before .clear .kept .0),
       (margins-zero (c .before .before .clear .last .0) (length (now (s .args .scratch))) _ _ (c .before .before .clear .ensures), s .pre .1),
     )
@@ -29,7 +29,7 @@ same-length c = search needs
 returns : tie.Need-returns
 returns c = (
   c .before .before .before .before .rows .ensures,
-  c .before .clear2 .ensures ∙ ap (λ (n : ℕ). replicate n (pos 0)) (c .before .before .before .before .rows .kept .0 ∙ c .before .before .before .before .before .before .before .clear .kept .0),
+  c .before .clear2 .ensures ∙ ap (λ (n : ℕ). replicate n (pos 0)) (c .before .before .before .before .rows .kept .1 .1 .1 .1 .1 .1 .1 .1 .1 .1 .0 ∙ c .before .before .before .before .before .before .before .clear .kept .0),
 )
 
 pub totals-spec : {M : Type 1} → statement M

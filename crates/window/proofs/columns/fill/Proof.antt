@@ -1,61 +1,60 @@
 -- `window::columns::fill` meets its contract: the columns before x stand there. Assumes nothing.
 use mathlib.Core.Path.{_≡_, refl, _∙_}
-use Prim.Native.Nat.{ℕ, _≤_, _-_, _*_}
+use Prim.Native.Nat.{_≤_, _<_, _-_, _*_}
 use native.Mathlib.Omega.{arith}
 use borrow.Author.Needs.{needs}
 use denote.Ref.{now}
 use lib.ListN.{length}
-use Rattle.plane.specs.Plane.{Planes, planes, planesIn, sampleAt}
-use Rattle.window.specs.Parts.{quantOf}
-use Rattle.window.specs.Columns.{HoldsRow}
-use Rattle.window.proofs.Five.{quant-le, parts-low}
+use Rattle.plane.specs.Plane.{sampleAt}
+use Rattle.plane.proofs.Limits.{side-small}
+use Rattle.window.specs.Inner.Columns.{OnGrid, onGrid, onGridIn, HoldsRow}
+use Rattle.window.proofs.Column.{column-fits}
 use Rattle.window.proofs.Held.{holds-none, holds-more}
 use Rattle.window.proofs.columns.fill.Statement.{statement}
 use Rattle.window.proofs.columns.fill.Tie as tie
 
 abbrev Inv-loop : tie.InvT-loop
-Inv-loop cols₀ kernel a8 a16 b8 b16 layout y x₀ x-end cols x =
-    (x ≤ layout .size .width) × (length cols ≡ length cols₀) × HoldsRow cols (5 * x) kernel (planesIn layout a8 a16 b8 b16) y
+Inv-loop a8 a16 a32 b8 b16 b32 grid kernel y cols₀ x₀ x-end cols x =
+    (x ≤ grid .width) × (length cols ≡ length cols₀) × HoldsRow cols (5 * x) kernel (onGridIn grid a8 a16 a32 b8 b16 b32) y
 
 abbrev μ-loop : tie.MeasureT-loop
-μ-loop cols₀ kernel a8 a16 b8 b16 layout y x₀ x-end cols x = layout .size .width - x
+μ-loop a8 a16 a32 b8 b16 b32 grid kernel y cols₀ x₀ x-end cols x = grid .width - x
 
-abbrev both : tie.Start Inv-loop μ-loop → Planes
-both s = planes (s .args .layout) (s .args .a8) (s .args .a16) (s .args .b8) (s .args .b16)
+abbrev both : tie.Start Inv-loop μ-loop → OnGrid
+both s = onGrid (s .args .grid) (s .args .a8) (s .args .a16) (s .args .a32) (s .args .b8) (s .args .b16) (s .args .b32)
 
 loop-holds : tie.Need-loop-holds Inv-loop μ-loop
 loop-holds c = (search needs, refl, holds-none _ _ _ _ _ 0 _)
 
 column-requires : tie.Need-column-requires Inv-loop μ-loop
-column-requires c κs = (omega arith, c .before .before .before .before .before .before .before .pre .1)
+column-requires c κs = (omega arith, c .before .before .before .before .before .before .before .before .before .pre .1)
 
 mul-put : tie.Need-mul-put Inv-loop μ-loop
-mul-put c = search needs
+mul-put c = omega (arith, side-small)
 
 put-requires : tie.Need-put-requires Inv-loop μ-loop
 put-requires c κs =
-    let s = c .before .before .before .before .before .before .before .before .before in
-    let a = sampleAt (both s .a) in
-    let b = sampleAt (both s .b) in
-    let x = c .before .before .before .loop .x in (
+    let s = c .before .before .before .before .before .before .before .before .before .before .before in
+    let x = c .before .before .before .loop .x in
+    let in-width : x < s .args .grid .width = omega arith in (
       omega arith,
-      parts-low _ _ (λ (m r : ℕ). quantOf m (a r x) (b r x)) _ _ (c .before .column .ensures) (s .pre .1 .0)
-          (λ m k l n o. quant-le m _ _ (s .pre .1 .1 .first .small _) (s .pre .1 .1 .second .small _)),
+      column-fits (now (s .args .kernel)) (s .args .grid .height) (sampleAt (both s .a)) (sampleAt (both s .b)) x (s .args .y) _ (c .before .column .ensures) (s .pre .1 .0)
+          (λ r l. s .pre .1 .1 .first .small r x l in-width) (λ r l. s .pre .1 .1 .second .small r x l in-width),
     )
 
 add-x : tie.Need-add-x Inv-loop μ-loop
-add-x c = search needs
+add-x c = omega (arith, side-small)
 
 loop-less : tie.Need-loop-less Inv-loop μ-loop
 loop-less c = search needs
 
 loop-again : tie.Need-loop-again Inv-loop μ-loop
 loop-again c =
-    let s = c .before .before .before .before .before .before .before .before .before .before .before in
+    let s = c .before .before .before .before .before .before .before .before .before .before .before .before .before in
     let l = c .before .before .before .before .before .loop in (
       search needs,
-      c .before .put .kept .0 ∙ l .inv .1,
-      holds-more (now (s .args .kernel)) (s .args .layout .size .height) (sampleAt (both s .a)) (sampleAt (both s .b)) (s .args .y) (l .x) (l .cols) _ _
+      c .before .put .kept .1 .1 .0 ∙ l .inv .1,
+      holds-more (now (s .args .kernel)) (s .args .grid .height) (sampleAt (both s .a)) (sampleAt (both s .b)) (s .args .y) (l .x) (l .cols) _ _
           (c .before .put .ensures) (c .before .before .before .column .ensures) (l .inv .2) (omega arith),
     )
 
@@ -64,7 +63,7 @@ same-length c = c .before .loop .inv .1
 
 returns : tie.Need-returns Inv-loop μ-loop
 returns c =
-    let e : c .before .loop .x ≡ c .before .before .before .before .before .before .before .args .layout .size .width = omega arith in
+    let e : c .before .loop .x ≡ c .before .before .before .before .before .before .before .before .before .args .grid .width = omega arith in
     rw e at (c .before .loop .inv .2)
 
 pub fill-spec : {M : Type 1} → statement M

@@ -5,18 +5,18 @@ use native.Mathlib.Omega.{arith}
 use borrow.Author.Needs.{needs}
 use denote.Ref.{now}
 use lib.ListN.{length}
-use Rattle.window.specs.Parts.{foldsOf}
-use Rattle.window.specs.Columns.{cellOf}
+use Rattle.window.specs.Inner.Parts.{foldsOf}
+use Rattle.window.specs.Inner.Columns.{cellOf}
 use Rattle.window.proofs.Five.{nth-five}
 use Rattle.window.proofs.Folded.{folds-none, folds-more, folds-all, middle-room, folds-room}
 use Rattle.window.proofs.row.along.Statement.{statement}
 use Rattle.window.proofs.row.along.Tie as tie
 
 abbrev Inv-loop : tie.InvT-loop
-Inv-loop kernel cols n x off t₀ k₀ t k = (k ≤ length kernel / 2) × (t ≡ foldsOf kernel (cellOf cols) x k)
+Inv-loop cols n kernel x off t₀ k₀ t k = (k ≤ length kernel / 2) × (t ≡ foldsOf kernel (cellOf cols) x k)
 
 abbrev μ-loop : tie.MeasureT-loop
-μ-loop kernel cols n x off t₀ k₀ t k = length kernel / 2 - k
+μ-loop cols n kernel x off t₀ k₀ t k = length kernel / 2 - k
 
 none-requires : tie.Need-none-requires Inv-loop μ-loop
 none-requires c κs = search needs

@@ -5,7 +5,7 @@ use denote.Ref.{now}
 use lib.IntN.{natAbs}
 use mir.Syntax.{w64}
 use mir.ValLaws.{toZ-ofZ}
-use Rattle.window.specs.Columns.{atZ}
+use Rattle.window.specs.Inner.Columns.{atZ}
 use Rattle.window.proofs.row.get.Statement.{statement}
 use Rattle.window.proofs.row.get.Tie as tie
 

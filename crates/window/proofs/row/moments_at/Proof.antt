@@ -3,7 +3,7 @@ use native.Mathlib.Nat.{mul-le-mul}
 use native.Mathlib.Omega.{arith}
 use borrow.Author.Needs.{needs}
 use denote.Ref.{now}
-use Rattle.window.specs.Columns.{momentsIn}
+use Rattle.window.specs.Inner.Columns.{momentsIn}
 use Rattle.window.proofs.Windows.{weight-le, total-room}
 use Rattle.window.proofs.row.moments_at.Statement.{statement}
 use Rattle.window.proofs.row.moments_at.Tie as tie

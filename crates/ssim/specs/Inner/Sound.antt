@@ -5,11 +5,11 @@ use mathlib.Core.Path.{_≡_}
 use Prim.Native.Nat.{ℕ, _*_, _≤_, _<_}
 use lib.ListN.{length}
 use Rattle.plane.specs.Limits.{sideLimit}
-use Rattle.plane.specs.Plane.{Planes, Long}
+use Rattle.plane.specs.Plane.{Planes}
 use Rattle.plane.specs.Sums.{sumTo}
 use Rattle.window.specs.Kernel.{tap, mostTaps, lentTotal}
-use Rattle.window.specs.Parts.{Kernel}
-use Rattle.window.specs.Columns.{columnsOf}
+use Rattle.window.specs.Inner.Parts.{Kernel}
+use Rattle.window.specs.Inner.Columns.{gridded, Summable, columnsOf}
 use Rattle.ssim.specs.Scratch.{placesOf}
 
 pub record Sound (p : Planes) (ker : List ℕ) (lent : ℕ) : Type 0 where
@@ -20,7 +20,6 @@ pub record Sound (p : Planes) (ker : List ℕ) (lent : ℕ) : Type 0 where
   pub depth-most : p .size .depth < 32
   pub kernel : Kernel ker
   pub total : lentTotal ≡ sumTo (tap ker) (length ker)
-  pub long-a : Long (p .size) (p .a)
-  pub long-b : Long (p .size) (p .b)
+  pub summable : Summable (gridded p)
   pub lent-enough : placesOf (p .size .width) (length ker) ≤ lent
   pub columns-fit : 5 * columnsOf ker (p .size .width) ≤ placesOf (p .size .width) (length ker)

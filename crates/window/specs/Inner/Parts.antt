@@ -6,9 +6,8 @@ use Prim.Native.Nat.{ℕ, zero, suc, _+_, _-_, _*_, _/_, _≤_, _<_, _^_}
 use lib.ListN.{length}
 use Rattle.plane.specs.Sums.{sumTo}
 use Rattle.window.specs.Kernel.{tap, mostTaps, fixedTotal}
-use Rattle.window.specs.Moments.{inside, muxAt, muyAt, x2At, xyAt, y2At, wAt}
-use Rattle.window.specs.declared.Sums.{Sums}
-use Rattle.window.specs.declared.Moments.{Moments}
+use Rattle.window.specs.Moments.{inside}
+use Rattle.window.specs.declared.FiveSums.{FiveSums}
 
 -- ---- one window
 
@@ -52,11 +51,11 @@ quantOf (suc (suc (suc zero))) a b = a * b
 quantOf (suc (suc (suc (suc m)))) a b = b * b
 
 -- the five numbers that g gives at 0 to 4
-abbrev pub fiveOf : (ℕ → ℕ) → Sums
+abbrev pub fiveOf : (ℕ → ℕ) → FiveSums
 fiveOf g = record { mux = g 0; muy = g 1; x2 = g 2; xy = g 3; y2 = g 4 }
 
 -- number m of five
-abbrev pub nth : Sums → ℕ → ℕ
+abbrev pub nth : FiveSums → ℕ → ℕ
 nth t zero = t .mux
 nth t (suc zero) = t .muy
 nth t (suc (suc zero)) = t .x2
@@ -64,29 +63,17 @@ nth t (suc (suc (suc zero))) = t .xy
 nth t (suc (suc (suc (suc m)))) = t .y2
 
 -- one tap more of each
-abbrev pub tappedOf : Sums → ℕ → (ℕ → ℕ) → Sums
+abbrev pub tappedOf : FiveSums → ℕ → (ℕ → ℕ) → FiveSums
 tappedOf t k g = fiveOf (λ (m : ℕ). nth t m + k * g m)
 
 -- and there is room for it
-abbrev pub Room : Sums → ℕ → (ℕ → ℕ) → Type 0
+abbrev pub Room : FiveSums → ℕ → (ℕ → ℕ) → Type 0
 Room t k g = (m : ℕ) → m < 5 → nth t m + k * g m < 2 ^ 64
 
 -- the first n taps over five functions
-unfoldable pub partsOf : List ℕ → ℕ → (ℕ → ℕ → ℕ) → ℕ → ℕ → Sums
+unfoldable pub partsOf : List ℕ → ℕ → (ℕ → ℕ → ℕ) → ℕ → ℕ → FiveSums
 partsOf ker side f x n = fiveOf (λ (m : ℕ). partOf ker side (f m) x n)
 
 -- five folded sums
-unfoldable pub foldsOf : List ℕ → (ℕ → ℕ → ℕ) → ℕ → ℕ → Sums
+unfoldable pub foldsOf : List ℕ → (ℕ → ℕ → ℕ) → ℕ → ℕ → FiveSums
 foldsOf ker g x n = fiveOf (λ (m : ℕ). foldedOf ker (g m) x n)
-
--- ---- the six at a centre, of two views a and b
-abbrev pub momentsAt : List ℕ → ℕ → ℕ → (ℕ → ℕ → ℕ) → (ℕ → ℕ → ℕ) → ℕ → ℕ → Moments
-momentsAt ker width height a b x y =
-    record {
-      mux = muxAt ker width height a b x y;
-      muy = muyAt ker width height a b x y;
-      x2 = x2At ker width height a b x y;
-      xy = xyAt ker width height a b x y;
-      y2 = y2At ker width height a b x y;
-      w = wAt ker width height a b x y;
-    }

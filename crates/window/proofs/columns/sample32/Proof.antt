@@ -1,9 +1,9 @@
--- `window::columns32::sample32` meets its contract. Assumes nothing.
+-- `window::columns::sample32` meets its contract. Assumes nothing.
 use Prim.Native.Nat.{_+_, _*_}
 use native.Mathlib.Omega.{arith}
 use borrow.Author.Needs.{needs}
-use Rattle.window.proofs.columns32.sample32.Statement.{statement}
-use Rattle.window.proofs.columns32.sample32.Tie as tie
+use Rattle.window.proofs.columns.sample32.Statement.{statement}
+use Rattle.window.proofs.columns.sample32.Tie as tie
 
 mul-result : tie.Need-mul-result
 mul-result c = search needs
