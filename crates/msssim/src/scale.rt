@@ -16,8 +16,10 @@ use window::Samples;
 
 // What the taps of the fixed kernel sum to.
 const FIXED_TOTAL: u64 = 1024;
+// The columns of zeros on both sides of a row: half of its nine taps, twice.
+const MARGINS: usize = 8;
 
-// The sums over every centre of a scale, under the fixed kernel. What an earlier scale left in the margins is cleared first.
+// The sums over every centre of a scale, under the fixed kernel. The scale takes as many places as it has columns, and leaves them zero.
 fn sums(cols: &mut [i64], a: &[u32], b: &[u32], max: u32, width: usize, height: usize) -> Totals
     requires { ⌜ (width ≤ sideLimit) × (height ≤ sideLimit) × (5 * columnsOf fixedKernel width ≤ length (now cols)) × (max ≤ mostSample) ⌝ }
     requires { ⌜ Held max width height (now a) ⌝ }
@@ -26,6 +28,7 @@ fn sums(cols: &mut [i64], a: &[u32], b: &[u32], max: u32, width: usize, height: 
         (sampleAt (planeOf (now (b .entry)) width))) ⌝ }
 {
     let kernel = [8u16, 37, 112, 218, 274, 218, 112, 37, 8];
+    let need = 5 * (width + MARGINS);
     let max2 = ssim::score::squared(max);
     let grid = Grid {
         samples: Samples::Longs,
@@ -34,8 +37,7 @@ fn sums(cols: &mut [i64], a: &[u32], b: &[u32], max: u32, width: usize, height: 
         stride_a: width,
         stride_b: width,
     };
-    ssim::walk::clear(cols);
-    ssim::walk::rows(
+    ssim::walk::totals(
         &[0u8; 0],
         &[0u16; 0],
         a,
@@ -46,7 +48,7 @@ fn sums(cols: &mut [i64], a: &[u32], b: &[u32], max: u32, width: usize, height: 
         &kernel,
         FIXED_TOTAL,
         max2,
-        cols,
+        &mut cols[..need],
     )
 }
 

@@ -51,7 +51,7 @@ pub fn clear(s: &mut [i64])
 }
 
 // Every row: its column sums, between the margins of zeros that stand there, then its centres.
-pub fn rows(
+fn rows(
     a8: &[u8],
     a16: &[u16],
     a32: &[u32],
