@@ -1,1 +1,2 @@
-pub mod Rooms
+pub mod Stored
+pub mod Summed

@@ -1,2 +1,2 @@
 pub mod Summed
-pub mod Rooms
+pub mod Inner

@@ -1,4 +1,4 @@
--- SCOPE, "HVS, SSIM and scales": "each scale is made from the one above by summing 2×2 samples". Definitions only.
+-- SCOPE, "HVS, SSIM and scales": each scale is made from the one above by summing 2×2 samples. Definitions only.
 use Prim.Native.Nat.{ℕ, _+_, _*_}
 
 -- what stands at row r and column c of the scale below a view

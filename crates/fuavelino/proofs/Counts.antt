@@ -1,19 +1,11 @@
 -- The counts of places where the sides and taps are taken, and where they are not. Assumes nothing.
 use mathlib.Core.Path.{_≡_, refl}
 use mathlib.Core.Bool.{Bool, true, false, _&&_, cond}
-use Prim.Native.Nat.{ℕ, _≤_, _<_, _*_, _^_}
-use native.Mathlib.Nat.{mul-le-mul, lt-of-le-of-lt}
-use native.Mathlib.Omega.{arith}
+use Prim.Native.Nat.{ℕ, _≤_}
 use borrow.Author.Tests.{leb-true}
-use lib.Dec.{leb, lit≤}
+use lib.Dec.{leb}
 use Rattle.refusal.proofs.Chain.{and-left, and-right}
-use Rattle.plane.specs.Limits.{sideLimit}
-use Rattle.plane.proofs.Limits.{side-small}
-use Rattle.window.specs.Kernel.{mostTaps}
-use Rattle.number.specs.Steps as steps
-use Rattle.ssim.specs.Scratch as ssim
-use Rattle.msssim.specs.Answer as msssim
-use Rattle.fuavelino.specs.Places.{within, ssimPlaces, msssimPlaces, msssimSamples}
+use Rattle.fuavelino.specs.Places.{within}
 
 pub within-says : (least most n : ℕ) → within least most n ≡ true → (least ≤ n) × (n ≤ most)
 unfolding within
@@ -27,15 +19,6 @@ both-say a b x c d y e = (within-says a b x (and-left _ _ e), within-says c d y 
 pub tested : {r s a b v : Bool} → r ≡ a → s ≡ b → (r && s) ≡ v → (a && b) ≡ v
 tested e f h = rw (e, f) at h
 
--- the nine taps of MS-SSIM's kernel
-pub nine-taken : (1 ≤ 9) × (9 ≤ mostTaps)
-unfolding mostTaps
-nine-taken = (lit≤ tt, lit≤ tt)
-
-pub nine-lines : (width : ℕ) → ssim.placesOf width 9 ≡ msssim.placesOf width
-unfolding ssim.linesOf ssim.grownOf steps.foldTo
-nine-lines width = refl
-
 -- ---- a count is given where a test passed, and 0 where it failed
 pub given : (t : Bool) (x : ℕ) → t ≡ true → x ≡ cond t x 0
 given true x e = refl
@@ -44,10 +27,3 @@ given false x e = cc
 pub not-given : (t : Bool) (x : ℕ) → t ≡ false → 0 ≡ cond t x 0
 not-given true x e = cc
 not-given false x e = refl
-
--- a room of lawful sides fits
-pub room-fits : (width height : ℕ) → width ≤ sideLimit → height ≤ sideLimit → width * height < 2 ^ 64
-room-fits width height w h =
-    let wide : width ≤ 2 ^ 14 = omega (arith, w, side-small) in
-    let high : height ≤ 2 ^ 14 = omega (arith, h, side-small) in
-    omega (arith, mul-le-mul wide high)

@@ -5,7 +5,8 @@ use lib.Dec.{leb}
 use Rattle.plane.specs.Limits.{sideLimit}
 use Rattle.window.specs.Kernel.{mostTaps}
 use Rattle.ssim.specs.Scratch as ssim
-use Rattle.msssim.specs.Answer as msssim
+use Rattle.msssim.specs.Scratch.{placesNeeded, samplesNeeded}
+use Rattle.msssim.specs.Answer.{leastSide}
 
 -- from the least to the most, both included
 unfoldable pub within : ℕ → ℕ → ℕ → Bool
@@ -17,7 +18,7 @@ ssimPlaces width taps = cond (within 1 sideLimit width && within 1 mostTaps taps
 
 -- MS-SSIM: the 64-bit places, and the 32-bit places of each plane
 unfoldable pub msssimPlaces : ℕ → ℕ
-msssimPlaces width = cond (within msssim.leastSide sideLimit width) (msssim.placesOf width) 0
+msssimPlaces width = cond (within leastSide sideLimit width) (placesNeeded width) 0
 
 unfoldable pub msssimSamples : ℕ → ℕ → ℕ
-msssimSamples width height = cond (within msssim.leastSide sideLimit width && within msssim.leastSide sideLimit height) (msssim.roomOf width height) 0
+msssimSamples width height = cond (within leastSide sideLimit width && within leastSide sideLimit height) (samplesNeeded width height) 0

@@ -3,7 +3,8 @@
 ghost use mathlib.Core.Path.{_≡_};
 ghost use mathlib.Core.Bool.{true, false};
 ghost use Rattle.plane.specs.Plane.{called};
-ghost use Rattle.msssim.specs.Answer.{lentOf, refusalOf, msssimOf, lentAfter};
+ghost use Rattle.msssim.specs.Scratch.{scratchOf};
+ghost use Rattle.msssim.specs.Answer.{msssimOf, scratchAfter};
 ghost use Rattle.fuavelino.specs.Msssim.{msssimNumber, pairsWritten};
 use msssim::MsSsim;
 
@@ -48,13 +49,11 @@ pub extern "C" fn fuavelino_msssim8(
     pairs: &mut [f64; 10],
 ) -> u8
     ensures { λ r. ⌜ r ≡ msssimNumber (msssimOf (called false (a .entry) (b .entry) width height «stride_a» «stride_b» depth)
-        (lentOf (now (scratch .entry)) (now («room_a» .entry)) (now («room_b» .entry)))) ⌝ }
-    ensures { λ _. ⌜ lentOf (now (scratch .exit)) (now («room_a» .exit)) (now («room_b» .exit)) ≡ lentAfter
-        (refusalOf (called false (a .entry) (b .entry) width height «stride_a» «stride_b» depth)
-        (lentOf (now (scratch .entry)) (now («room_a» .entry)) (now («room_b» .entry))))
-        width height (lentOf (now (scratch .entry)) (now («room_a» .entry)) (now («room_b» .entry))) ⌝ }
+        (scratchOf (scratch .entry) («room_a» .entry) («room_b» .entry))) ⌝ }
+    ensures { λ _. ⌜ scratchOf (scratch .exit) («room_a» .exit) («room_b» .exit) ≡ scratchAfter (called false (a .entry) (b .entry)
+        width height «stride_a» «stride_b» depth) (scratchOf (scratch .entry) («room_a» .entry) («room_b» .entry)) ⌝ }
     ensures { λ _. ⌜ now (pairs .exit) ≡ pairsWritten (msssimOf (called false (a .entry) (b .entry) width height «stride_a» «stride_b» depth)
-        (lentOf (now (scratch .entry)) (now («room_a» .entry)) (now («room_b» .entry)))) (now (pairs .entry)) ⌝ }
+        (scratchOf (scratch .entry) («room_a» .entry) («room_b» .entry))) (now (pairs .entry)) ⌝ }
 {
     let answer = msssim::msssim8(
         a,
@@ -87,13 +86,11 @@ pub extern "C" fn fuavelino_msssim16(
     pairs: &mut [f64; 10],
 ) -> u8
     ensures { λ r. ⌜ r ≡ msssimNumber (msssimOf (called true (a .entry) (b .entry) width height «stride_a» «stride_b» depth)
-        (lentOf (now (scratch .entry)) (now («room_a» .entry)) (now («room_b» .entry)))) ⌝ }
-    ensures { λ _. ⌜ lentOf (now (scratch .exit)) (now («room_a» .exit)) (now («room_b» .exit)) ≡ lentAfter
-        (refusalOf (called true (a .entry) (b .entry) width height «stride_a» «stride_b» depth)
-        (lentOf (now (scratch .entry)) (now («room_a» .entry)) (now («room_b» .entry))))
-        width height (lentOf (now (scratch .entry)) (now («room_a» .entry)) (now («room_b» .entry))) ⌝ }
+        (scratchOf (scratch .entry) («room_a» .entry) («room_b» .entry))) ⌝ }
+    ensures { λ _. ⌜ scratchOf (scratch .exit) («room_a» .exit) («room_b» .exit) ≡ scratchAfter (called true (a .entry) (b .entry)
+        width height «stride_a» «stride_b» depth) (scratchOf (scratch .entry) («room_a» .entry) («room_b» .entry)) ⌝ }
     ensures { λ _. ⌜ now (pairs .exit) ≡ pairsWritten (msssimOf (called true (a .entry) (b .entry) width height «stride_a» «stride_b» depth)
-        (lentOf (now (scratch .entry)) (now («room_a» .entry)) (now («room_b» .entry)))) (now (pairs .entry)) ⌝ }
+        (scratchOf (scratch .entry) («room_a» .entry) («room_b» .entry))) (now (pairs .entry)) ⌝ }
 {
     let answer = msssim::msssim16(
         a,

@@ -3,11 +3,6 @@
 ghost use mathlib.Core.Path.{_≡_};
 ghost use Rattle.fuavelino.specs.Places.{within, ssimPlaces, msssimPlaces, msssimSamples};
 
-// The least side of MS-SSIM, and the taps of its kernel.
-const LEAST_SIDE: usize = 16;
-
-const TAPS: usize = 9;
-
 fn is_within(least: usize, most: usize, n: usize) -> bool
     ensures { λ r. ⌜ r ≡ within least most n ⌝ }
 {
@@ -31,22 +26,22 @@ pub extern "C" fn fuavelino_ssim_places(width: usize, taps: usize) -> usize
 pub extern "C" fn fuavelino_msssim_places(width: usize) -> usize
     ensures { λ r. ⌜ r ≡ msssimPlaces width ⌝ }
 {
-    if is_within(LEAST_SIDE, plane::SIDE_LIMIT, width) {
-        ssim::places(width, TAPS)
+    if is_within(msssim::LEAST_SIDE, plane::SIDE_LIMIT, width) {
+        msssim::places_needed(width)
     } else {
         0
     }
 }
 
-// The 32-bit places of MS-SSIM's room for each plane; 0 where a side is not 16 to 8,192.
+// The 32-bit places of MS-SSIM's scratch for each plane; 0 where a side is not 16 to 8,192.
 #[no_mangle]
 pub extern "C" fn fuavelino_msssim_samples(width: usize, height: usize) -> usize
     ensures { λ r. ⌜ r ≡ msssimSamples width height ⌝ }
 {
-    if is_within(LEAST_SIDE, plane::SIDE_LIMIT, width)
-        & is_within(LEAST_SIDE, plane::SIDE_LIMIT, height)
+    if is_within(msssim::LEAST_SIDE, plane::SIDE_LIMIT, width)
+        & is_within(msssim::LEAST_SIDE, plane::SIDE_LIMIT, height)
     {
-        width * height
+        msssim::samples_needed(width, height)
     } else {
         0
     }

@@ -1,11 +1,11 @@
--- Demand 3 at the five scales: the samples k scales below the first are at most sample_max × 4^k, so the laws of the window's sums hold at
--- every centre of every scale. Assumes nothing.
+-- The third demand at the five scales: no scale of accepted planes is empty, and the samples k scales below the first are at most
+-- sample_max × 4^k, so the laws of the window's sums hold at every centre of every scale. Assumes nothing.
 use mathlib.Core.Path.{_≡_, refl, sym, _∙_}
 use mathlib.Core.Bool.{Bool, true, false}
 use Prim.Native.Nat.{ℕ, zero, suc, _+_, _*_, _/_, _^_, _≤_, _<_}
-use native.Mathlib.Nat.{le-trans, pow-suc, mul-one}
+use native.Mathlib.Nat.{le-trans, pow-suc, mul-one, pow-le-pow-right}
 use native.Mathlib.Omega.{arith}
-use lib.Dec.{lit≤}
+use lib.Dec.{lit≤, lit<}
 use lib.Ieee.{nan}
 use lib.ListN.{getD}
 use Rattle.plane.specs.Limits.{mostDepth}
@@ -13,41 +13,35 @@ use Rattle.plane.specs.Plane.{Planes}
 use Rattle.plane.specs.Inner.Lawful.{AcceptedPair}
 use Rattle.window.specs.Kernel.{fixedKernel, fixedTotal}
 use Rattle.window.proofs.Demand.{Bounded, Demanded, scales, scaleMax, fixed-sums}
-use Rattle.downscale.specs.Summed.{summedOf}
-use Rattle.msssim.specs.Scale.{Scale, scaleCount, belowOf, scaleAt, sumsOf, ssimOf, csOf, pairsFrom}
+use Rattle.downscale.proofs.Summed.{summed-most}
+use Rattle.msssim.specs.Scale.{Scale, scaleCount, belowOf, scaleAt, scaleTotals, meanSsim, meanCs, pairsFrom}
 use Rattle.msssim.specs.Answer.{leastSide, firstScale}
 
--- ---- one scale
+-- ---- k scales below a scale
 
 -- no sample of either plane is above the scale's largest
-abbrev pub Small : Scale → Type 0
+abbrev Small : Scale → Type 0
 Small s = Bounded (s .max) (s .width) (s .height) (s .a) × Bounded (s .max) (s .width) (s .height) (s .b)
 
-summed-most : (B width height : ℕ) (v : ℕ → ℕ → ℕ) → Bounded B width height v → Bounded (4 * B) (width / 2) (height / 2) (summedOf v)
-summed-most B width height v h r c k l =
-    omega (
-      arith,
-      h (2 * r) (2 * c) (omega arith) (omega arith),
-      h (2 * r) (2 * c + 1) (omega arith) (omega arith),
-      h (2 * r + 1) (2 * c) (omega arith) (omega arith),
-      h (2 * r + 1) (2 * c + 1) (omega arith) (omega arith),
-    )
-
--- ---- k scales below
-
-pub scale-small : (k : ℕ) (s : Scale) → Small s → Small (scaleAt s k)
+scale-small : (k : ℕ) (s : Scale) → Small s → Small (scaleAt s k)
 unfolding scaleAt
 scale-small zero s h = h
 scale-small (suc k) s h = scale-small k (belowOf s) (summed-most _ _ _ (s .a) (h .0), summed-most _ _ _ (s .b) (h .1))
 
-pub scale-max : (k : ℕ) (s : Scale) → scaleAt s k .max ≡ s .max * 4 ^ k
+scale-max : (k : ℕ) (s : Scale) → scaleAt s k .max ≡ s .max * 4 ^ k
 unfolding scaleAt
 scale-max zero s = sym (mul-one (s .max))
 scale-max (suc k) s = scale-max k (belowOf s) ∙ rw (pow-suc 4 k) (omega arith)
 
+-- sides of 2^k are left with 1
+scale-sides : (k : ℕ) (s : Scale) → 2 ^ k ≤ s .width → 2 ^ k ≤ s .height → (1 ≤ scaleAt s k .width) × (1 ≤ scaleAt s k .height)
+unfolding scaleAt
+scale-sides zero s w h = (w, h)
+scale-sides (suc k) s w h = scale-sides k (belowOf s) (omega (arith, w, pow-suc 2 k)) (omega (arith, h, pow-suc 2 k))
+
 -- the pairs are those of these scales
 pub pairs-at : (n k : ℕ) (s : Scale) → k < n
-    → (getD (pairsFrom n s) (2 * k) nan ≡ ssimOf (sumsOf (scaleAt s k))) × (getD (pairsFrom n s) (2 * k + 1) nan ≡ csOf (sumsOf (scaleAt s k)))
+    → (getD (pairsFrom n s) (2 * k) nan ≡ meanSsim (scaleTotals (scaleAt s k))) × (getD (pairsFrom n s) (2 * k + 1) nan ≡ meanCs (scaleTotals (scaleAt s k)))
 unfolding pairsFrom scaleAt
 pairs-at zero k s l = absurd (omega arith)
 pairs-at (suc n) zero s l = (refl, refl)
@@ -65,7 +59,15 @@ module _ (p : Planes) (k : ℕ) (c : AcceptedPair p leastSide) where
   abbrev at-scale : Scale
   at-scale = scaleAt (firstScale p) k
 
-  -- "The samples at scale k stay below sample_max × 4^(k-1) + 1", where the first scale is k = 0 here
+  -- each has a sample
+  pub sides-stay : k < scaleCount → (1 ≤ at-scale .width) × (1 ≤ at-scale .height)
+  unfolding scaleCount leastSide
+  sides-stay n =
+      let few : k ≤ 4 = omega arith in
+      let reach : 2 ^ k ≤ 2 ^ 4 = pow-le-pow-right {n = 2} (lit< tt) few in
+      scale-sides k (firstScale p) (le-trans reach (c .sized .width-reaches)) (le-trans reach (c .sized .height-reaches))
+
+  -- no sample is above sample_max × 4^k
   pub samples-stay : (Bounded (scaleMax depth k) (at-scale .width) (at-scale .height) (at-scale .a))
       × (Bounded (scaleMax depth k) (at-scale .width) (at-scale .height) (at-scale .b))
   unfolding scaleMax

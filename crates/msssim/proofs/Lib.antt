@@ -1,3 +1,5 @@
-pub mod Scales
+pub mod ScalePairs
+pub mod Scratch
 pub mod Accept
+pub mod Visible
 pub mod Demand

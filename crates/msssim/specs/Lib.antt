@@ -1,2 +1,4 @@
 pub mod Scale
+pub mod Scratch
 pub mod Answer
+pub mod Inner

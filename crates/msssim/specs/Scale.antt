@@ -1,5 +1,5 @@
--- SCOPE, "HVS, SSIM and scales": "each scale is made from the one above by summing 2×2 samples, sides halved downward; sample_max
--- is multiplied by 4. Answer: five pairs, no power product." Definitions only.
+-- SCOPE, "HVS, SSIM and scales": five scales, each of half the sides of the one above, rounded down, its samples summed 2×2, and its largest
+-- sample times 4; and a pair for each. Definitions only.
 use mathlib.Core.List.{List, [], _∷_}
 use Prim.Native.Nat.{ℕ, zero, suc, _*_, _/_}
 use lib.Ieee.{Float}
@@ -34,17 +34,17 @@ scaleAt s zero = s
 scaleAt s (suc k) = scaleAt (belowOf s) k
 
 -- the sums over every centre of a scale, under the fixed kernel
-abbrev pub sumsOf : Scale → Totals
-sumsOf s = totalsOf (double (s .max * s .max)) fixedKernel (s .width) (s .height) (s .a) (s .b) (s .height)
+abbrev pub scaleTotals : Scale → Totals
+scaleTotals s = totalsOf (double (s .max * s .max)) fixedKernel (s .width) (s .height) (s .a) (s .b) (s .height)
 
--- (ssim / ssimw, cs / ssimw)
-abbrev pub ssimOf : Totals → Float
-ssimOf t = t .ssim ⊘ t .ssimw
+-- the pair of a scale: (ssim / ssimw, cs / ssimw)
+abbrev pub meanSsim : Totals → Float
+meanSsim t = t .ssim ⊘ t .ssimw
 
-abbrev pub csOf : Totals → Float
-csOf t = t .cs ⊘ t .ssimw
+abbrev pub meanCs : Totals → Float
+meanCs t = t .cs ⊘ t .ssimw
 
 -- the pairs of a scale and of those below it, so many in all: ssim and cs of each, one after the other
 unfoldable pub pairsFrom : ℕ → Scale → List Float
 pairsFrom zero s = []
-pairsFrom (suc left) s = ssimOf (sumsOf s) ∷ csOf (sumsOf s) ∷ pairsFrom left (belowOf s)
+pairsFrom (suc left) s = meanSsim (scaleTotals s) ∷ meanCs (scaleTotals s) ∷ pairsFrom left (belowOf s)

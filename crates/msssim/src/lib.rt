@@ -2,25 +2,23 @@
 // 2×2 samples, and the pair of SSIM at each, under a kernel of its own.
 ghost use mathlib.Core.Path.{_≡_};
 ghost use mathlib.Core.Bool.{true, false};
-ghost use Prim.Native.Nat.{_*_, _≤_};
-ghost use lib.ListN.{length};
+ghost use Prim.Native.Nat.{_≤_};
 ghost use Rattle.plane.specs.Limits.{sideLimit};
 ghost use Rattle.plane.specs.Plane.{planes, called};
-ghost use Rattle.plane.specs.Inner.Lawful.{AcceptedPair};
-ghost use Rattle.ssim.specs.Scratch.{cleared};
-ghost use Rattle.msssim.specs.Answer.{leastSide, placesOf, roomOf, lentEnough, msssimRefusal, scoreOf, roomCleared};
-ghost use Rattle.msssim.specs.Answer.{lentOf, refusalOf, msssimOf, lentAfter};
+ghost use Rattle.msssim.specs.Scratch.{scratchOf, placesNeeded, samplesNeeded, scratchSuits, allCleared};
+ghost use Rattle.msssim.specs.Answer.{msssimRefusal, msssimScore, msssimOf, scratchAfter};
+ghost use Rattle.msssim.specs.Inner.Sound.{Sound};
 use plane::Layout;
 use plane::Size;
 
-mod gather;
+mod five;
 mod scale;
-mod whole;
+mod scales;
 
 // The least side.
-const LEAST_SIDE: usize = 16;
-// L of the fixed kernel, which has nine taps.
-const LINES: usize = 16;
+pub const LEAST_SIDE: usize = 16;
+// How many taps the fixed kernel has.
+const TAPS: usize = 9;
 
 // ssim and cs of the five scales, the first the planes themselves.
 pub struct Pairs {
@@ -42,108 +40,110 @@ pub enum MsSsim {
     Refused(u8),
 }
 
-// None of the three that are lent is too short.
-fn lent_enough(width: usize, height: usize, lent: usize, lent_a: usize, lent_b: usize) -> bool
-    requires { ⌜ (width ≤ sideLimit) × (height ≤ sideLimit) ⌝ }
-    ensures { λ r. ⌜ r ≡ lentEnough width height lent «lent_a» «lent_b» ⌝ }
+// How many 64-bit places are needed: those of SSIM under a kernel of nine taps.
+pub fn places_needed(width: usize) -> usize
+    requires { ⌜ width ≤ sideLimit ⌝ }
+    ensures { λ r. ⌜ r ≡ placesNeeded width ⌝ }
 {
-    let room = width * height;
-    (6 * width * LINES <= lent) & ((room <= lent_a) & (room <= lent_b))
+    ssim::places(width, TAPS)
 }
 
-// The lowest of 1 2 3 4 5 6 8 that applies, and 0 where none does. The last three are how many places are lent.
+// How many 32-bit places are needed for each plane: one to a sample.
+pub fn samples_needed(width: usize, height: usize) -> usize
+    requires { ⌜ (width ≤ sideLimit) × (height ≤ sideLimit) ⌝ }
+    ensures { λ r. ⌜ r ≡ samplesNeeded width height ⌝ }
+{
+    width * height
+}
+
+// None of the three that are lent is too short.
+fn scratch_suits(size: Size, scratch: &[i64], a32: &[u32], b32: &[u32]) -> bool
+    requires { ⌜ (size .width ≤ sideLimit) × (size .height ≤ sideLimit) ⌝ }
+    ensures { λ r. ⌜ r ≡ scratchSuits size (scratchOf (scratch .entry) (a32 .entry) (b32 .entry)) ⌝ }
+{
+    let places = places_needed(size.width);
+    let samples = samples_needed(size.width, size.height);
+    (places <= scratch.len()) & ((samples <= a32.len()) & (samples <= b32.len()))
+}
+
+// The lowest of 1 2 3 4 5 6 8 that applies, and 0 where none does.
 fn refusal(
     a8: &[u8],
     a16: &[u16],
     b8: &[u8],
     b16: &[u16],
     layout: Layout,
-    lent: usize,
-    lent_a: usize,
-    lent_b: usize,
+    scratch: &[i64],
+    a32: &[u32],
+    b32: &[u32],
 ) -> u8
-    ensures { λ r. ⌜ r ≡ msssimRefusal (planes layout (a8 .entry) (a16 .entry) (b8 .entry) (b16 .entry)) lent «lent_a» «lent_b» ⌝ }
+    ensures { λ r. ⌜ r ≡ msssimRefusal (planes layout (a8 .entry) (a16 .entry) (b8 .entry) (b16 .entry))
+        (scratchOf (scratch .entry) (a32 .entry) (b32 .entry)) ⌝ }
 {
     let no = plane::check(a8, a16, b8, b16, layout, LEAST_SIDE);
     if no != 0 {
         return no;
     }
-    if !lent_enough(layout.size.width, layout.size.height, lent, lent_a, lent_b) {
+    if !scratch_suits(layout.size, scratch, a32, b32) {
         return refusal::SCRATCH;
     }
     0
 }
 
-// The answer of two planes that no test refuses. Of what is lent, the needed part is all zero afterwards, and the rest as it was.
-fn scored(
-    scratch: &mut [i64],
-    room_a: &mut [u32],
-    room_b: &mut [u32],
+// The score of two planes that no test refuses. The needed part of the scratch is all zero afterwards, and the rest as it was.
+fn score(
     a8: &[u8],
     a16: &[u16],
     b8: &[u8],
     b16: &[u16],
     layout: Layout,
+    scratch: &mut [i64],
+    a32: &mut [u32],
+    b32: &mut [u32],
 ) -> MsSsim
-    requires { ⌜ AcceptedPair (planes layout a8 a16 b8 b16) leastSide ⌝ }
-    requires { ⌜ placesOf (layout .size .width) ≤ length (now scratch) ⌝ }
-    requires { ⌜ (roomOf (layout .size .width) (layout .size .height) ≤ length (now «room_a»)) × (roomOf (layout .size .width) (layout .size .height) ≤ length (now «room_b»)) ⌝ }
-    ensures { λ r. ⌜ r ≡ scoreOf (planes layout (a8 .entry) (a16 .entry) (b8 .entry) (b16 .entry)) ⌝ }
-    ensures { λ _. ⌜ now (scratch .exit) ≡ cleared (placesOf (layout .size .width)) (now (scratch .entry)) ⌝ }
-    ensures { λ _. ⌜ now («room_a» .exit) ≡ roomCleared (roomOf (layout .size .width) (layout .size .height)) (now («room_a» .entry)) ⌝ }
-    ensures { λ _. ⌜ now («room_b» .exit) ≡ roomCleared (roomOf (layout .size .width) (layout .size .height)) (now («room_b» .entry)) ⌝ }
+    requires { ⌜ Sound (planes layout a8 a16 b8 b16) (scratchOf scratch a32 b32) ⌝ }
+    ensures { λ r. ⌜ r ≡ msssimScore (planes layout (a8 .entry) (a16 .entry) (b8 .entry) (b16 .entry)) ⌝ }
+    ensures { λ _. ⌜ scratchOf (scratch .exit) (a32 .exit) (b32 .exit)
+        ≡ allCleared (layout .size) (scratchOf (scratch .entry) (a32 .entry) (b32 .entry)) ⌝ }
 {
-    let width = layout.size.width;
-    let height = layout.size.height;
-    let places = 6 * width * LINES;
-    let room = width * height;
-    whole::answer(
-        &mut scratch[..places],
-        &mut room_a[..room],
-        &mut room_b[..room],
+    let places = places_needed(layout.size.width);
+    let samples = samples_needed(layout.size.width, layout.size.height);
+    scales::score(
         a8,
         a16,
         b8,
         b16,
         layout,
+        &mut scratch[..places],
+        &mut a32[..samples],
+        &mut b32[..samples],
     )
 }
 
 // MS-SSIM of two planes of either width.
-fn of_either(
-    scratch: &mut [i64],
-    room_a: &mut [u32],
-    room_b: &mut [u32],
+fn answer(
     a8: &[u8],
     a16: &[u16],
     b8: &[u8],
     b16: &[u16],
     layout: Layout,
+    scratch: &mut [i64],
+    a32: &mut [u32],
+    b32: &mut [u32],
 ) -> MsSsim
     ensures { λ r. ⌜ r ≡ msssimOf (planes layout (a8 .entry) (a16 .entry) (b8 .entry) (b16 .entry))
-        (lentOf (now (scratch .entry)) (now («room_a» .entry)) (now («room_b» .entry))) ⌝ }
-    ensures { λ _. ⌜ lentOf (now (scratch .exit)) (now («room_a» .exit)) (now («room_b» .exit)) ≡ lentAfter
-        (refusalOf (planes layout (a8 .entry) (a16 .entry) (b8 .entry) (b16 .entry))
-        (lentOf (now (scratch .entry)) (now («room_a» .entry)) (now («room_b» .entry))))
-        (layout .size .width) (layout .size .height) (lentOf (now (scratch .entry)) (now («room_a» .entry)) (now («room_b» .entry))) ⌝ }
+        (scratchOf (scratch .entry) (a32 .entry) (b32 .entry)) ⌝ }
+    ensures { λ _. ⌜ scratchOf (scratch .exit) (a32 .exit) (b32 .exit) ≡ scratchAfter
+        (planes layout (a8 .entry) (a16 .entry) (b8 .entry) (b16 .entry)) (scratchOf (scratch .entry) (a32 .entry) (b32 .entry)) ⌝ }
 {
-    let no = refusal(
-        a8,
-        a16,
-        b8,
-        b16,
-        layout,
-        scratch.len(),
-        room_a.len(),
-        room_b.len(),
-    );
+    let no = refusal(a8, a16, b8, b16, layout, scratch, a32, b32);
     if no != 0 {
         return MsSsim::Refused(no);
     }
-    scored(scratch, room_a, room_b, a8, a16, b8, b16, layout)
+    score(a8, a16, b8, b16, layout, scratch, a32, b32)
 }
 
-// MS-SSIM of two planes of bytes. Refused, what is lent is as it was; else, and at 9, its needed part is all zero and the rest as it was.
+// MS-SSIM of two planes of bytes. Refused, scratch is as it was; else, and at 9, its needed part is all zero and the rest as it was.
 pub fn msssim8(
     a: &[u8],
     b: &[u8],
@@ -153,15 +153,13 @@ pub fn msssim8(
     stride_b: usize,
     depth: u32,
     scratch: &mut [i64],
-    room_a: &mut [u32],
-    room_b: &mut [u32],
+    a32: &mut [u32],
+    b32: &mut [u32],
 ) -> MsSsim
     ensures { λ r. ⌜ r ≡ msssimOf (called false (a .entry) (b .entry) width height «stride_a» «stride_b» depth)
-        (lentOf (now (scratch .entry)) (now («room_a» .entry)) (now («room_b» .entry))) ⌝ }
-    ensures { λ _. ⌜ lentOf (now (scratch .exit)) (now («room_a» .exit)) (now («room_b» .exit)) ≡ lentAfter
-        (refusalOf (called false (a .entry) (b .entry) width height «stride_a» «stride_b» depth)
-        (lentOf (now (scratch .entry)) (now («room_a» .entry)) (now («room_b» .entry))))
-        width height (lentOf (now (scratch .entry)) (now («room_a» .entry)) (now («room_b» .entry))) ⌝ }
+        (scratchOf (scratch .entry) (a32 .entry) (b32 .entry)) ⌝ }
+    ensures { λ _. ⌜ scratchOf (scratch .exit) (a32 .exit) (b32 .exit) ≡ scratchAfter (called false (a .entry) (b .entry)
+        width height «stride_a» «stride_b» depth) (scratchOf (scratch .entry) (a32 .entry) (b32 .entry)) ⌝ }
 {
     let size = Size {
         wide: false,
@@ -174,16 +172,7 @@ pub fn msssim8(
         stride_a,
         stride_b,
     };
-    of_either(
-        scratch,
-        room_a,
-        room_b,
-        a,
-        &[0u16; 0],
-        b,
-        &[0u16; 0],
-        layout,
-    )
+    answer(a, &[0u16; 0], b, &[0u16; 0], layout, scratch, a32, b32)
 }
 
 // The same of words.
@@ -196,15 +185,13 @@ pub fn msssim16(
     stride_b: usize,
     depth: u32,
     scratch: &mut [i64],
-    room_a: &mut [u32],
-    room_b: &mut [u32],
+    a32: &mut [u32],
+    b32: &mut [u32],
 ) -> MsSsim
     ensures { λ r. ⌜ r ≡ msssimOf (called true (a .entry) (b .entry) width height «stride_a» «stride_b» depth)
-        (lentOf (now (scratch .entry)) (now («room_a» .entry)) (now («room_b» .entry))) ⌝ }
-    ensures { λ _. ⌜ lentOf (now (scratch .exit)) (now («room_a» .exit)) (now («room_b» .exit)) ≡ lentAfter
-        (refusalOf (called true (a .entry) (b .entry) width height «stride_a» «stride_b» depth)
-        (lentOf (now (scratch .entry)) (now («room_a» .entry)) (now («room_b» .entry))))
-        width height (lentOf (now (scratch .entry)) (now («room_a» .entry)) (now («room_b» .entry))) ⌝ }
+        (scratchOf (scratch .entry) (a32 .entry) (b32 .entry)) ⌝ }
+    ensures { λ _. ⌜ scratchOf (scratch .exit) (a32 .exit) (b32 .exit) ≡ scratchAfter (called true (a .entry) (b .entry)
+        width height «stride_a» «stride_b» depth) (scratchOf (scratch .entry) (a32 .entry) (b32 .entry)) ⌝ }
 {
     let size = Size {
         wide: true,
@@ -217,5 +204,5 @@ pub fn msssim16(
         stride_a,
         stride_b,
     };
-    of_either(scratch, room_a, room_b, &[0u8; 0], a, &[0u8; 0], b, layout)
+    answer(&[0u8; 0], a, &[0u8; 0], b, layout, scratch, a32, b32)
 }

@@ -10,16 +10,16 @@ use Rattle.plane.specs.Plane.{planeOf, at, sampleAt}
 use Rattle.plane.specs.Tests.{sidesSuit, noneAbove}
 use Rattle.window.specs.Moments.{mostSample}
 use Rattle.downscale.specs.Summed.{summedOf}
-use Rattle.downscale.specs.Rooms.{Filled}
+use Rattle.downscale.specs.Inner.Longs.{Filled}
 
 -- the lowest that applies of: 2, a side is 0 or above the limit; 5, fewer places than samples; 6, a place above the largest sample that the
 -- sums of a scale are made for
 abbrev pub downscaleRefusal : ℕ → ℕ → List ℕ → ℕ
-downscaleRefusal width height room =
+downscaleRefusal width height longs =
     firstBroken
     ((sizeNo, sidesSuit width height)
-    ∷ (shortNo, leb (height * width) (length room))
-    ∷ (sampleNo, noneAbove mostSample (at room) (length room))
+    ∷ (shortNo, leb (height * width) (length longs))
+    ∷ (sampleNo, noneAbove mostSample (at longs) (length longs))
     ∷ [])
 
 -- what then stands there: the scale below, row after row, and what stood after it; or what stood there

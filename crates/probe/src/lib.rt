@@ -10,27 +10,27 @@ ghost use Rattle.probe.specs.Downscale.{downscaleRefusal, Later};
 const MOST_SAMPLE: u32 = 1048576;
 
 // Whether no place is above that.
-fn none_above(room: &[u32]) -> bool
-    ensures { λ r. ⌜ r ≡ noneAbove mostSample (at (now (room .entry))) (length (now (room .entry))) ⌝ }
+fn none_above(longs: &[u32]) -> bool
+    ensures { λ r. ⌜ r ≡ noneAbove mostSample (at (now (longs .entry))) (length (now (longs .entry))) ⌝ }
 {
     let mut ok = true;
-    for i in 0..room.len() {
-        ok = ok & (room[i] <= MOST_SAMPLE);
+    for i in 0..longs.len() {
+        ok = ok & (longs[i] <= MOST_SAMPLE);
     }
     ok
 }
 
 // The lowest of 2, 5 and 6 that applies, and 0 where none does.
-fn refusal(room: &[u32], width: usize, height: usize) -> u8
-    ensures { λ r. ⌜ r ≡ downscaleRefusal width height (now (room .entry)) ⌝ }
+fn refusal(longs: &[u32], width: usize, height: usize) -> u8
+    ensures { λ r. ⌜ r ≡ downscaleRefusal width height (now (longs .entry)) ⌝ }
 {
     if !plane::sides_suit(width, height) {
         return refusal::SIZE;
     }
-    if room.len() < height * width {
+    if longs.len() < height * width {
         return refusal::SHORT;
     }
-    if !none_above(room) {
+    if !none_above(longs) {
         return refusal::SAMPLE;
     }
     0
@@ -38,14 +38,14 @@ fn refusal(room: &[u32], width: usize, height: usize) -> u8
 
 // The scale below, in place; or 2, 5 or 6, and the places are as they were.
 #[no_mangle]
-pub extern "C" fn probe_downscale(room: &mut [u32], width: usize, height: usize) -> u8
-    ensures { λ r. ⌜ r ≡ downscaleRefusal width height (now (room .entry)) ⌝ }
-    ensures { λ _. ⌜ Later (downscaleRefusal width height (now (room .entry))) width height (now (room .entry)) (now (room .exit)) ⌝ }
+pub extern "C" fn probe_downscale(longs: &mut [u32], width: usize, height: usize) -> u8
+    ensures { λ r. ⌜ r ≡ downscaleRefusal width height (now (longs .entry)) ⌝ }
+    ensures { λ _. ⌜ Later (downscaleRefusal width height (now (longs .entry))) width height (now (longs .entry)) (now (longs .exit)) ⌝ }
 {
-    let no = refusal(room, width, height);
+    let no = refusal(longs, width, height);
     if no != 0 {
         return no;
     }
-    downscale::downscale(room, width, height);
+    downscale::downscale(longs, width, height);
     0
 }

@@ -21,10 +21,11 @@ linesOf n = foldTo (λ (p i : ℕ). grownOf n p) 1 n
 abbrev pub placesOf : ℕ → ℕ → ℕ
 placesOf width taps = 6 * width * linesOf taps
 
--- "the needed part all zero, the rest unchanged"
-abbrev pub cleared : ℕ → List ℤ → List ℤ
-cleared need s = replicate need (pos 0) ++ drop need s
+-- places of any kind, the needed part all zero, the rest as it was
+module _ {A : Type 0} (zero : A) where
+  abbrev pub cleared : ℕ → List A → List A
+  cleared need s = replicate need zero ++ drop need s
 
 -- what stands in the scratch after a call that found this refusal before it scored: 0 is none
 abbrev pub scratchAfter : ℕ → ℕ → List ℤ → List ℤ
-scratchAfter n need s = byRefusal n (cleared need s) s
+scratchAfter n need s = byRefusal n (cleared (pos 0) need s) s

@@ -3,6 +3,7 @@
 ghost use mathlib.Core.Path.{_≡_};
 ghost use mathlib.Core.Bool.{true, false};
 ghost use Prim.Native.Nat.{_*_, _<_, _≤_};
+ghost use lib.IntN.{pos};
 ghost use lib.ListN.{length};
 ghost use Rattle.plane.specs.Limits.{sideLimit};
 ghost use Rattle.plane.specs.Plane.{planes, called};
@@ -95,7 +96,7 @@ fn scored(
 ) -> Ssim
     requires { ⌜ Sound (planes layout a8 a16 b8 b16) (now kernel) (length (now scratch)) ⌝ }
     ensures { λ r. ⌜ r ≡ scoreOf (planes layout (a8 .entry) (a16 .entry) (b8 .entry) (b16 .entry)) (now (kernel .entry)) ⌝ }
-    ensures { λ _. ⌜ now (scratch .exit) ≡ cleared (placesOf (layout .size .width) (length (now (kernel .entry))))
+    ensures { λ _. ⌜ now (scratch .exit) ≡ cleared (pos 0) (placesOf (layout .size .width) (length (now (kernel .entry))))
         (now (scratch .entry)) ⌝ }
 {
     let need = places(layout.size.width, kernel.len());

@@ -11,19 +11,19 @@ use Rattle.downscale.proofs.clear.Statement.{statement}
 use Rattle.downscale.proofs.clear.Tie as tie
 
 abbrev Inv-loop : tie.InvT-loop
-Inv-loop room₀ i₀ i-end room i = (i ≤ length room₀) × (length room ≡ length room₀) × (room ≡ replicate i 0 ++ drop i room₀)
+Inv-loop longs₀ i₀ i-end longs i = (i ≤ length longs₀) × (length longs ≡ length longs₀) × (longs ≡ replicate i 0 ++ drop i longs₀)
 
 abbrev μ-loop : tie.MeasureT-loop
-μ-loop room₀ i₀ i-end room i = length room₀ - i
+μ-loop longs₀ i₀ i-end longs i = length longs₀ - i
 
 loop-holds : tie.Need-loop-holds Inv-loop μ-loop
 loop-holds c = (search needs, refl, refl)
 
-mul-room : tie.Need-mul-room Inv-loop μ-loop
-mul-room c = search needs
+mul-longs : tie.Need-mul-longs Inv-loop μ-loop
+mul-longs c = search needs
 
-slice-write-room : tie.Need-slice-write-room Inv-loop μ-loop
-slice-write-room c = search needs
+slice-write-longs : tie.Need-slice-write-longs Inv-loop μ-loop
+slice-write-longs c = search needs
 
 add-i : tie.Need-add-i Inv-loop μ-loop
 add-i c = search needs
@@ -43,7 +43,7 @@ same-length c = c .before .loop .inv .1
 
 returns : tie.Need-returns Inv-loop μ-loop
 returns c =
-    let e : c .before .loop .i ≡ length (c .before .before .args .room .now) = omega arith in
+    let e : c .before .loop .i ≡ length (c .before .before .args .longs .now) = omega arith in
     rw (c .before .loop .inv .2, e, drop-of-length-le _ (le-refl _), append-nil)
 
 pub clear-spec : {M : Type 1} → statement M
@@ -53,8 +53,8 @@ clear-spec =
     Inv-loop
     μ-loop
     loop-holds
-    mul-room
-    slice-write-room
+    mul-longs
+    slice-write-longs
     add-i
     loop-less
     loop-again

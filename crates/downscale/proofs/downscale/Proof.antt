@@ -1,24 +1,25 @@
 -- `downscale::downscale` meets its contract: the rows above j stand there, and all from row j on is as it was. Assumes nothing.
 use mathlib.Core.Path.{_≡_, refl, _∙_}
 use Prim.Native.Nat.{_+_, _-_, _*_, _/_, _≤_}
-use native.Mathlib.Nat.{mul-le-mul-right}
+use native.Mathlib.Nat.{mul-le-mul-right, lt-of-le-of-lt}
 use native.Mathlib.Omega.{arith}
 use borrow.Author.Needs.{needs}
 use denote.Ref.{now}
 use lib.ListN.{length}
-use Rattle.downscale.specs.Rooms.{Filled}
+use Rattle.downscale.specs.Inner.Longs.{Filled}
 use Rattle.plane.specs.Plane.{planeOf, sampleAt}
 use Rattle.downscale.specs.Summed.{summedOf}
-use Rattle.downscale.proofs.Rooms.{filled-none, filled-more, sum-still}
+use Rattle.downscale.proofs.Stored.{filled-none, filled-more}
+use Rattle.downscale.proofs.Summed.{area-needed, summed-most, sum-still, four-fit}
 use Rattle.downscale.proofs.downscale.Statement.{statement}
 use Rattle.downscale.proofs.downscale.Tie as tie
 
 abbrev Inv-loop : tie.InvT-loop
-Inv-loop room₀ width height j₀ j-end room j =
-    (j ≤ height / 2) × (length room ≡ length room₀) × Filled room₀ room (width / 2) (summedOf (sampleAt (planeOf room₀ width))) j
+Inv-loop longs₀ width height j₀ j-end longs j =
+    (j ≤ height / 2) × (length longs ≡ length longs₀) × Filled longs₀ longs (width / 2) (summedOf (sampleAt (planeOf longs₀ width))) j
 
 abbrev μ-loop : tie.MeasureT-loop
-μ-loop room₀ width height j₀ j-end room j = height / 2 - j
+μ-loop longs₀ width height j₀ j-end longs j = height / 2 - j
 
 loop-holds : tie.Need-loop-holds Inv-loop μ-loop
 loop-holds c = (omega arith, refl, filled-none _ _ _)
@@ -27,9 +28,12 @@ sum-row-requires : tie.Need-sum-row-requires Inv-loop μ-loop
 sum-row-requires c κs =
     let s = c .before .before .before .before in
     let l = c .before .before .loop in
+    let old = now (s .args .longs) in
     let down : 2 * l .j + 2 ≤ s .args .height = omega arith in (
-      omega (arith, mul-le-mul-right (s .args .width) down),
-      (λ k m. rw (l .inv .2 .rest k m) (s .pre .1 k)),
+      omega (arith, mul-le-mul-right (s .args .width) down, s .pre .1 .long, area-needed (s .args .width) (s .args .height) (omega arith)),
+      (λ i m. rw (sum-still old (l .longs) (s .args .width) (l .j) (l .inv .2 .rest) i) (
+          lt-of-le-of-lt (summed-most _ (s .args .width) (s .args .height) _ (s .pre .1 .small) (l .j) i (omega arith) m) four-fit
+          )),
     )
 
 add-j : tie.Need-add-j Inv-loop μ-loop
@@ -45,8 +49,8 @@ loop-again c =
     let r = c .before .before .sum-row in (
       omega arith,
       r .kept .0 ∙ l .inv .1,
-      filled-more _ _ _ _ (summedOf (sampleAt (planeOf (now (s .args .room)) (s .args .width)))) _ _ (l .inv .2) (r .ensures)
-          (λ i m. sum-still (now (s .args .room)) (l .room) (s .args .width) (l .j) (l .inv .2 .rest) i),
+      filled-more _ _ _ _ (summedOf (sampleAt (planeOf (now (s .args .longs)) (s .args .width)))) _ _ (l .inv .2) (r .ensures)
+          (λ i m. sum-still (now (s .args .longs)) (l .longs) (s .args .width) (l .j) (l .inv .2 .rest) i),
     )
 
 same-length : tie.Need-same-length Inv-loop μ-loop

@@ -3,21 +3,23 @@ use Rattle.plane.proofs.Limits.{side-small}
 use borrow.Author.Needs.{needs}
 use Prim.Native.Nat.{_-_, _*_, _/_, _≤_}
 use native.Mathlib.Omega.{arith}
-use mathlib.Core.Path.{_≡_, refl}
+use mathlib.Core.Path.{_≡_, refl, _∙_}
 use denote.Ref.{now}
 use lib.ListN.{length, length-set}
 use Rattle.plane.specs.Plane.{planeOf, sampleAt}
 use Rattle.downscale.specs.Summed.{summedOf}
-use Rattle.downscale.specs.Rooms.{Put}
-use Rattle.downscale.proofs.Rooms.{put-none, put-more, half-le, sum-same, sum-small}
+use Rattle.downscale.specs.Inner.Longs.{Put}
+use Rattle.downscale.proofs.Stored.{put-none, put-more}
+use Rattle.downscale.proofs.Summed.{half-le, sum-same}
 use Rattle.downscale.proofs.sum_row.Statement.{statement}
 use Rattle.downscale.proofs.sum_row.Tie as tie
 
 abbrev Inv-loop : tie.InvT-loop
-Inv-loop room₀ width j half to top c₀ room c = (c ≤ width / 2) × (length room ≡ length room₀) × Put room₀ room (j * (width / 2)) c (summedOf (sampleAt (planeOf room₀ width)) j)
+Inv-loop longs₀ width j half to top c₀ longs c =
+    (c ≤ width / 2) × (length longs ≡ length longs₀) × Put longs₀ longs (j * (width / 2)) c (summedOf (sampleAt (planeOf longs₀ width)) j)
 
 abbrev μ-loop : tie.MeasureT-loop
-μ-loop room₀ width j half to top c₀ room c = width / 2 - c
+μ-loop longs₀ width j half to top c₀ longs c = width / 2 - c
 
 mul-to : tie.Need-mul-to Inv-loop μ-loop
 mul-to c = omega (arith, half-le (c .before .args .j) (c .before .args .width))
@@ -31,27 +33,27 @@ mul-top-2 c = omega arith
 loop-holds : tie.Need-loop-holds Inv-loop μ-loop
 loop-holds c = (omega arith, refl, put-none _ _ _)
 
-mul-four : tie.Need-mul-four Inv-loop μ-loop
-mul-four c = omega arith
+mul-sum-2x2 : tie.Need-mul-sum-2x2 Inv-loop μ-loop
+mul-sum-2x2 c = omega arith
 
-add-four : tie.Need-add-four Inv-loop μ-loop
-add-four c = omega arith
+add-sum-2x2 : tie.Need-add-sum-2x2 Inv-loop μ-loop
+add-sum-2x2 c = omega arith
 
-four-requires : tie.Need-four-requires Inv-loop μ-loop
-four-requires c κs =
+sum-2x2-requires : tie.Need-sum-2x2-requires Inv-loop μ-loop
+sum-2x2-requires c κs =
     let s = c .before .before .before .before in (
       omega arith,
-      sum-small _ _ _ _ _ _ (c .before .before .loop .inv .2) (s .pre .1),
+      rw (sum-same _ _ _ _ _ _ (c .before .before .loop .inv .2)) (s .pre .1 _ (c .before .loop-test .taken)),
     )
 
-add-room : tie.Need-add-room Inv-loop μ-loop
-add-room c = omega (arith, half-le (c .before .before .before .before .before .args .j) (c .before .before .before .before .before .args .width))
+add-longs : tie.Need-add-longs Inv-loop μ-loop
+add-longs c = omega (arith, half-le (c .before .before .before .before .before .args .j) (c .before .before .before .before .before .args .width))
 
-mul-room : tie.Need-mul-room Inv-loop μ-loop
-mul-room c = omega (arith, half-le (c .before .before .before .before .before .args .j) (c .before .before .before .before .before .args .width))
+mul-longs : tie.Need-mul-longs Inv-loop μ-loop
+mul-longs c = omega (arith, half-le (c .before .before .before .before .before .args .j) (c .before .before .before .before .before .args .width))
 
-slice-write-room : tie.Need-slice-write-room Inv-loop μ-loop
-slice-write-room c = omega (arith, half-le (c .before .before .before .before .before .args .j) (c .before .before .before .before .before .args .width))
+slice-write-longs : tie.Need-slice-write-longs Inv-loop μ-loop
+slice-write-longs c = omega (arith, half-le (c .before .before .before .before .before .args .j) (c .before .before .before .before .before .args .width))
 
 add-c : tie.Need-add-c Inv-loop μ-loop
 add-c c = search needs
@@ -65,8 +67,8 @@ loop-again c =
     let l = c .before .before .before .loop in (
       omega arith,
       simp length-set (l .inv .1),
-      put-more _ _ _ _ (summedOf (sampleAt (planeOf (now (s .args .room)) (s .args .width))) (s .args .j)) _ (l .inv .2)
-          (sum-same _ _ _ _ _ _ (l .inv .2) _ (c .four .ensures)) (omega (arith, half-le (s .args .j) (s .args .width))),
+      put-more _ _ _ _ (summedOf (sampleAt (planeOf (now (s .args .longs)) (s .args .width))) (s .args .j)) _ (l .inv .2)
+          (c .sum-2x2 .ensures ∙ sum-same _ _ _ _ _ _ (l .inv .2)) (omega (arith, half-le (s .args .j) (s .args .width))),
     )
 
 same-length : tie.Need-same-length Inv-loop μ-loop
@@ -87,12 +89,12 @@ sum-row-spec =
     mul-top
     mul-top-2
     loop-holds
-    mul-four
-    add-four
-    four-requires
-    add-room
-    mul-room
-    slice-write-room
+    mul-sum-2x2
+    add-sum-2x2
+    sum-2x2-requires
+    add-longs
+    mul-longs
+    slice-write-longs
     add-c
     loop-less
     loop-again

@@ -6,39 +6,39 @@ use native.Mathlib.Omega.{arith}
 use borrow.Author.Needs.{needs}
 use denote.Ref.{now}
 use lib.ListN.{length}
-use Rattle.downscale.specs.Rooms.{Filled}
+use Rattle.downscale.specs.Inner.Longs.{Filled}
 use Rattle.plane.specs.Plane.{planeIn, lent, sampleAt}
 use Rattle.plane.proofs.Rows.{row-inside, count-fits}
-use Rattle.downscale.proofs.Rooms.{filled-none, filled-more}
+use Rattle.downscale.proofs.Stored.{filled-none, filled-more}
 use Rattle.downscale.proofs.widen.Statement.{statement}
 use Rattle.downscale.proofs.widen.Tie as tie
 
 abbrev Inv-loop : tie.InvT-loop
-Inv-loop room₀ bytes words size stride width y₀ y-end room y =
-    (y ≤ size .height) × (length room ≡ length room₀) × Filled room₀ room width (sampleAt (planeIn size bytes words stride)) y
+Inv-loop bytes words size stride longs₀ width y₀ y-end longs y =
+    (y ≤ size .height) × (length longs ≡ length longs₀) × Filled longs₀ longs width (sampleAt (planeIn size bytes words stride)) y
 
 abbrev μ-loop : tie.MeasureT-loop
-μ-loop room₀ bytes words size stride width y₀ y-end room y = size .height - y
+μ-loop bytes words size stride longs₀ width y₀ y-end longs y = size .height - y
 
 loop-holds : tie.Need-loop-holds Inv-loop μ-loop
 loop-holds c = (search needs, refl, filled-none _ _ _)
 
 mul-widen-row : tie.Need-mul-widen-row Inv-loop μ-loop
 mul-widen-row c =
-    let s = c .before .before .before .before .before .before in
-    let row = row-inside (s .args .size .width) (s .args .stride) (s .pre .1) (c .before .loop-test .taken) in
+    let s = c .before .before .before .before .before in
+    let row = row-inside (s .args .size .width) (s .args .stride) (s .pre .0) (c .loop-test .taken) in
     omega (arith, row, count-fits (s .args .size .wide) (now (s .args .bytes)) (now (s .args .words)) (omega arith) (omega arith))
 
 mul-widen-row-2 : tie.Need-mul-widen-row-2 Inv-loop μ-loop
 mul-widen-row-2 c =
-    let s = c .before .before .before .before .before .before in
-    omega (arith, mul-le-mul-right (s .args .size .width) (c .before .loop-test .taken))
+    let s = c .before .before .before .before .before in
+    omega (arith, mul-le-mul-right (s .args .size .width) (c .loop-test .taken))
 
 widen-row-requires : tie.Need-widen-row-requires Inv-loop μ-loop
 widen-row-requires c κs =
     let s = c .before .before .before .before .before .before in (
+      row-inside (s .args .size .width) (s .args .stride) (s .pre .0) (c .before .loop-test .taken),
       omega (arith, mul-le-mul-right (s .args .size .width) (c .before .loop-test .taken)),
-      row-inside (s .args .size .width) (s .args .stride) (s .pre .1) (c .before .loop-test .taken),
     )
 
 add-y : tie.Need-add-y Inv-loop μ-loop
@@ -53,7 +53,7 @@ loop-again c =
     let l = c .before .before .before .before .before .loop in
     let r = c .before .before .widen-row in (
       omega arith,
-      r .kept .0 ∙ l .inv .1,
+      r .kept .1 .1 .1 .1 .1 .1 .0 ∙ l .inv .1,
       filled-more _ _ _ _ (sampleAt (lent (s .args .size) (s .args .bytes) (s .args .words) (s .args .stride))) _ _
           (l .inv .2) (r .ensures) (λ i m. refl),
     )

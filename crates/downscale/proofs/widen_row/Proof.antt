@@ -7,16 +7,17 @@ use mathlib.Core.Path.{_≡_, refl}
 use denote.Ref.{now}
 use lib.ListN.{length, length-set}
 use Rattle.plane.specs.Plane.{at, samplesOf}
-use Rattle.downscale.specs.Rooms.{Put}
-use Rattle.downscale.proofs.Rooms.{put-none, put-more}
+use Rattle.downscale.specs.Inner.Longs.{Put}
+use Rattle.downscale.proofs.Stored.{put-none, put-more}
 use Rattle.downscale.proofs.widen_row.Statement.{statement}
 use Rattle.downscale.proofs.widen_row.Tie as tie
 
 abbrev Inv-loop : tie.InvT-loop
-Inv-loop room₀ bytes words wide start to width x₀ room x = (x ≤ width) × (length room ≡ length room₀) × Put room₀ room to x (λ (i : ℕ). at (samplesOf wide bytes words) (start + i))
+Inv-loop bytes words wide start width to longs₀ x₀ longs x =
+    (x ≤ width) × (length longs ≡ length longs₀) × Put longs₀ longs to x (λ (i : ℕ). at (samplesOf wide bytes words) (start + i))
 
 abbrev μ-loop : tie.MeasureT-loop
-μ-loop room₀ bytes words wide start to width x₀ room x = width - x
+μ-loop bytes words wide start width to longs₀ x₀ longs x = width - x
 
 loop-holds : tie.Need-loop-holds Inv-loop μ-loop
 loop-holds c = (search needs, refl, put-none _ _ _)
@@ -29,14 +30,14 @@ add-sample c =
 sample-requires : tie.Need-sample-requires Inv-loop μ-loop
 sample-requires c κs = omega arith
 
-add-room : tie.Need-add-room Inv-loop μ-loop
-add-room c = search needs
+add-longs : tie.Need-add-longs Inv-loop μ-loop
+add-longs c = search needs
 
-mul-room : tie.Need-mul-room Inv-loop μ-loop
-mul-room c = search needs
+mul-longs : tie.Need-mul-longs Inv-loop μ-loop
+mul-longs c = search needs
 
-slice-write-room : tie.Need-slice-write-room Inv-loop μ-loop
-slice-write-room c = search needs
+slice-write-longs : tie.Need-slice-write-longs Inv-loop μ-loop
+slice-write-longs c = search needs
 
 add-x : tie.Need-add-x Inv-loop μ-loop
 add-x c = search needs
@@ -71,9 +72,9 @@ widen-row-spec =
     loop-holds
     add-sample
     sample-requires
-    add-room
-    mul-room
-    slice-write-room
+    add-longs
+    mul-longs
+    slice-write-longs
     add-x
     loop-less
     loop-again

@@ -13,10 +13,10 @@ use Rattle.probe.proofs.none_above.Statement.{statement}
 use Rattle.probe.proofs.none_above.Tie as tie
 
 abbrev Inv-loop : tie.InvT-loop
-Inv-loop room ok₀ i₀ i-end ok i = (i ≤ length room) × (ok ≡ noneAbove mostSample (at room) i)
+Inv-loop longs ok₀ i₀ i-end ok i = (i ≤ length longs) × (ok ≡ noneAbove mostSample (at longs) i)
 
 abbrev μ-loop : tie.MeasureT-loop
-μ-loop room ok₀ i₀ i-end ok i = length room - i
+μ-loop longs ok₀ i₀ i-end ok i = length longs - i
 
 loop-holds : tie.Need-loop-holds Inv-loop μ-loop
 loop-holds c = (search needs, sym (none-none _ _))
@@ -38,7 +38,7 @@ unfolding mostSample
 loop-again c = (search needs, rw (none-more, ← (c .before .before .loop .inv .1)))
 
 returns : tie.Need-returns Inv-loop μ-loop
-returns c = let e : c .before .loop .i ≡ length (now (c .before .before .args .room)) = omega arith in rw e at (c .before .loop .inv .1)
+returns c = let e : c .before .loop .i ≡ length (now (c .before .before .args .longs)) = omega arith in rw e at (c .before .loop .inv .1)
 
 pub none-above-spec : {M : Type 1} → statement M
 none-above-spec =

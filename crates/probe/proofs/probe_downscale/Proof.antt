@@ -17,7 +17,7 @@ returns c = rw (← (c .before .refusal .ensures)) (refl, untouched _ _ _ _ (c .
 
 downscale-requires : tie.Need-downscale-requires
 downscale-requires c κs =
-    sound _ _ (now (c .before .before .before .before .before .args .room)) (sym (c .before .before .refusal .ensures) ∙ c .before .if1 .left)
+    sound _ _ (now (c .before .before .before .before .before .args .longs)) (sym (c .before .before .refusal .ensures) ∙ c .before .if1 .left)
 
 same-length-2 : tie.Need-same-length-2
 same-length-2 c = search needs

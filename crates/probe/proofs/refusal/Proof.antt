@@ -9,7 +9,7 @@ use lib.Dec.{leb}
 use lib.ListN.{length}
 use Rattle.refusal.proofs.Chain.{fails, holds}
 use Rattle.plane.specs.Tests.{sidesSuit}
-use Rattle.probe.proofs.Accept.{area-fits}
+use Rattle.probe.proofs.Accept.{sides-count}
 use Rattle.probe.proofs.refusal.Statement.{statement}
 use Rattle.probe.proofs.refusal.Tie as tie
 
@@ -17,7 +17,7 @@ use Rattle.probe.proofs.refusal.Tie as tie
 sides : (c : tie.Else1) → let s = c .before .before .before in sidesSuit (s .args .width) (s .args .height) ≡ true
 sides c = holds (c .before .sides-suit .ensures) (c .if1 .left)
 
-long : (c : tie.Else2) → let s = c .before .before .before .before in leb (s .args .height * s .args .width) (length (now (s .args .room))) ≡ true
+long : (c : tie.Else2) → let s = c .before .before .before .before in leb (s .args .height * s .args .width) (length (now (s .args .longs))) ≡ true
 long c = le-leb _ _ (c .if2 .left)
 
 sides-suit-requires : tie.Need-sides-suit-requires
@@ -27,7 +27,7 @@ returns : tie.Need-returns
 returns c = simp (fails (c .before .sides-suit .ensures) (c .if1 .taken))
 
 mul-if2 : tie.Need-mul-if2
-mul-if2 c = record { fits = area-fits _ _ (sides c) }
+mul-if2 c = record { fits = sides-count _ _ (sides c) }
 
 returns-2 : tie.Need-returns-2
 returns-2 c = simp (sides (c .before), lt-leb _ _ (c .if2 .taken))

@@ -1,6 +1,6 @@
 -- `msssim::scale::put_pair` meets its contract. Assumes nothing.
 use denote.Ref.{now}
-use Rattle.msssim.proofs.Scales.{two-set}
+use Rattle.msssim.proofs.ScalePairs.{two-set}
 use borrow.Author.Needs.{needs}
 use Rattle.msssim.proofs.scale.put_pair.Statement.{statement}
 use Rattle.msssim.proofs.scale.put_pair.Tie as tie

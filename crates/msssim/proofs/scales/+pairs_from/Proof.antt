@@ -1,0 +1,183 @@
+-- The proof of the cycle of calls {pairs_from}. The measure is the number of scales that are left. Assumes nothing.
+use mathlib.Core.Path.{_∙_}
+use Prim.Native.Nat.{ℕ, _-_, _*_, _^_, _<_, _≤_}
+use native.Mathlib.Nat.{le-refl}
+use native.Mathlib.Omega.{arith}
+use borrow.Fn.Kinds.{In}
+use borrow.Fn.PlainCycle.{Measures, is, falls, and}
+use borrow.Rule.Slice.PartMut.{same-len-mid}
+use denote.Ref.{now}
+use lib.ListN.{length}
+use Rattle.window.specs.Moments.{mostSample}
+use Rattle.downscale.proofs.Summed.{four-fit, bounded-le, bounded-below}
+use Rattle.downscale.proofs.downscale.Reads as downscale-reads
+use Rattle.msssim.proofs.ScalePairs.{left-fits, rest-length, pairs-step, pairs-none}
+use Rattle.msssim.proofs.scale.put_pair.Reads as put-pair-reads
+use Rattle.msssim.proofs.scale.totals.Reads as totals-reads
+use Rattle.msssim.proofs.scales.pairs_from.Reads as self
+use Rattle.msssim.proofs.scales.pairs_from.Kinds as kinds
+use Rattle.msssim.proofs.scales.+pairs_from.Lts-pairs_from as lts
+use Rattle.msssim.proofs.scales.+pairs_from.{statement}
+use Rattle.msssim.proofs.scales.+pairs_from.Tie.{close}
+
+abbrev μ : Measures 4 kinds.ps ℕ
+μ κs a = a .1 .1 .1 .1 .1 .0
+
+-- what is asked at t scales left, and of the call inside
+abbrev asked : ℕ → In 4 kinds.ps
+asked t = and 4 kinds.ps (is 4 kinds.ps μ t) self.Pre
+
+abbrev asked-below : ℕ → In 4 kinds.ps
+asked-below t = and 4 kinds.ps (falls 4 kinds.ps _<_ μ t) self.Pre
+
+abbrev claims : ℕ → lts.Claims
+claims t = (
+  totals-reads.Asked,
+  totals-reads.Learnt,
+  put-pair-reads.Asked,
+  put-pair-reads.Learnt,
+  downscale-reads.Asked,
+  downscale-reads.Learnt,
+  asked-below t,
+  self.Post,
+)
+
+module _ (t : ℕ) where
+  -- ---- places: the start, where a scale is left, where both planes are halved, and the end
+  abbrev Start : Type 0
+  Start = lts.Start (claims t) (asked t) self.Post
+
+  abbrev Left : Type 0
+  Left = lts.Then1 (claims t) (asked t) self.Post
+
+  abbrev Halved : Type 0
+  Halved = lts.After-slice-known6 (claims t) (asked t) self.Post
+
+  abbrev End : Type 0
+  End = lts.After-slice-known9 (claims t) (asked t) self.Post
+
+  abbrev start : Left → Start
+  start c = c .before .before .before .before
+
+  abbrev left : Halved → Left
+  left c = c .before .before .before .before .before .before .before .before .before .before .before .before .before .before .before .before .before
+
+  abbrev halved : End → Halved
+  halved c = c .before .before .before .before .before .before .before .before .before .before .before .before
+
+  -- the samples of this scale fit, and so do those of the scales below
+  fits : (c : Left) → let s = start c in (s .args .max ≤ mostSample) × (4 * s .args .max * 4 ^ (s .args .left - 1) ≤ 4 * mostSample)
+  fits c = let s = start c in left-fits (s .args .left) (s .args .max) (c .if1 .taken) (s .pre .1 .1 .0 .0)
+
+  -- ---- answers
+  totals-requires : lts.Need-totals-requires (claims t) (asked t) self.Post
+  totals-requires c κs =
+      let l : Left = c .before .before .before in
+      let s = start l in
+      ((s .pre .1 .0 .0, s .pre .1 .0 .1, fits l .0, s .pre .1 .0 .2), s .pre .1 .1 .1)
+
+  put-pair-requires : lts.Need-put-pair-requires (claims t) (asked t) self.Post
+  put-pair-requires c κs = let l : Left = c .before .before .before .before .before .before in omega (arith, start l .pre .1 .1 .0 .1, l .if1 .taken)
+
+  downscale-requires : lts.Need-downscale-requires (claims t) (asked t) self.Post
+  downscale-requires c κs =
+      let l : Left = c .before .before .before .before .before .before .before .before .before .before in
+      let s = start l in
+      (s .pre .1 .0 .1, bounded-le (fits l .0) (s .pre .1 .1 .1 .0))
+
+  downscale-requires-2 : lts.Need-downscale-requires-2 (claims t) (asked t) self.Post
+  downscale-requires-2 c κs =
+      let l : Left = c .before .before .before .before .before .before .before .before .before .before .before .before .before .before in
+      let s = start l in
+      (s .pre .1 .0 .1, bounded-le (fits l .0) (s .pre .1 .1 .1 .1))
+
+  mul-pairs-from : lts.Need-mul-pairs-from (claims t) (asked t) self.Post
+  mul-pairs-from c = omega (arith, fits (left (c .before .before)) .0, four-fit)
+
+  sub-pairs-from : lts.Need-sub-pairs-from (claims t) (asked t) self.Post
+  sub-pairs-from c = left (c .before .before) .if1 .taken
+
+  sub-pairs-from-2 : lts.Need-sub-pairs-from-2 (claims t) (asked t) self.Post
+  sub-pairs-from-2 c =
+      let h : Halved = c .before .before .before in
+      omega (arith, h .before .before .before .before .before .before .before .before .before .before .put-pair .kept .1 .0, start (left h) .pre .1 .1 .0 .1, left h .if1 .taken)
+
+  part-pairs-from-start : lts.Need-part-pairs-from-start (claims t) (asked t) self.Post
+  part-pairs-from-start c =
+      let h : Halved = c .before .before .before in
+      omega (arith, h .before .before .before .before .before .before .before .before .before .before .put-pair .kept .1 .0, start (left h) .pre .1 .1 .0 .1, left h .if1 .taken)
+
+  part-pairs-from-end : lts.Need-part-pairs-from-end (claims t) (asked t) self.Post
+  part-pairs-from-end c = le-refl _
+
+  pairs-from-requires : lts.Need-pairs-from-requires (claims t) (asked t) self.Post
+  pairs-from-requires c κs =
+      let h : Halved = c .before .before .before .before in
+      let s = start (left h) in
+      let a = h .before .before .before .before .before .before .downscale in
+      let b = h .before .before .downscale2 in
+      let p = h .before .before .before .before .before .before .before .before .before .before .put-pair in (
+        omega (arith, s .pre .0, left h .if1 .taken),
+        (
+          omega (arith, h .before .before .before .before .before .before .before .before .before .before .before .before .before .totals .kept .1 .1 .1 .1 .1 .0),
+          (
+            (fits (left h) .1, rest-length (p .last .1 .0) (s .args .left) (p .kept .1 .0 ∙ s .pre .1 .1 .0 .1)),
+            (
+              bounded-below _ _ _ _ _ (s .pre .1 .1 .1 .0) (a .ensures) (a .kept .0),
+              bounded-below _ _ _ _ _ (s .pre .1 .1 .1 .1) (b .ensures) (b .kept .0),
+            ),
+          ),
+        ),
+      )
+
+  same-length : lts.Need-same-length (claims t) (asked t) self.Post
+  same-length c = c .before .before .before .before .before .before .before .pairs-from .kept .0 ∙ halved c .before .before .before .before .before .before .downscale .kept .0
+
+  same-length-2 : lts.Need-same-length-2 (claims t) (asked t) self.Post
+  same-length-2 c = c .before .before .before .before .before .before .before .pairs-from .kept .1 .0 ∙ halved c .before .before .downscale2 .kept .0
+
+  same-length-3 : lts.Need-same-length-3 (claims t) (asked t) self.Post
+  same-length-3 c = c .before .before .before .before .before .before .before .pairs-from .kept .1 .1 .1 .1 .1 .1 .0 ∙ halved c .before .before .before .before .before .before .before .before .before .before .before .before .before .totals .kept .1 .1 .1 .1 .1 .0
+
+  same-length-4 : lts.Need-same-length-4 (claims t) (asked t) self.Post
+  same-length-4 c =
+      let p = halved c .before .before .before .before .before .before .before .before .before .before .put-pair in
+      let f = c .before .before .before .before .before .before .before .pairs-from in
+      let kept = f .kept .1 .1 .1 .1 .1 .1 in
+      let last = f .last .1 .1 .1 .1 .1 .1 in
+      same-len-mid 2 (length (p .last .1 .0) - 2) (p .last .1 .0) (last .1 .0) (kept .1 .0) ∙ p .kept .1 .0
+
+  returns : lts.Need-returns (claims t) (asked t) self.Post
+  returns c =
+      let h = halved c in
+      let s = start (left h) in
+      let a = h .before .before .before .before .before .before .downscale in
+      let b = h .before .before .downscale2 in
+      let p = h .before .before .before .before .before .before .before .before .before .before .put-pair in
+      let f = c .before .before .before .before .before .before .before .pairs-from in
+      let last = f .last .1 .1 .1 .1 .1 .1 in
+      let scored = h .before .before .before .before .before .before .before .before .before .before .before .before .before .totals in
+      pairs-step (s .args .left) (s .args .max) (s .args .width) (s .args .height) (now (s .args .a32)) (a .last .0) (now (s .args .b32)) (b .last .0)
+      (scored .result) _ (p .last .1 .0) (last .1 .0) (left h .if1 .taken) (scored .ensures) (p .ensures) (f .ensures) (a .ensures) (b .ensures)
+
+  returns-2 : lts.Need-returns-2 (claims t) (asked t) self.Post
+  returns-2 c = pairs-none _ _ _ (c .before .before .before .before .pre .1 .1 .0 .1) (c .if1 .left)
+
+pub +pairs-from-spec : {M : Type 1} → statement M
++pairs-from-spec = close μ λ t. lts.spec (claims t) (asked t) self.Post
+    (totals-requires t)
+    (put-pair-requires t)
+    (downscale-requires t)
+    (downscale-requires-2 t)
+    (mul-pairs-from t)
+    (sub-pairs-from t)
+    (sub-pairs-from-2 t)
+    (part-pairs-from-start t)
+    (part-pairs-from-end t)
+    (pairs-from-requires t)
+    (same-length t)
+    (same-length-2 t)
+    (same-length-3 t)
+    (same-length-4 t)
+    (returns t)
+    (returns-2 t)
