@@ -47,13 +47,13 @@ sum-2x2-requires c κs =
     )
 
 add-longs : tie.Need-add-longs Inv-loop μ-loop
-add-longs c = omega (arith, half-le (c .before .before .before .before .before .args .j) (c .before .before .before .before .before .args .width))
+add-longs c = let s = c .before .before .before .before .before in omega (arith, half-le (s .args .j) (s .args .width))
 
 mul-longs : tie.Need-mul-longs Inv-loop μ-loop
-mul-longs c = omega (arith, half-le (c .before .before .before .before .before .args .j) (c .before .before .before .before .before .args .width))
+mul-longs c = let s = c .before .before .before .before .before in omega (arith, half-le (s .args .j) (s .args .width))
 
 slice-write-longs : tie.Need-slice-write-longs Inv-loop μ-loop
-slice-write-longs c = omega (arith, half-le (c .before .before .before .before .before .args .j) (c .before .before .before .before .before .args .width))
+slice-write-longs c = let s = c .before .before .before .before .before in omega (arith, half-le (s .args .j) (s .args .width))
 
 add-c : tie.Need-add-c Inv-loop μ-loop
 add-c c = search needs

@@ -1,6 +1,6 @@
 -- `downscale::widen` meets its contract: the rows above y stand there. Assumes nothing.
 use mathlib.Core.Path.{_≡_, refl, _∙_}
-use Prim.Native.Nat.{_-_, _≤_}
+use Prim.Native.Nat.{_-_, _*_, _^_, _≤_, _<_}
 use native.Mathlib.Nat.{mul-le-mul-right}
 use native.Mathlib.Omega.{arith}
 use borrow.Author.Needs.{needs}
@@ -23,16 +23,21 @@ abbrev μ-loop : tie.MeasureT-loop
 loop-holds : tie.Need-loop-holds Inv-loop μ-loop
 loop-holds c = (search needs, refl, filled-none _ _ _)
 
-mul-widen-row : tie.Need-mul-widen-row Inv-loop μ-loop
-mul-widen-row c =
+-- row y begins at a place that can be counted, there and here
+begins : (c : tie.In-loop Inv-loop μ-loop) → let s = c .before .before .before .before .before in
+    (c .before .loop .y * s .args .stride < 2 ^ 64) × (c .before .loop .y * s .args .size .width < 2 ^ 64)
+begins c =
     let s = c .before .before .before .before .before in
-    let row = row-inside (s .args .size .width) (s .args .stride) (s .pre .0) (c .loop-test .taken) in
-    omega (arith, row, count-fits (s .args .size .wide) (now (s .args .bytes)) (now (s .args .words)) (omega arith) (omega arith))
+    let there = row-inside (s .args .size .width) (s .args .stride) (s .pre .0) (c .loop-test .taken) in
+    let here = mul-le-mul-right (s .args .size .width) (c .loop-test .taken) in
+    let few = count-fits (s .args .size .wide) (now (s .args .bytes)) (now (s .args .words)) (omega arith) (omega arith) in
+    (omega (arith, there, few), omega (arith, here))
+
+mul-widen-row : tie.Need-mul-widen-row Inv-loop μ-loop
+mul-widen-row c = omega (arith, begins c)
 
 mul-widen-row-2 : tie.Need-mul-widen-row-2 Inv-loop μ-loop
-mul-widen-row-2 c =
-    let s = c .before .before .before .before .before in
-    omega (arith, mul-le-mul-right (s .args .size .width) (c .loop-test .taken))
+mul-widen-row-2 c = omega (arith, begins c)
 
 widen-row-requires : tie.Need-widen-row-requires Inv-loop μ-loop
 widen-row-requires c κs =
