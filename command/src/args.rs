@@ -238,6 +238,40 @@ impl Words {
         })
     }
 
+    /// The two files; a list that stands for them leaves them open.
+    fn files(&self) -> Result<[PathBuf; 2], Stop> {
+        match (&self.others[..], self.has("--pairs")) {
+            ([original, decoded], false) if original == "-" && decoded == "-" => {
+                Err(usage("only one of the two can be standard input"))
+            }
+            ([original, decoded], false) => Ok([PathBuf::from(original), PathBuf::from(decoded)]),
+            ([], true) => Ok([PathBuf::new(), PathBuf::new()]),
+            (_, false) => Err(usage("compare takes two files: ORIGINAL DECODED")),
+            (_, true) => Err(usage("--pairs takes a list in the place of the two files")),
+        }
+    }
+
+    fn form(&self) -> Result<Form, Stop> {
+        match (self.has("--json"), self.has("--csv")) {
+            (false, false) => Ok(Form::Table),
+            (true, false) => Ok(Form::Json),
+            (false, true) => Ok(Form::Csv),
+            (true, true) => Err(usage("--json or --csv, not both")),
+        }
+    }
+
+    fn output(&self) -> To {
+        match self.get("--output") {
+            Some(path) if path != "-" => To::File(PathBuf::from(path)),
+            _ => To::Standard,
+        }
+    }
+
+    fn frames(&self) -> Result<Option<u64>, Stop> {
+        let count = |text: &str| decimal(text.as_bytes()).filter(|count| *count > 0).map(|count| count as u64);
+        self.value("--frames", "a number of frames, at least 1", count)
+    }
+
     fn jobs(&self) -> Result<usize, Stop> {
         let count = |text: &str| decimal(text.as_bytes()).filter(|count| (1..=jobs::MOST).contains(count));
         Ok(self.value("--jobs", "a number from 1 to 1024", count)?.unwrap_or_else(jobs::cores))
@@ -254,51 +288,26 @@ fn compare(words: Words) -> Result<Asked, Stop> {
     if words.wants_help()? {
         return Ok(Asked::Help);
     }
-    let list = words.get("--pairs").map(PathBuf::from);
-    let [original, decoded] = match (&words.others[..], &list) {
-        ([original, decoded], None) => [PathBuf::from(original), PathBuf::from(decoded)],
-        ([], Some(_)) => [PathBuf::new(), PathBuf::new()],
-        (_, None) => return Err(usage("compare takes two files: ORIGINAL DECODED")),
-        (_, Some(_)) => return Err(usage("--pairs takes a list in the place of the two files")),
-    };
-    if original.as_os_str() == "-" && decoded.as_os_str() == "-" {
-        return Err(usage("only one of the two can be standard input"));
-    }
-    let form = match (words.has("--json"), words.has("--csv")) {
-        (false, false) => Form::Table,
-        (true, false) => Form::Json,
-        (false, true) => Form::Csv,
-        (true, true) => return Err(usage("--json or --csv, not both")),
-    };
+    let [original, decoded] = words.files()?;
     let metrics = words.value("--metrics", "a list of error,ssim,scales,msssim,hvs", metrics)?.unwrap_or(Metrics::ALL);
-    let thresholds = thresholds(&words, &metrics)?;
-    if thresholds.is_empty() && words.has("--require-threshold") {
-        return Err(usage(
-            "--require-threshold: no threshold is given, so that everything that can be scored would pass",
-        ));
-    }
-    let jobs = words.jobs()?;
-    let count = |text: &str| decimal(text.as_bytes()).filter(|count| *count > 0).map(|count| count as u64);
-    let frames = words.value("--frames", "a number of frames, at least 1", count)?;
-    let output = match words.get("--output") {
-        Some(path) if path != "-" => To::File(PathBuf::from(path)),
-        _ => To::Standard,
-    };
     let each = Compare {
         original,
         decoded,
         raw: raw(&words)?,
         metrics,
-        jobs,
-        thresholds,
-        form,
-        output,
-        frames,
+        jobs: words.jobs()?,
+        thresholds: thresholds(&words, &metrics)?,
+        form: words.form()?,
+        output: words.output(),
+        frames: words.frames()?,
         strict: words.has("--strict"),
         quiet: words.has("--quiet"),
     };
-    Ok(match list {
-        Some(list) => Asked::Pairs(Box::new(Pairs { list, each })),
+    if each.thresholds.is_empty() && words.has("--require-threshold") {
+        return Err(usage("--require-threshold: no threshold is given, and all that can be scored would pass"));
+    }
+    Ok(match words.get("--pairs") {
+        Some(list) => Asked::Pairs(Box::new(Pairs { list: PathBuf::from(list), each })),
         None => Asked::Compare(Box::new(each)),
     })
 }

@@ -83,7 +83,7 @@ pub fn unfinished(asked: &Compare) -> io::Result<Vec<u8>> {
     let mut text = Vec::new();
     let mut report = report(asked.form);
     begin(&mut *report, &mut text, asked, (None, &[]))?;
-    let fault = Fault::new("the comparison has not ended, or was ended from outside".to_string());
+    let fault = Fault::unfinished();
     let (worst, fault, status) = (&Worst::default(), Some(&fault), FAULT);
     let none = End { frames: 0, run: None, run_broken: &[], summary: None, worst, broken: 0, fault, status };
     report.end(&mut text, &none)?;

@@ -7,6 +7,7 @@ mod compare;
 mod csv;
 mod decibels;
 mod descriptor;
+mod folder;
 mod format;
 mod frames;
 mod input;

@@ -1,17 +1,17 @@
 //! `fuavelino compare --pairs`: a list of pairs, each compared by itself, and what they come to as a whole.
 
 use crate::args::{Compare, Form, Pairs, To};
-use crate::compare::{one, unfinished, Ended};
+use crate::compare::{one, Ended};
+use crate::folder::{clear, name, prepare, summary};
 use crate::input::{identity, named, shown};
 use crate::list::{self, Pair};
 use crate::output::Output;
 use crate::overview::{overview, Counts, Overview, Row, Total};
 use crate::progress::{label, say};
 use crate::stop::{Fault, Stop, FAULT, PASSED};
-use std::collections::HashSet;
-use std::fs::{self, File};
-use std::io::{self, Read};
-use std::path::{Path, PathBuf};
+use std::fs;
+use std::io;
+use std::path::Path;
 
 /// Compares each pair of the list, and gives the worst of their statuses.
 pub fn pairs(asked: &Pairs) -> Result<u8, Stop> {
@@ -88,19 +88,6 @@ fn jobs(asked: &Pairs, list: &[Pair]) -> Vec<Compare> {
     list.iter().enumerate().map(job).collect()
 }
 
-fn extension(form: Form) -> &'static str {
-    match form {
-        Form::Table => "txt",
-        Form::Json => "json",
-        Form::Csv => "csv",
-    }
-}
-
-/// The name of a pair's own report.
-fn name(form: Form, number: usize) -> String {
-    format!("fuavelino-{:04}.{}", number, extension(form))
-}
-
 /// Where the whole is told: on standard output, or in a folder, which is made where it is not there.
 fn output(asked: &Pairs) -> Result<Output, Stop> {
     let folder = match asked.folder() {
@@ -108,7 +95,7 @@ fn output(asked: &Pairs) -> Result<Output, Stop> {
         None if asked.each.quiet && asked.each.form == Form::Table => return Ok(Output::nowhere()),
         None => return Output::standard(),
     };
-    let path = folder.join(format!("fuavelino-summary.{}", extension(asked.each.form)));
+    let path = folder.join(summary(asked.each.form));
     let unwritten = |error| Stop::unwritten(&shown(&path), &error);
     fs::create_dir_all(folder).map_err(unwritten)?;
     if identity(&path).is_some() && identity(&path) == identity(&asked.list) {
@@ -123,69 +110,6 @@ fn first(asked: &Pairs) -> io::Result<Vec<u8>> {
     let mut text = Vec::new();
     let mut overview = overview(asked.each.form);
     overview.begin(&mut text, &named(&asked.list), &asked.each)?;
-    let fault = Fault::new("the comparison has not ended, or was ended from outside".to_string());
-    overview.end(&mut text, &Total { counts: &Counts::default(), fault: Some(&fault), status: FAULT })?;
+    overview.end(&mut text, &Total { counts: &Counts::default(), fault: Some(&Fault::unfinished()), status: FAULT })?;
     Ok(text)
-}
-
-/// Takes away the pairs' reports of an earlier run: no list is read yet, and none may stand for a pair of this one. A file
-/// that only has such a name, and does not begin as a report does, is left.
-fn clear(folder: &Path, each: &Compare) -> Result<(), Stop> {
-    let unwritten = |path: &Path| {
-        let name = shown(path);
-        move |error| Stop::unwritten(&name, &error)
-    };
-    let first = unfinished(each).map_err(unwritten(folder))?;
-    // the first word of a report, whatever its files and its version
-    let word = first.iter().position(|byte| b":,".contains(byte)).map_or(&first[..], |end| &first[..=end]);
-    for path in named_as_reports(folder, each.form).map_err(unwritten(folder))? {
-        if begins(&path, word).map_err(unwritten(&path))? {
-            fs::remove_file(&path).map_err(unwritten(&path))?;
-        }
-    }
-    Ok(())
-}
-
-fn begins(path: &Path, word: &[u8]) -> io::Result<bool> {
-    if !fs::metadata(path)?.is_file() {
-        return Ok(false);
-    }
-    let mut start = Vec::new();
-    File::open(path)?.take(word.len() as u64).read_to_end(&mut start)?;
-    Ok(start == word)
-}
-
-/// Puts a report that did not pass in each pair's place, until its own is whole, but over no file that is to be compared.
-fn prepare(folder: &Path, form: Form, jobs: &[Compare]) -> Result<(), Stop> {
-    let inputs = jobs.iter().flat_map(|job| [identity(&job.original), identity(&job.decoded)]);
-    let inputs: HashSet<(u64, u64)> = inputs.flatten().collect();
-    let compared = |path: &PathBuf| identity(path).map_or(false, |known| inputs.contains(&known));
-    let found = named_as_reports(folder, form).map_err(|error| Stop::unwritten(&shown(folder), &error))?;
-    if let Some(path) = found.iter().find(|path| compared(path)) {
-        return Err(Fault::new(format!("{} is to be compared, and has the name of a report", shown(path))).into());
-    }
-    jobs.iter().for_each(put_unfinished);
-    Ok(())
-}
-
-fn put_unfinished(job: &Compare) {
-    if let (To::File(path), Ok(first)) = (&job.output, unfinished(job)) {
-        // what cannot be written now is told when the pair's turn comes
-        drop(Output::replace(path, &first));
-    }
-}
-
-/// What has the name of a pair's report in a folder.
-fn named_as_reports(folder: &Path, form: Form) -> io::Result<Vec<PathBuf>> {
-    let mut list = Vec::new();
-    for entry in fs::read_dir(folder)? {
-        let entry = entry?;
-        let found = entry.file_name();
-        let digits = |text: &str| text.chars().filter(char::is_ascii_digit).collect::<String>().parse::<usize>().ok();
-        let number = found.to_str().and_then(digits);
-        if number.map_or(false, |number| found == *name(form, number)) {
-            list.push(entry.path());
-        }
-    }
-    Ok(list)
 }

@@ -24,6 +24,11 @@ impl Fault {
         Fault { message, refusal: None }
     }
 
+    /// What is told of a comparison until it has ended.
+    pub fn unfinished() -> Fault {
+        Fault::new("the comparison has not ended, or was ended from outside".to_string())
+    }
+
     /// The library refuses with 8 where it is lent too little room.
     pub fn out_of_memory(place: &str) -> Fault {
         let message = format!("{}: out of memory: no room for this score's working numbers (refusal 8)", place);

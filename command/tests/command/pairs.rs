@@ -114,34 +114,36 @@ fn each_pair_has_the_report_of_its_own_comparison() {
             let alone = run(&[&words!["compare", original, decoded, "--max-error=0"][..], &form].concat());
             assert_eq!(night.report(name), alone.out);
         }
-        // the summary is the one that standard output has, but that it names the reports
-        let summary = night.report(&names[3]);
-        match extension {
-            "json" => {
-                for (pair, name) in Json::read(&summary).at("pairs").list().iter().zip(&names) {
-                    assert_eq!(pair.at("report").text(), name);
-                    let report = Json::read(&night.report(name));
-                    for same in ["original", "decoded", "error", "status", "passed", "broken"] {
-                        assert_eq!(pair.at(same), report.at(same));
-                    }
-                    assert_eq!(pair.at("frames").number(), report.at("frames").list().len() as f64);
-                    if report.at("run") != &Json::Null {
-                        assert_eq!(pair.at("combined"), report.at("run").at("combined"));
-                    }
-                }
-                let unnamed = names.iter().fold(summary, |text, name| text.replace(&format!("\"{}\"", name), "null"));
-                assert_eq!(unnamed, direct.out);
+        told_alike(&night, &names, &direct.out);
+    }
+}
+
+/// The summary is the one that standard output has, but that it names the reports.
+fn told_alike(night: &Night, names: &[String; 4], direct: &str) {
+    let summary = night.report(&names[3]);
+    if names[3].ends_with(".json") {
+        for (pair, name) in Json::read(&summary).at("pairs").list().iter().zip(names) {
+            assert_eq!(pair.at("report").text(), name);
+            let report = Json::read(&night.report(name));
+            for same in ["original", "decoded", "error", "status", "passed", "broken"] {
+                assert_eq!(pair.at(same), report.at(same));
             }
-            "csv" => {
-                let columns = summary.lines().next().unwrap().split(',').count();
-                assert!(summary.starts_with("scope,pair,status,frames,broken,original,decoded,report,message,sq_err,"));
-                assert!(summary.ends_with(&format!("\nnot passed{}\n", ",".repeat(columns - 1))));
-                // a name with a comma and quotes is one cell
-                assert!(summary.contains("an original, \"\"good\"\".y4m\","), "{}", summary);
-                assert!(summary.contains("\npair,1,0,2,0,") && summary.contains("\npair,2,3,1,0,"), "{}", summary);
+            assert_eq!(pair.at("frames").number(), report.at("frames").list().len() as f64);
+            if report.at("run") != &Json::Null {
+                assert_eq!(pair.at("combined"), report.at("run").at("combined"));
             }
-            _ => assert_eq!(summary, direct.out),
         }
+        let unnamed = names.iter().fold(summary, |text, name| text.replace(&format!("\"{}\"", name), "null"));
+        assert_eq!(unnamed, direct);
+    } else if names[3].ends_with(".csv") {
+        let columns = summary.lines().next().unwrap().split(',').count();
+        assert!(summary.starts_with("scope,pair,status,frames,broken,original,decoded,report,message,sq_err,"));
+        assert!(summary.ends_with(&format!("\nnot passed{}\n", ",".repeat(columns - 1))));
+        // a name with a comma and quotes is one cell
+        assert!(summary.contains("an original, \"\"good\"\".y4m\","), "{}", summary);
+        assert!(summary.contains("\npair,1,0,2,0,") && summary.contains("\npair,2,3,1,0,"), "{}", summary);
+    } else {
+        assert_eq!(summary, direct);
     }
 }
 
