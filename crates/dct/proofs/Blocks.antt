@@ -44,6 +44,10 @@ small-column n b h i = small-spaced n i 8 b h
 pub small-row : (n : ℕ) (b : List ℤ) → AllWithin n b → (i : ℕ) → AllWithin n (row i b)
 small-row n b h i = small-spaced n (8 * i) 1 b h
 
+-- in the order of the inputs
+pub ordered-within : (n : ℕ) (x : List ℤ) → AllWithin n x → AllWithin n (inputOrder x)
+ordered-within n x h = let w = small-at n x h in (w 0, (w 7, (w 2, (w 5, (w 1, (w 6, (w 3, (w 4, tt))))))))
+
 pub length-fdct8 : (x : List ℤ) → length (fdct8 x) ≡ 8
 unfolding fdct8
 length-fdct8 x = length-run steps (inputOrder x)

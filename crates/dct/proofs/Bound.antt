@@ -11,7 +11,7 @@ use Rattle.lifting.specs.Inner.Within.{AllWithin}
 use Rattle.lifting.specs.Steps.{run, steps, steps1, steps2, steps3, steps4, steps5, undoAll}
 use Rattle.dct.specs.Block.{fdct8, idct8, inputOrder, column, row, rows, fdct8Columns, transposed, idct8Rows, fdct8x8}
 use Rattle.lifting.proofs.Forms.{reach, reached}
-use Rattle.dct.proofs.Blocks.{small-at, small-column, small-row}
+use Rattle.dct.proofs.Blocks.{ordered-within, small-at, small-column, small-row}
 
 -- ---- lists
 
@@ -33,8 +33,7 @@ module _ (n m : ℕ) (l : reach 8 steps n ≤ m) where
   fdct8-small : (x : List ℤ) → AllWithin n x → AllWithin m (fdct8 x)
   unfolding fdct8
   fdct8-small x h =
-      let w = small-at n x h in
-      reached steps n m (inputOrder x) l (w 0, (w 7, (w 2, (w 5, (w 1, (w 6, (w 3, (w 4, tt))))))))
+      reached steps n m (inputOrder x) l (ordered-within n x h)
 
   fdct8-columns-small : (b : List ℤ) → AllWithin n b → AllWithin m (fdct8Columns b)
   unfolding fdct8Columns

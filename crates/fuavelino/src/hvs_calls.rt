@@ -21,9 +21,9 @@ fn score8(
     kind: Kind,
     score: &mut f64,
 ) -> u8
-    ensures { λ r. ⌜ r ≡ hvsNumber (hvsOf kind (called false (a .entry) (b .entry) width height «stride_a» «stride_b» depth)) ⌝ }
-    ensures { λ _. ⌜ now (score .exit) ≡ hvsWritten (hvsOf kind
-        (called false (a .entry) (b .entry) width height «stride_a» «stride_b» depth)) (now (score .entry)) ⌝ }
+    ensures { λ r. ⌜ r ≡ hvsNumber (hvsOf (called false (a .entry) (b .entry) width height «stride_a» «stride_b» depth) kind) ⌝ }
+    ensures { λ _. ⌜ now (score .exit) ≡ hvsWritten (hvsOf
+        (called false (a .entry) (b .entry) width height «stride_a» «stride_b» depth) kind) (now (score .entry)) ⌝ }
 {
     match psnr_hvs::psnr_hvs8(a, b, width, height, stride_a, stride_b, depth, kind) {
         Hvs::Score(s) => {
@@ -46,9 +46,9 @@ fn score16(
     kind: Kind,
     score: &mut f64,
 ) -> u8
-    ensures { λ r. ⌜ r ≡ hvsNumber (hvsOf kind (called true (a .entry) (b .entry) width height «stride_a» «stride_b» depth)) ⌝ }
-    ensures { λ _. ⌜ now (score .exit) ≡ hvsWritten (hvsOf kind
-        (called true (a .entry) (b .entry) width height «stride_a» «stride_b» depth)) (now (score .entry)) ⌝ }
+    ensures { λ r. ⌜ r ≡ hvsNumber (hvsOf (called true (a .entry) (b .entry) width height «stride_a» «stride_b» depth) kind) ⌝ }
+    ensures { λ _. ⌜ now (score .exit) ≡ hvsWritten (hvsOf
+        (called true (a .entry) (b .entry) width height «stride_a» «stride_b» depth) kind) (now (score .entry)) ⌝ }
 {
     match psnr_hvs::psnr_hvs16(a, b, width, height, stride_a, stride_b, depth, kind) {
         Hvs::Score(s) => {
@@ -71,9 +71,9 @@ pub extern "C" fn fuavelino_psnr_hvs_y8(
     depth: u32,
     score: &mut f64,
 ) -> u8
-    ensures { λ r. ⌜ r ≡ hvsNumber (hvsOf Luma (called false (a .entry) (b .entry) width height «stride_a» «stride_b» depth)) ⌝ }
-    ensures { λ _. ⌜ now (score .exit) ≡ hvsWritten (hvsOf Luma
-        (called false (a .entry) (b .entry) width height «stride_a» «stride_b» depth)) (now (score .entry)) ⌝ }
+    ensures { λ r. ⌜ r ≡ hvsNumber (hvsOf (called false (a .entry) (b .entry) width height «stride_a» «stride_b» depth) Luma) ⌝ }
+    ensures { λ _. ⌜ now (score .exit) ≡ hvsWritten (hvsOf
+        (called false (a .entry) (b .entry) width height «stride_a» «stride_b» depth) Luma) (now (score .entry)) ⌝ }
 {
     score8(
         a,
@@ -100,9 +100,9 @@ pub extern "C" fn fuavelino_psnr_hvs_u8(
     depth: u32,
     score: &mut f64,
 ) -> u8
-    ensures { λ r. ⌜ r ≡ hvsNumber (hvsOf Cb (called false (a .entry) (b .entry) width height «stride_a» «stride_b» depth)) ⌝ }
-    ensures { λ _. ⌜ now (score .exit) ≡ hvsWritten (hvsOf Cb
-        (called false (a .entry) (b .entry) width height «stride_a» «stride_b» depth)) (now (score .entry)) ⌝ }
+    ensures { λ r. ⌜ r ≡ hvsNumber (hvsOf (called false (a .entry) (b .entry) width height «stride_a» «stride_b» depth) Cb) ⌝ }
+    ensures { λ _. ⌜ now (score .exit) ≡ hvsWritten (hvsOf
+        (called false (a .entry) (b .entry) width height «stride_a» «stride_b» depth) Cb) (now (score .entry)) ⌝ }
 {
     score8(
         a,
@@ -129,9 +129,9 @@ pub extern "C" fn fuavelino_psnr_hvs_v8(
     depth: u32,
     score: &mut f64,
 ) -> u8
-    ensures { λ r. ⌜ r ≡ hvsNumber (hvsOf Cr (called false (a .entry) (b .entry) width height «stride_a» «stride_b» depth)) ⌝ }
-    ensures { λ _. ⌜ now (score .exit) ≡ hvsWritten (hvsOf Cr
-        (called false (a .entry) (b .entry) width height «stride_a» «stride_b» depth)) (now (score .entry)) ⌝ }
+    ensures { λ r. ⌜ r ≡ hvsNumber (hvsOf (called false (a .entry) (b .entry) width height «stride_a» «stride_b» depth) Cr) ⌝ }
+    ensures { λ _. ⌜ now (score .exit) ≡ hvsWritten (hvsOf
+        (called false (a .entry) (b .entry) width height «stride_a» «stride_b» depth) Cr) (now (score .entry)) ⌝ }
 {
     score8(
         a,
@@ -158,9 +158,9 @@ pub extern "C" fn fuavelino_psnr_hvs_y16(
     depth: u32,
     score: &mut f64,
 ) -> u8
-    ensures { λ r. ⌜ r ≡ hvsNumber (hvsOf Luma (called true (a .entry) (b .entry) width height «stride_a» «stride_b» depth)) ⌝ }
-    ensures { λ _. ⌜ now (score .exit) ≡ hvsWritten (hvsOf Luma
-        (called true (a .entry) (b .entry) width height «stride_a» «stride_b» depth)) (now (score .entry)) ⌝ }
+    ensures { λ r. ⌜ r ≡ hvsNumber (hvsOf (called true (a .entry) (b .entry) width height «stride_a» «stride_b» depth) Luma) ⌝ }
+    ensures { λ _. ⌜ now (score .exit) ≡ hvsWritten (hvsOf
+        (called true (a .entry) (b .entry) width height «stride_a» «stride_b» depth) Luma) (now (score .entry)) ⌝ }
 {
     score16(
         a,
@@ -187,9 +187,9 @@ pub extern "C" fn fuavelino_psnr_hvs_u16(
     depth: u32,
     score: &mut f64,
 ) -> u8
-    ensures { λ r. ⌜ r ≡ hvsNumber (hvsOf Cb (called true (a .entry) (b .entry) width height «stride_a» «stride_b» depth)) ⌝ }
-    ensures { λ _. ⌜ now (score .exit) ≡ hvsWritten (hvsOf Cb
-        (called true (a .entry) (b .entry) width height «stride_a» «stride_b» depth)) (now (score .entry)) ⌝ }
+    ensures { λ r. ⌜ r ≡ hvsNumber (hvsOf (called true (a .entry) (b .entry) width height «stride_a» «stride_b» depth) Cb) ⌝ }
+    ensures { λ _. ⌜ now (score .exit) ≡ hvsWritten (hvsOf
+        (called true (a .entry) (b .entry) width height «stride_a» «stride_b» depth) Cb) (now (score .entry)) ⌝ }
 {
     score16(
         a,
@@ -216,9 +216,9 @@ pub extern "C" fn fuavelino_psnr_hvs_v16(
     depth: u32,
     score: &mut f64,
 ) -> u8
-    ensures { λ r. ⌜ r ≡ hvsNumber (hvsOf Cr (called true (a .entry) (b .entry) width height «stride_a» «stride_b» depth)) ⌝ }
-    ensures { λ _. ⌜ now (score .exit) ≡ hvsWritten (hvsOf Cr
-        (called true (a .entry) (b .entry) width height «stride_a» «stride_b» depth)) (now (score .entry)) ⌝ }
+    ensures { λ r. ⌜ r ≡ hvsNumber (hvsOf (called true (a .entry) (b .entry) width height «stride_a» «stride_b» depth) Cr) ⌝ }
+    ensures { λ _. ⌜ now (score .exit) ≡ hvsWritten (hvsOf
+        (called true (a .entry) (b .entry) width height «stride_a» «stride_b» depth) Cr) (now (score .entry)) ⌝ }
 {
     score16(
         a,

@@ -1,8 +1,7 @@
 pub mod Folds
+pub mod Numbers
 pub mod Sizes
 pub mod Walks
-pub mod Numbers
-pub mod Fractions
-pub mod Variance
+pub mod WholeVariance
 pub mod Quarters
 pub mod Levels

@@ -15,7 +15,8 @@ use mir.Val.{SFits}
 use Rattle.dct.specs.Inner.Coefficients.{coefficientLimit}
 use Rattle.lifting.specs.Inner.Within.{Within, AllWithin}
 use Rattle.lifting.specs.Inner.Operation.{read32}
-use Rattle.hvs_block.specs.Levels.{Sample}
+use Rattle.hvs_block.specs.Inner.Levels.{Sample}
+use Rattle.hvs_block.proofs.Numbers.{sample-small}
 use Rattle.lifting.proofs.Size.{fits, size-mul, size-diff, whole}
 use Rattle.dct.proofs.Blocks.{small-at}
 
@@ -24,7 +25,7 @@ same : {n : ℕ} {z : ℤ} → T (ltb n (2 ^ 31)) → Within n z → read32 z �
 same {n} {z} t w = whole (fits z (lt-of-le-of-lt (w .le) (ltb→lt n (2 ^ 31) t)) .sfits)
 
 pub read-sample : {z : ℤ} → Sample z → read32 z ≡ z
-read-sample h = same tt (record { le = h .small })
+read-sample h = same {n = 2 ^ 12} tt (record { le = sample-small h })
 
 pub sample-read : {z : ℤ} → Sample z → Sample (read32 z)
 sample-read h = rw (read-sample h) h
@@ -66,14 +67,14 @@ module _ (a b : ℤ) (h : Within coefficientLimit a) (k : Within coefficientLimi
   read : read32 (read32 a -ℤ read32 b) ≡ a -ℤ b
   read = rw (same tt h, same tt k) (whole (fits (a -ℤ b) small .sfits))
 
-  turned : ltZ (read32 (read32 a -ℤ read32 b)) (pos 0) ≡ true → pos 0 -ℤ read32 (read32 a -ℤ read32 b) ≡ pos (natAbs (a -ℤ b))
-  turned e = rw read (size-minus (a -ℤ b) (rw read at e))
+  negated : ltZ (read32 (read32 a -ℤ read32 b)) (pos 0) ≡ true → pos 0 -ℤ read32 (read32 a -ℤ read32 b) ≡ pos (natAbs (a -ℤ b))
+  negated e = rw read (size-minus (a -ℤ b) (rw read at e))
 
-  pub turned-fits : ltZ (read32 (read32 a -ℤ read32 b)) (pos 0) ≡ true → SFits w32 (pos 0 -ℤ read32 (read32 a -ℤ read32 b))
-  turned-fits e = rw (turned e) (fits (pos (natAbs (a -ℤ b))) small)
+  pub negated-fits : ltZ (read32 (read32 a -ℤ read32 b)) (pos 0) ≡ true → SFits w32 (pos 0 -ℤ read32 (read32 a -ℤ read32 b))
+  negated-fits e = rw (negated e) (fits (pos (natAbs (a -ℤ b))) small)
 
-  pub apart-below : ltZ (read32 (read32 a -ℤ read32 b)) (pos 0) ≡ true → read32 (pos 0 -ℤ read32 (read32 a -ℤ read32 b)) ≡ pos (natAbs (a -ℤ b))
-  apart-below e = rw (turned e) (whole (fits (pos (natAbs (a -ℤ b))) small .sfits))
+  pub distance-below : ltZ (read32 (read32 a -ℤ read32 b)) (pos 0) ≡ true → read32 (pos 0 -ℤ read32 (read32 a -ℤ read32 b)) ≡ pos (natAbs (a -ℤ b))
+  distance-below e = rw (negated e) (whole (fits (pos (natAbs (a -ℤ b))) small .sfits))
 
-  pub apart-above : ltZ (read32 (read32 a -ℤ read32 b)) (pos 0) ≡ false → read32 (read32 a -ℤ read32 b) ≡ pos (natAbs (a -ℤ b))
-  apart-above e = read ∙ size-plus (a -ℤ b) (rw read at e)
+  pub distance-above : ltZ (read32 (read32 a -ℤ read32 b)) (pos 0) ≡ false → read32 (read32 a -ℤ read32 b) ≡ pos (natAbs (a -ℤ b))
+  distance-above e = read ∙ size-plus (a -ℤ b) (rw read at e)

@@ -1,5 +1,4 @@
-pub mod Fold
-pub mod Rounded
+pub mod Literals
 pub mod Tables
 pub mod Block
-pub mod Levels
+pub mod Inner

@@ -1,11 +1,10 @@
--- SCOPE, "HVS, SSIM and scales": "The three tables of eight rows by eight are copied from the Rust; y uses CSF_Y, u uses CSF_CB420,
--- v uses CSF_CR420." Each figure as the bits of the double nearest to it, with the decimals of its row above it. Definitions only.
+-- SCOPE, "HVS, SSIM and scales": the Rust's three tables of eight by eight, CSF_Y for y, CSF_CB420 for u and CSF_CR420 for v, and the masks
+-- worked out from them. Each figure is the bits of the double nearest to it, with the decimals of its row above it. Definitions only.
 use mathlib.Core.List.{List, [], _∷_}
 use Prim.Native.Nat.{ℕ}
 use lib.Ieee.{Float, nan, binary64, ofBits}
 use lib.ListN.{getD}
-use Rattle.number.specs.Steps.{_⊗_}
-use Rattle.hvs_block.specs.Fold.{listTo}
+use Rattle.number.specs.Steps.{_⊗_, listTo}
 use Rattle.hvs_block.specs.declared.Kind.{Kind}
 use Rattle.hvs_block.specs.declared.Kind.the-variants.{Luma, Cb, Cr}
 

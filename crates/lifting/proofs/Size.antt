@@ -1,7 +1,7 @@
 -- How large the whole numbers of a step are: the laws that let `omega` follow sizes (`natAbs`). Assumes nothing.
 use mathlib.Core.Path.{_≡_, refl, sym, ap, subst}
 use mathlib.Core.Bool.{Bool, true, false, not, cond}
-use mathlib.Core.List.{List, [], _∷_}
+use mathlib.Core.List.{List, [], _∷_, map}
 use Prim.Native.Nat.{ℕ, zero, suc, _+_, _-_, _*_, _/_, _^_, _≤_, _<_}
 use native.Mathlib.Nat.{le-refl, le-trans, lt-of-le-of-lt, div-lt-iff-lt-mul, mul-le-mul-left, le-of-suc-le-suc, suc-mul, le-of-eq, pow-suc}
 use native.Mathlib.Numerals.{sub-one}
@@ -16,7 +16,7 @@ use mir.Val.{SFits, sel}
 use mir.Facts.{toZ-ofZ}
 use Rattle.lifting.specs.Steps.{half, part}
 use Rattle.lifting.specs.Inner.Operation.{read32, Is, HalfOf}
-use Rattle.lifting.specs.Inner.Within.{Within}
+use Rattle.lifting.specs.Inner.Within.{Within, AllWithin}
 
 pub cond-ind : (c : Bool) (x y : ℤ) (P : ℤ → Type 0) → (T c → P x) → (T (not c) → P y) → P (cond c x y)
 cond-ind true x y P f g = f tt
@@ -136,6 +136,10 @@ again z n r f a = subst (λ (x : ℤ). Is z n x) (sym (toZ-ofZ (sfits-of f))) a
 -- what is read back of a number that is small is small
 pub read : {n : ℕ} {z : ℤ} → Within n z → Within n (read32 z)
 read {n} {z} w = record { le = within w }
+
+pub read-all : (n : ℕ) (v : List ℤ) → AllWithin n v → AllWithin n (map read32 v)
+read-all n [] h = tt
+read-all n (a ∷ v) h = (read (h .0), read-all n v (h .1))
 
 -- what is read back of a number that came out of memory, a struct or a call
 pub whole : {z : ℤ} → mag z < 2 ^ 31 → read32 z ≡ z

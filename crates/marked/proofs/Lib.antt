@@ -1,1 +1,1 @@
-pub mod Figures
+pub mod Marked

@@ -9,3 +9,5 @@ pub mod Folds
 pub mod Order
 pub mod Swap
 pub mod Overflow
+pub mod Lists
+pub mod Fractions

@@ -1,5 +1,6 @@
 -- SCOPE: "Doubles: each operation rounded once, in the order written in the Rust". The four operations on doubles, the double
--- of a whole number, and steps taken in turn. Definitions only.
+-- of a whole number, steps taken in turn, and a list by its places. Definitions only.
+use mathlib.Core.List.{List, [], _∷_, _++_}
 use Prim.Native.Nat.{ℕ, zero, suc}
 use lib.IntN.{pos}
 use lib.Ieee.{Float, binary64, add, sub, mul, div, ofInt}
@@ -29,3 +30,8 @@ module _ {A : Type 0} where
   unfoldable pub foldTo : (A → ℕ → A) → A → ℕ → A
   foldTo step a zero = a
   foldTo step a (suc n) = step (foldTo step a n) n
+
+  -- f 0, f 1, .. f (n - 1)
+  unfoldable pub listTo : (ℕ → A) → ℕ → List A
+  listTo f zero = []
+  listTo f (suc n) = listTo f n ++ (f n ∷ [])

@@ -1,28 +1,32 @@
--- What planes that no test refuses give the score, and the answer by cases. Assumes nothing.
-use mathlib.Core.Bool.{Bool}
+-- What planes that no test refuses give the score. Assumes nothing.
+use mathlib.Core.Bool.{Bool, true, false}
 use Prim.Native.Nat.{ℕ, _-_, _*_, _≤_, _^_}
-use native.Mathlib.Nat.{mul-le-mul, le-trans}
+use native.Mathlib.Nat.{mul-le-mul, le-trans, le-refl}
 use native.Mathlib.Omega.{arith}
+use lib.Dec.{lit≤}
 use Rattle.plane.specs.Limits.{sideLimit, mostDepth}
-use Rattle.plane.specs.declared.Size.{Size}
-use Rattle.plane.specs.Plane.{Plane, Planes, maxOf}
-use Rattle.plane.specs.Inner.Lawful.{Lawful, AcceptedPair}
+use Rattle.plane.specs.Plane.{Planes, maxOf}
+use Rattle.plane.specs.Inner.Lawful.{BoundedPair, AcceptedPair}
 use Rattle.plane.proofs.Limits.{side-small}
-use Rattle.plane.proofs.Depth.{max-small}
+use Rattle.plane.proofs.Depth.{max-grows, max-small}
+use Rattle.hvs_block.specs.Inner.Levels.{sampleLimit}
 use Rattle.psnr_hvs.specs.Score.{blocksPerSide}
-use Rattle.psnr_hvs.specs.Legible.{Legible, LegiblePair}
 
-legible : (size : Size) (p : Plane) → Lawful size p → size .depth ≤ mostDepth (size .wide) → Legible size p
-legible size p h l = record {
-  long = h .bounded .long;
-  small = λ (r c : ℕ) lr lc. le-trans (h .bounded .small r c lr lc) (omega (arith, max-small (size .wide) l));
-}
+-- words have the largest samples
+deepest : (wide : Bool) → mostDepth wide ≤ mostDepth true
+unfolding mostDepth
+deepest true = le-refl 12
+deepest false = lit≤ tt
 
-pub both-legible : {p : Planes} {least : ℕ} → AcceptedPair p least → LegiblePair p
-both-legible c = record {
-  first = legible _ _ (c .each .0) (c .sized .depth-most);
-  second = legible _ _ (c .each .1 .0) (c .sized .depth-most);
-}
+pub bounded : {p : Planes} {least : ℕ} → AcceptedPair p least → BoundedPair sampleLimit p
+bounded {p} c =
+    let top : maxOf (p .size .depth) ≤ sampleLimit = max-grows (le-trans (c .sized .depth-most) (deepest (p .size .wide))) in
+    let a = c .each .0 .bounded in
+    let b = c .each .1 .0 .bounded in
+    record {
+      first = record { long = a .long; small = λ (y x : ℕ) ly lx. le-trans (a .small y x ly lx) top };
+      second = record { long = b .long; small = λ (y x : ℕ) ly lx. le-trans (b .small y x ly lx) top };
+    }
 
 -- the two divisors fit, and are exact
 pub blocks-few : (width height : ℕ) → width ≤ sideLimit → height ≤ sideLimit → blocksPerSide width * blocksPerSide height ≤ 2 ^ 28

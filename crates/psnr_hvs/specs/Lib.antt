@@ -1,2 +1,2 @@
 pub mod Score
-pub mod Legible
+pub mod Inner

@@ -9,9 +9,9 @@ use Rattle.refusal.specs.Numbers.{notFiniteNo}
 use Rattle.refusal.specs.First.{byRefusal}
 use Rattle.plane.specs.Plane.{Plane, Planes, sampleAt, maxOf}
 use Rattle.plane.specs.Tests.{pairRefusal}
-use Rattle.number.specs.Steps.{foldTo, _⊘_, double}
-use Rattle.hvs_block.specs.Fold.{listTo}
-use Rattle.hvs_block.specs.Rounded.{zero64}
+use Rattle.number.specs.Steps.{foldTo, listTo, _⊘_, double}
+use Rattle.number.specs.Literals.{zeroD}
+use Rattle.dct.specs.Limits.{blockSize}
 use Rattle.hvs_block.specs.Tables.{csfOf, masksOf}
 use Rattle.hvs_block.specs.Block.{withBlock}
 use Rattle.hvs_block.specs.declared.Kind.{Kind}
@@ -22,50 +22,54 @@ use Rattle.psnr_hvs.specs.declared.Hvs.the-variants.{Score, Refused}
 abbrev pub blockSide : ℕ
 blockSide = 8
 
-abbrev pub step : ℕ
-step = 7
+abbrev pub blockStep : ℕ
+blockStep = 7
 
--- "blocks of 8 begin at 0, 7, 14 and so on, below side - 7: floor((side - 8)/7) + 1 per side"
+-- blocks begin at 0, 7, 14 and so on, as long as they end inside: so many on a side (proofs/Blocks.antt, `starts`)
 abbrev pub blocksPerSide : ℕ → ℕ
-blocksPerSide side = (side - blockSide) / step + 1
+blocksPerSide side = (side - blockSide) / blockStep + 1
 
 -- the block whose first sample is (x, y), row by row
 abbrev pub sampleIn : Plane → ℕ → ℕ → ℕ → ℤ
-sampleIn p x y k = pos (sampleAt p (y + k / 8) (x + k % 8))
+sampleIn p x y k = pos (sampleAt p (y + k / blockSide) (x + k % blockSide))
 
 unfoldable pub blockAt : Plane → ℕ → ℕ → List ℤ
-blockAt p x y = listTo (sampleIn p x y) 64
+blockAt p x y = listTo (sampleIn p x y) blockSize
 
 -- result, and then the blocks of both planes whose first sample is (x, y)
-abbrev pub withBlocks : List (List Float) → List (List Float) → Planes → ℕ → ℕ → Float → Float
-withBlocks csf mask p x y result = withBlock csf mask (blockAt (p .a) x y) (blockAt (p .b) x y) result
+abbrev pub withBlocks : Planes → ℕ → ℕ → List (List Float) → List (List Float) → Float → Float
+withBlocks p x y csf mask result = withBlock (blockAt (p .a) x y) (blockAt (p .b) x y) csf mask result
 
 -- result, and then n blocks of a row of blocks that begins at row y
-unfoldable pub alongRow : List (List Float) → List (List Float) → Planes → ℕ → Float → ℕ → Float
-alongRow csf mask p y result n = foldTo (λ (s : Float) (x : ℕ). withBlocks csf mask p (step * x) y s) result n
+unfoldable pub alongRow : Planes → ℕ → List (List Float) → List (List Float) → Float → ℕ → Float
+alongRow p y csf mask result n = foldTo (λ (s : Float) (x : ℕ). withBlocks p (blockStep * x) y csf mask s) result n
 
 -- the first n rows of blocks
-unfoldable pub downRows : List (List Float) → List (List Float) → Planes → ℕ → Float
-downRows csf mask p n = foldTo (λ (s : Float) (y : ℕ). alongRow csf mask p (step * y) s (blocksPerSide (p .size .width))) zero64 n
+unfoldable pub downRows : Planes → List (List Float) → List (List Float) → ℕ → Float
+downRows p csf mask n = foldTo (λ (s : Float) (y : ℕ). alongRow p (blockStep * y) csf mask s (blocksPerSide (p .size .width))) zeroD n
 
--- "The last steps divide by 64 × blocks, then by sample_max²"
-unfoldable pub hvsScore : Kind → Planes → Float
-hvsScore kind p =
+-- all of them, divided by the count of their places, then by the square of sample_max
+unfoldable pub hvsScore : Planes → Kind → Float
+hvsScore p kind =
     let across = blocksPerSide (p .size .width) in
     let down = blocksPerSide (p .size .height) in
     let max = maxOf (p .size .depth) in
-    downRows (csfOf kind) (masksOf (csfOf kind)) p down ⊘ double (64 * (across * down)) ⊘ double (max * max)
+    downRows p (csfOf kind) (masksOf (csfOf kind)) down ⊘ double (blockSize * (across * down)) ⊘ double (max * max)
 
 -- ---- the answer
 
--- 9 where the defined score is not finite
-abbrev pub scored : Bool → Float → Hvs
-scored true s = Score s
-scored false s = Refused notFiniteNo
+-- the lowest of 1 to 6 that applies
+abbrev pub hvsRefusal : Planes → ℕ
+hvsRefusal p = pairRefusal p blockSide
 
--- the lowest of 1 to 6 that applies, and the score where none does
-unfoldable pub hvsOf : Kind → Planes → Hvs
-hvsOf kind p =
-    let n = pairRefusal p blockSide in
-    let s = hvsScore kind p in
-    byRefusal n (scored (finite s) s) (Refused n)
+-- 9 where the score is not finite
+abbrev pub scoreOr9 : Bool → Float → Hvs
+scoreOr9 true s = Score s
+scoreOr9 false s = Refused notFiniteNo
+
+-- the lowest of 1 to 6 that applies; where none does the score, or 9
+unfoldable pub hvsOf : Planes → Kind → Hvs
+hvsOf p kind =
+    let n = hvsRefusal p in
+    let s = hvsScore p kind in
+    byRefusal n (scoreOr9 (finite s) s) (Refused n)

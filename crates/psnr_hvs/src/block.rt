@@ -1,16 +1,17 @@
 // One block of 8 by 8 of each plane: its samples are read, and its error is added.
 ghost use mathlib.Core.Path.{_≡_};
-ghost use Prim.Native.Nat.{_+_, _≤_};
 ghost use Rattle.plane.specs.Plane.{lent, planes};
+ghost use Rattle.plane.specs.Inner.Lawful.{Bounded, BoundedPair};
+ghost use Rattle.hvs_block.specs.Inner.Levels.{sampleLimit};
 ghost use Rattle.psnr_hvs.specs.Score.{blockAt, withBlocks};
-ghost use Rattle.psnr_hvs.specs.Legible.{Legible, LegiblePair, Inside};
+ghost use Rattle.psnr_hvs.specs.Inner.Blocks.{BlockFits};
 use plane::Layout;
 use plane::Size;
 
 // The block whose first sample is (x, y).
 fn loaded(bytes: &[u8], words: &[u16], size: Size, stride: usize, x: usize, y: usize) -> [i32; 64]
-    requires { ⌜ Inside size x y ⌝ }
-    requires { ⌜ Legible size (lent size bytes words stride) ⌝ }
+    requires { ⌜ BlockFits size x y ⌝ }
+    requires { ⌜ Bounded sampleLimit (size .width) (size .height) (lent size bytes words stride) ⌝ }
     ensures { λ r. ⌜ r ≡ blockAt (lent size (bytes .entry) (words .entry) stride) x y ⌝ }
 {
     let mut out = [0i32; 64];
@@ -22,7 +23,6 @@ fn loaded(bytes: &[u8], words: &[u16], size: Size, stride: usize, x: usize, y: u
 
 // The blocks of both planes whose first sample is (x, y), added to `result`.
 pub fn block_at(
-    result: f64,
     a8: &[u8],
     a16: &[u16],
     b8: &[u8],
@@ -30,15 +30,16 @@ pub fn block_at(
     layout: Layout,
     x: usize,
     y: usize,
-    mask: &[[f64; 8]; 8],
     csf: &[[f64; 8]; 8],
+    mask: &[[f64; 8]; 8],
+    result: f64,
 ) -> f64
-    requires { ⌜ Inside (layout .size) x y ⌝ }
-    requires { ⌜ LegiblePair (planes layout a8 a16 b8 b16) ⌝ }
-    ensures { λ r. ⌜ r ≡ withBlocks (now (csf .entry)) (now (mask .entry)) (planes layout (a8 .entry) (a16 .entry) (b8 .entry) (b16 .entry))
-        x y result ⌝ }
+    requires { ⌜ BlockFits (layout .size) x y ⌝ }
+    requires { ⌜ BoundedPair sampleLimit (planes layout a8 a16 b8 b16) ⌝ }
+    ensures { λ r. ⌜ r ≡ withBlocks (planes layout (a8 .entry) (a16 .entry) (b8 .entry) (b16 .entry)) x y
+        (now (csf .entry)) (now (mask .entry)) result ⌝ }
 {
     let p1 = loaded(a8, a16, layout.size, layout.stride_a, x, y);
     let p2 = loaded(b8, b16, layout.size, layout.stride_b, x, y);
-    hvs_block::block::with_block(result, &p1, &p2, mask, csf)
+    hvs_block::block::with_block(&p1, &p2, csf, mask, result)
 }

@@ -7,9 +7,10 @@ ghost use mathlib.Core.Path.{_≡_};
 ghost use mathlib.Core.Bool.{true, false};
 ghost use Prim.Native.Nat.{_+_, _≤_};
 ghost use Rattle.plane.specs.Plane.{planes, called};
-ghost use Rattle.plane.specs.Inner.Lawful.{AcceptedPair};
-ghost use Rattle.psnr_hvs.specs.Legible.{LegiblePair};
-ghost use Rattle.psnr_hvs.specs.Score.{blockSide, blocksPerSide, alongRow, downRows, hvsScore, hvsOf};
+ghost use Rattle.plane.specs.Inner.Lawful.{BoundedPair, AcceptedPair};
+ghost use Rattle.hvs_block.specs.Inner.Levels.{sampleLimit};
+ghost use Rattle.psnr_hvs.specs.Score.{blockSide, blocksPerSide, alongRow, downRows};
+ghost use Rattle.psnr_hvs.specs.Score.{hvsRefusal, hvsScore, hvsOf};
 use plane::Layout;
 use plane::Size;
 
@@ -34,25 +35,25 @@ fn blocks_per_side(side: usize) -> usize
 
 // One row of blocks, which begins at row y of the planes, added to `result`.
 fn along_row(
-    result: f64,
     a8: &[u8],
     a16: &[u16],
     b8: &[u8],
     b16: &[u16],
     layout: Layout,
     y: usize,
-    mask: &[[f64; 8]; 8],
     csf: &[[f64; 8]; 8],
+    mask: &[[f64; 8]; 8],
+    result: f64,
 ) -> f64
-    requires { ⌜ (blockSide ≤ layout .size .width) × (y + 8 ≤ layout .size .height) ⌝ }
-    requires { ⌜ LegiblePair (planes layout a8 a16 b8 b16) ⌝ }
-    ensures { λ r. ⌜ r ≡ alongRow (now (csf .entry)) (now (mask .entry)) (planes layout (a8 .entry) (a16 .entry) (b8 .entry) (b16 .entry))
-        y result (blocksPerSide (layout .size .width)) ⌝ }
+    requires { ⌜ (blockSide ≤ layout .size .width) × (y + blockSide ≤ layout .size .height) ⌝ }
+    requires { ⌜ BoundedPair sampleLimit (planes layout a8 a16 b8 b16) ⌝ }
+    ensures { λ r. ⌜ r ≡ alongRow (planes layout (a8 .entry) (a16 .entry) (b8 .entry) (b16 .entry)) y
+        (now (csf .entry)) (now (mask .entry)) result (blocksPerSide (layout .size .width)) ⌝ }
 {
     let n = blocks_per_side(layout.size.width);
     let mut s = result;
     for x in 0..n {
-        s = block::block_at(s, a8, a16, b8, b16, layout, STEP * x, y, mask, csf);
+        s = block::block_at(a8, a16, b8, b16, layout, STEP * x, y, csf, mask, s);
     }
     s
 }
@@ -64,30 +65,37 @@ fn down_rows(
     b8: &[u8],
     b16: &[u16],
     layout: Layout,
-    mask: &[[f64; 8]; 8],
     csf: &[[f64; 8]; 8],
+    mask: &[[f64; 8]; 8],
 ) -> f64
     requires { ⌜ (blockSide ≤ layout .size .width) × (blockSide ≤ layout .size .height) ⌝ }
-    requires { ⌜ LegiblePair (planes layout a8 a16 b8 b16) ⌝ }
-    ensures { λ r. ⌜ r ≡ downRows (now (csf .entry)) (now (mask .entry)) (planes layout (a8 .entry) (a16 .entry) (b8 .entry) (b16 .entry))
-        (blocksPerSide (layout .size .height)) ⌝ }
+    requires { ⌜ BoundedPair sampleLimit (planes layout a8 a16 b8 b16) ⌝ }
+    ensures { λ r. ⌜ r ≡ downRows (planes layout (a8 .entry) (a16 .entry) (b8 .entry) (b16 .entry))
+        (now (csf .entry)) (now (mask .entry)) (blocksPerSide (layout .size .height)) ⌝ }
 {
     let n = blocks_per_side(layout.size.height);
     let mut s = 0.0;
     for y in 0..n {
-        s = along_row(s, a8, a16, b8, b16, layout, STEP * y, mask, csf);
+        s = along_row(a8, a16, b8, b16, layout, STEP * y, csf, mask, s);
     }
     s
+}
+
+// The lowest of 1 to 6 that applies, or 0.
+fn refusal(a8: &[u8], a16: &[u16], b8: &[u8], b16: &[u16], layout: Layout) -> u8
+    ensures { λ r. ⌜ r ≡ hvsRefusal (planes layout (a8 .entry) (a16 .entry) (b8 .entry) (b16 .entry)) ⌝ }
+{
+    plane::check(a8, a16, b8, b16, layout, BLOCK_SIDE)
 }
 
 // The score of two planes that no test refuses.
 fn score(a8: &[u8], a16: &[u16], b8: &[u8], b16: &[u16], layout: Layout, kind: Kind) -> f64
     requires { ⌜ AcceptedPair (planes layout a8 a16 b8 b16) blockSide ⌝ }
-    ensures { λ r. ⌜ r ≡ hvsScore kind (planes layout (a8 .entry) (a16 .entry) (b8 .entry) (b16 .entry)) ⌝ }
+    ensures { λ r. ⌜ r ≡ hvsScore (planes layout (a8 .entry) (a16 .entry) (b8 .entry) (b16 .entry)) kind ⌝ }
 {
     let csf = hvs_block::tables::csf_of(kind);
     let mask = hvs_block::tables::masks(csf);
-    let sum = down_rows(a8, a16, b8, b16, layout, &mask, &csf);
+    let sum = down_rows(a8, a16, b8, b16, layout, &csf, &mask);
     let blocks = (blocks_per_side(layout.size.width) * blocks_per_side(layout.size.height)) as u64;
     let max = plane::sample_max(layout.size.depth) as u64;
     sum / number::exact(64 * blocks) / number::exact(max * max)
@@ -95,9 +103,9 @@ fn score(a8: &[u8], a16: &[u16], b8: &[u8], b16: &[u16], layout: Layout, kind: K
 
 // The answer for two planes of either width.
 fn answer(a8: &[u8], a16: &[u16], b8: &[u8], b16: &[u16], layout: Layout, kind: Kind) -> Hvs
-    ensures { λ r. ⌜ r ≡ hvsOf kind (planes layout (a8 .entry) (a16 .entry) (b8 .entry) (b16 .entry)) ⌝ }
+    ensures { λ r. ⌜ r ≡ hvsOf (planes layout (a8 .entry) (a16 .entry) (b8 .entry) (b16 .entry)) kind ⌝ }
 {
-    let no = plane::check(a8, a16, b8, b16, layout, BLOCK_SIDE);
+    let no = refusal(a8, a16, b8, b16, layout);
     if no != 0 {
         return Hvs::Refused(no);
     }
@@ -120,7 +128,7 @@ pub fn psnr_hvs8(
     depth: u32,
     kind: Kind,
 ) -> Hvs
-    ensures { λ r. ⌜ r ≡ hvsOf kind (called false (a .entry) (b .entry) width height «stride_a» «stride_b» depth) ⌝ }
+    ensures { λ r. ⌜ r ≡ hvsOf (called false (a .entry) (b .entry) width height «stride_a» «stride_b» depth) kind ⌝ }
 {
     let size = Size {
         wide: false,
@@ -147,7 +155,7 @@ pub fn psnr_hvs16(
     depth: u32,
     kind: Kind,
 ) -> Hvs
-    ensures { λ r. ⌜ r ≡ hvsOf kind (called true (a .entry) (b .entry) width height «stride_a» «stride_b» depth) ⌝ }
+    ensures { λ r. ⌜ r ≡ hvsOf (called true (a .entry) (b .entry) width height «stride_a» «stride_b» depth) kind ⌝ }
 {
     let size = Size {
         wide: true,

@@ -55,25 +55,29 @@ halved-requires-4 c κs = tt
 sub-requires-6 : tie.Need-sub-requires-6
 sub-requires-6 c κs = omega (arith, within)
 
+-- the first group has twelve places: the one six before its last
+abbrev mid1 : tie.After-sub6 → tie.After-sub3
+mid1 c = c .before .before .before .before .before .before
+
 abbrev first1 : tie.After-sub6 → tie.Start
-first1 c = c .before .before .before .before .before .before .before .before .before .before .before .before
+first1 c = mid1 c .before .before .before .before .before .before
 
 values1 : tie.After-sub6 → List ℤ
-values1 c = read32 (c .before .before .before .before .before .before .before .before .before .sub2 .result)
-    ∷ read32 (c .before .before .before .before .before .before .before .before .before .before .before .sub .result)
+values1 c = read32 (mid1 c .before .before .before .sub2 .result)
+    ∷ read32 (mid1 c .before .before .before .before .before .sub .result)
     ∷ read32 (c .before .before .before .sub5 .result) ∷ read32 (c .before .before .before .before .before .sub4 .result)
-    ∷ read32 (c .before .before .before .before .before .before .before .before .add .result)
-    ∷ read32 (c .before .before .before .before .before .before .sub3 .result) ∷ read32 (c .before .before .add2 .result) ∷ read32 (c .sub6 .result) ∷ []
+    ∷ read32 (mid1 c .before .before .add .result)
+    ∷ read32 (mid1 c .sub3 .result) ∷ read32 (c .before .before .add2 .result) ∷ read32 (c .sub6 .result) ∷ []
 
 at1 : (c : tie.After-sub6) → values1 c ≡ run steps1 (args (first1 c))
 unfolding steps1 values1 args
 at1 c = simp (
-  c .before .before .before .before .before .before .before .before .before .before .before .sub .ensures .is,
-  c .before .before .before .before .before .before .before .before .before .before .halved .ensures .is,
-  c .before .before .before .before .before .before .before .before .before .sub2 .ensures .is,
-  c .before .before .before .before .before .before .before .before .add .ensures .is,
-  c .before .before .before .before .before .before .before .halved2 .ensures .is,
-  c .before .before .before .before .before .before .sub3 .ensures .is,
+  mid1 c .before .before .before .before .before .sub .ensures .is,
+  mid1 c .before .before .before .before .halved .ensures .is,
+  mid1 c .before .before .before .sub2 .ensures .is,
+  mid1 c .before .before .add .ensures .is,
+  mid1 c .before .halved2 .ensures .is,
+  mid1 c .sub3 .ensures .is,
   c .before .before .before .before .before .sub4 .ensures .is,
   c .before .before .before .before .halved3 .ensures .is,
   c .before .before .before .sub5 .ensures .is,
@@ -91,12 +95,12 @@ at1 c = simp (
 )
 
 size1 : (c : tie.After-sub6) →
-    (natAbs (read32 (c .before .before .before .before .before .before .before .before .before .before .before .sub .result)) ≤ 46340)
-    × (natAbs (read32 (c .before .before .before .before .before .before .before .before .before .before .halved .result)) ≤ 23170)
-    × (natAbs (read32 (c .before .before .before .before .before .before .before .before .before .sub2 .result)) ≤ 46340)
-    × (natAbs (read32 (c .before .before .before .before .before .before .before .before .add .result)) ≤ 46340)
-    × (natAbs (read32 (c .before .before .before .before .before .before .before .halved2 .result)) ≤ 23170)
-    × (natAbs (read32 (c .before .before .before .before .before .before .sub3 .result)) ≤ 46340)
+    (natAbs (read32 (mid1 c .before .before .before .before .before .sub .result)) ≤ 46340)
+    × (natAbs (read32 (mid1 c .before .before .before .before .halved .result)) ≤ 23170)
+    × (natAbs (read32 (mid1 c .before .before .before .sub2 .result)) ≤ 46340)
+    × (natAbs (read32 (mid1 c .before .before .add .result)) ≤ 46340)
+    × (natAbs (read32 (mid1 c .before .halved2 .result)) ≤ 23170)
+    × (natAbs (read32 (mid1 c .sub3 .result)) ≤ 46340)
     × (natAbs (read32 (c .before .before .before .before .before .sub4 .result)) ≤ 46340)
     × (natAbs (read32 (c .before .before .before .sub5 .result)) ≤ 46340) × (natAbs (read32 (c .before .before .add2 .result)) ≤ 46340)
     × (natAbs (read32 (c .before .halved4 .result)) ≤ 23170) × (natAbs (read32 (c .sub6 .result)) ≤ 46340)
@@ -125,9 +129,9 @@ upTo2 = steps1 ++ steps2
 
 values2 : tie.After-sub9 → List ℤ
 values2 c = read32 (c .before .before .before .add3 .result)
-    ∷ read32 ((prior2 c) .before .before .before .before .before .before .before .before .before .before .before .sub .result)
+    ∷ read32 (mid1 (prior2 c) .before .before .before .before .before .sub .result)
     ∷ read32 (c .before .sub8 .result) ∷ read32 ((prior2 c) .before .before .before .before .before .sub4 .result) ∷ read32 (c .sub9 .result)
-    ∷ read32 ((prior2 c) .before .before .before .before .before .before .sub3 .result) ∷ read32 (c .before .before .sub7 .result)
+    ∷ read32 (mid1 (prior2 c) .sub3 .result) ∷ read32 (c .before .before .sub7 .result)
     ∷ read32 ((prior2 c) .sub6 .result) ∷ []
 
 at2 : (c : tie.After-sub9) → values2 c ≡ run steps2 (values1 (prior2 c))
@@ -138,7 +142,7 @@ at2 c = simp (
   c .before .sub8 .ensures .is,
   c .sub9 .ensures .is,
   (prior2 c) .before .halved4 .ensures .is,
-  (prior2 c) .before .before .before .before .before .before .before .halved2 .ensures .is,
+  mid1 (prior2 c) .before .halved2 .ensures .is,
 )
 
 all2 : (c : tie.After-sub9) → values2 c ≡ run upTo2 (args (first2 c))
@@ -149,9 +153,9 @@ unfolding args
 sharp2 c = sized upTo2 runLimit _ (args (first2 c)) _ (pass-sizes .0) (all2 c) (first2 c .pre)
 
 size2 : (c : tie.After-sub9) →
-    (natAbs (read32 ((prior2 c) .before .before .before .before .before .before .before .before .before .before .before .sub .result)) ≤ 46340)
-    × (natAbs (read32 ((prior2 c) .before .before .before .before .before .before .before .before .before .before .halved .result)) ≤ 23170)
-    × (natAbs (read32 ((prior2 c) .before .before .before .before .before .before .sub3 .result)) ≤ 23170)
+    (natAbs (read32 (mid1 (prior2 c) .before .before .before .before .before .sub .result)) ≤ 46340)
+    × (natAbs (read32 (mid1 (prior2 c) .before .before .before .before .halved .result)) ≤ 23170)
+    × (natAbs (read32 (mid1 (prior2 c) .sub3 .result)) ≤ 23170)
     × (natAbs (read32 ((prior2 c) .before .before .before .before .before .sub4 .result)) ≤ 46340) × (natAbs (read32 ((prior2 c) .sub6 .result)) ≤ 23170)
     × (natAbs (read32 (c .before .before .before .add3 .result)) ≤ 46341) × (natAbs (read32 (c .before .before .sub7 .result)) ≤ 46341)
     × (natAbs (read32 (c .before .sub8 .result)) ≤ 46341) × (natAbs (read32 (c .sub9 .result)) ≤ 46341)
@@ -184,9 +188,9 @@ upTo3 = upTo2 ++ take 5 steps3
 
 values3 : tie.After-up2 → List ℤ
 values3 c = read32 (c .before .before .down2 .result)
-    ∷ read32 ((prior2 (prior3 c)) .before .before .before .before .before .before .before .before .before .before .before .sub .result)
+    ∷ read32 (mid1 (prior2 (prior3 c)) .before .before .before .before .before .sub .result)
     ∷ read32 (c .up2 .result) ∷ read32 ((prior2 (prior3 c)) .before .before .before .before .before .sub4 .result)
-    ∷ read32 (c .before .before .before .up .result) ∷ read32 ((prior2 (prior3 c)) .before .before .before .before .before .before .sub3 .result)
+    ∷ read32 (c .before .before .before .up .result) ∷ read32 (mid1 (prior2 (prior3 c)) .sub3 .result)
     ∷ read32 (c .before .down3 .result) ∷ read32 ((prior2 (prior3 c)) .sub6 .result) ∷ []
 
 at3 : (c : tie.After-up2) → values3 c ≡ run (take 5 steps3) (values2 (prior3 c))
@@ -207,9 +211,9 @@ unfolding args
 sharp3 c = sized upTo3 runLimit _ (args (first3 c)) _ (pass-sizes .1) (all3 c) (first3 c .pre)
 
 size3 : (c : tie.After-up2) →
-    (natAbs (read32 ((prior2 (prior3 c)) .before .before .before .before .before .before .before .before .before .before .before .sub .result)) ≤ 46340)
-    × (natAbs (read32 ((prior2 (prior3 c)) .before .before .before .before .before .before .before .before .before .before .halved .result)) ≤ 23170)
-    × (natAbs (read32 ((prior2 (prior3 c)) .before .before .before .before .before .before .sub3 .result)) ≤ 23170)
+    (natAbs (read32 (mid1 (prior2 (prior3 c)) .before .before .before .before .before .sub .result)) ≤ 46340)
+    × (natAbs (read32 (mid1 (prior2 (prior3 c)) .before .before .before .before .halved .result)) ≤ 23170)
+    × (natAbs (read32 (mid1 (prior2 (prior3 c)) .sub3 .result)) ≤ 23170)
     × (natAbs (read32 ((prior2 (prior3 c)) .before .before .before .before .before .sub4 .result)) ≤ 46340)
     × (natAbs (read32 ((prior2 (prior3 c)) .sub6 .result)) ≤ 23170) × (natAbs (read32 (c .before .down3 .result)) ≤ 77305)
     × (natAbs (read32 (c .up2 .result)) ≤ 60548)
@@ -230,10 +234,10 @@ upTo4 = upTo3 ++ drop 5 steps3
 
 values4 : tie.After-down4 → List ℤ
 values4 c = read32 ((prior4 c) .before .before .down2 .result)
-    ∷ read32 ((prior2 (prior3 (prior4 c))) .before .before .before .before .before .before .before .before .before .before .before .sub .result)
+    ∷ read32 (mid1 (prior2 (prior3 (prior4 c))) .before .before .before .before .before .sub .result)
     ∷ read32 ((prior4 c) .up2 .result) ∷ read32 ((prior2 (prior3 (prior4 c))) .before .before .before .before .before .sub4 .result)
     ∷ read32 ((prior4 c) .before .before .before .up .result)
-    ∷ read32 ((prior2 (prior3 (prior4 c))) .before .before .before .before .before .before .sub3 .result) ∷ read32 (c .down4 .result)
+    ∷ read32 (mid1 (prior2 (prior3 (prior4 c))) .sub3 .result) ∷ read32 (c .down4 .result)
     ∷ read32 ((prior2 (prior3 (prior4 c))) .sub6 .result) ∷ []
 
 at4 : (c : tie.After-down4) → values4 c ≡ run (drop 5 steps3) (values3 (prior4 c))
@@ -244,9 +248,9 @@ all4 : (c : tie.After-down4) → values4 c ≡ run upTo4 (args (first4 c))
 all4 c = at4 c ∙ ap (run (drop 5 steps3)) (all3 (prior4 c)) ∙ sym (run-append upTo3 (drop 5 steps3) (args (first4 c)))
 
 size4 : (c : tie.After-down4) →
-    (natAbs (read32 ((prior2 (prior3 (prior4 c))) .before .before .before .before .before .before .before .before .before .before .before .sub .result)) ≤ 46340)
-    × (natAbs (read32 ((prior2 (prior3 (prior4 c))) .before .before .before .before .before .before .before .before .before .before .halved .result)) ≤ 23170)
-    × (natAbs (read32 ((prior2 (prior3 (prior4 c))) .before .before .before .before .before .before .sub3 .result)) ≤ 23170)
+    (natAbs (read32 (mid1 (prior2 (prior3 (prior4 c))) .before .before .before .before .before .sub .result)) ≤ 46340)
+    × (natAbs (read32 (mid1 (prior2 (prior3 (prior4 c))) .before .before .before .before .halved .result)) ≤ 23170)
+    × (natAbs (read32 (mid1 (prior2 (prior3 (prior4 c))) .sub3 .result)) ≤ 23170)
     × (natAbs (read32 ((prior2 (prior3 (prior4 c))) .before .before .before .before .before .sub4 .result)) ≤ 46340)
     × (natAbs (read32 ((prior2 (prior3 (prior4 c))) .sub6 .result)) ≤ 23170)
 size4 c = omega (arith, size3 (prior4 c))
@@ -300,7 +304,7 @@ at5 c = simp (
   c .before .before .sub11 .ensures .is,
   c .before .sub12 .ensures .is,
   c .sub13 .ensures .is,
-  (prior2 (prior3 (prior4 (prior5 c)))) .before .before .before .before .before .before .before .before .before .before .halved .ensures .is,
+  mid1 (prior2 (prior3 (prior4 (prior5 c)))) .before .before .before .before .halved .ensures .is,
 )
 
 all5 : (c : tie.After-sub13) → values5 c ≡ run upTo5 (args (first5 c))

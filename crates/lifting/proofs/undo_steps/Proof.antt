@@ -95,6 +95,10 @@ down-wide-requires-5 c κs = omega (arith, size1 (c .before .before .before .bef
 down-wide-requires-6 : tie.Need-down-wide-requires-6
 down-wide-requires-6 c κs = omega (arith, size1 (c .before .before .before .before .before .before .before .before))
 
+-- the second group has nine places: the one six before its last
+abbrev mid2 : tie.After-down-wide6 → tie.After-sub
+mid2 c = c .before .before .before .before .before .before
+
 abbrev prior2 : tie.After-down-wide6 → tie.After-down-wide4
 prior2 c = c .before .before .before .before .before .before .before .before .before
 
@@ -105,16 +109,16 @@ abbrev upTo2 : List Step
 upTo2 = (undoAll steps5) ++ undoAll steps4
 
 values2 : tie.After-down-wide6 → List ℤ
-values2 c = read32 ((first1 (prior2 c)) .args .t0) ∷ read32 (c .before .before .before .before .before .before .before .before .add .result)
+values2 c = read32 ((first1 (prior2 c)) .args .t0) ∷ read32 (mid2 c .before .before .add .result)
     ∷ read32 ((first1 (prior2 c)) .args .t2) ∷ read32 (c .down-wide6 .result) ∷ read32 ((first1 (prior2 c)) .args .t4) ∷ read32 (c .before .down-wide5 .result)
     ∷ read32 ((first1 (prior2 c)) .args .t6) ∷ read32 (c .before .before .before .sub2 .result) ∷ []
 
 at2 : (c : tie.After-down-wide6) → values2 c ≡ run (undoAll steps4) (values1 (prior2 c))
 unfolding steps4 values2 values1
 at2 c = simp (
-  c .before .before .before .before .before .before .before .before .add .ensures .is,
-  c .before .before .before .before .before .before .before .halved .ensures .is,
-  c .before .before .before .before .before .before .sub .ensures .is,
+  mid2 c .before .before .add .ensures .is,
+  mid2 c .before .halved .ensures .is,
+  mid2 c .sub .ensures .is,
   c .before .before .before .before .before .add2 .ensures .is,
   c .before .before .before .before .halved2 .ensures .is,
   c .before .before .before .sub2 .ensures .is,
@@ -129,8 +133,8 @@ all2 c = at2 c ∙ ap (run (undoAll steps4)) (at1 (prior2 c)) ∙ sym (run-appen
 size2 : (c : tie.After-down-wide6) → (natAbs (read32 ((first1 (prior2 c)) .args .t0)) ≤ 16777216)
     × (natAbs (read32 ((first1 (prior2 c)) .args .t2)) ≤ 16777216) × (natAbs (read32 ((first1 (prior2 c)) .args .t4)) ≤ 16777216)
     × (natAbs (read32 ((first1 (prior2 c)) .args .t6)) ≤ 16777216)
-    × (natAbs (read32 (c .before .before .before .before .before .before .before .before .add .result)) ≤ 100663296)
-    × (natAbs (read32 (c .before .before .before .before .before .before .before .halved .result)) ≤ 50331648)
+    × (natAbs (read32 (mid2 c .before .before .add .result)) ≤ 100663296)
+    × (natAbs (read32 (mid2 c .before .halved .result)) ≤ 50331648)
     × (natAbs (read32 (c .before .before .before .sub2 .result)) ≤ 167772160) × (natAbs (read32 (c .before .down-wide5 .result)) ≤ 436207616)
     × (natAbs (read32 (c .down-wide6 .result)) ≤ 704643072)
 size2 c = omega (arith, size1 (prior2 c))
@@ -163,7 +167,7 @@ abbrev upTo3 : List Step
 upTo3 = upTo2 ++ undoAll steps3
 
 values3 : tie.After-up-wide7 → List ℤ
-values3 c = read32 (c .up-wide7 .result) ∷ read32 ((prior3 c) .before .before .before .before .before .before .before .before .add .result)
+values3 c = read32 (c .up-wide7 .result) ∷ read32 (mid2 (prior3 c) .before .before .add .result)
     ∷ read32 (c .before .before .before .before .down-wide7 .result) ∷ read32 ((prior3 c) .down-wide6 .result) ∷ read32 (c .before .down-wide8 .result)
     ∷ read32 ((prior3 c) .before .down-wide5 .result) ∷ read32 (c .before .before .before .up-wide5 .result)
     ∷ read32 ((prior3 c) .before .before .before .sub2 .result) ∷ []
@@ -182,8 +186,8 @@ at3 c = simp (
 all3 : (c : tie.After-up-wide7) → values3 c ≡ run upTo3 (args (first3 c))
 all3 c = at3 c ∙ ap (run (undoAll steps3)) (all2 (prior3 c)) ∙ sym (run-append upTo2 (undoAll steps3) (args (first3 c)))
 
-size3 : (c : tie.After-up-wide7) → (natAbs (read32 ((prior3 c) .before .before .before .before .before .before .before .before .add .result)) ≤ 100663296)
-    × (natAbs (read32 ((prior3 c) .before .before .before .before .before .before .before .halved .result)) ≤ 50331648)
+size3 : (c : tie.After-up-wide7) → (natAbs (read32 (mid2 (prior3 c) .before .before .add .result)) ≤ 100663296)
+    × (natAbs (read32 (mid2 (prior3 c) .before .halved .result)) ≤ 50331648)
     × (natAbs (read32 ((prior3 c) .before .before .before .sub2 .result)) ≤ 167772160)
     × (natAbs (read32 ((prior3 c) .before .down-wide5 .result)) ≤ 436207616) × (natAbs (read32 ((prior3 c) .down-wide6 .result)) ≤ 704643072)
     × (natAbs (read32 (c .before .before .before .before .down-wide7 .result)) ≤ 50331648)
@@ -219,7 +223,7 @@ abbrev upTo4 : List Step
 upTo4 = upTo3 ++ undoAll steps2
 
 values4 : tie.After-sub6 → List ℤ
-values4 c = read32 (c .sub6 .result) ∷ read32 ((prior3 (prior4 c)) .before .before .before .before .before .before .before .before .add .result)
+values4 c = read32 (c .sub6 .result) ∷ read32 (mid2 (prior3 (prior4 c)) .before .before .add .result)
     ∷ read32 (c .before .before .before .sub4 .result) ∷ read32 ((prior3 (prior4 c)) .down-wide6 .result)
     ∷ read32 (c .before .before .before .before .before .sub3 .result) ∷ read32 ((prior3 (prior4 c)) .before .down-wide5 .result)
     ∷ read32 (c .before .before .sub5 .result) ∷ read32 ((prior3 (prior4 c)) .before .before .before .sub2 .result) ∷ []
@@ -239,8 +243,8 @@ all4 : (c : tie.After-sub6) → values4 c ≡ run upTo4 (args (first4 c))
 all4 c = at4 c ∙ ap (run (undoAll steps2)) (all3 (prior4 c)) ∙ sym (run-append upTo3 (undoAll steps2) (args (first4 c)))
 
 size4 : (c : tie.After-sub6) →
-    (natAbs (read32 ((prior3 (prior4 c)) .before .before .before .before .before .before .before .before .add .result)) ≤ 100663296)
-    × (natAbs (read32 ((prior3 (prior4 c)) .before .before .before .before .before .before .before .halved .result)) ≤ 50331648)
+    (natAbs (read32 (mid2 (prior3 (prior4 c)) .before .before .add .result)) ≤ 100663296)
+    × (natAbs (read32 (mid2 (prior3 (prior4 c)) .before .halved .result)) ≤ 50331648)
     × (natAbs (read32 ((prior3 (prior4 c)) .before .before .before .sub2 .result)) ≤ 167772160)
     × (natAbs (read32 ((prior3 (prior4 c)) .before .down-wide5 .result)) ≤ 436207616)
     × (natAbs (read32 ((prior3 (prior4 c)) .down-wide6 .result)) ≤ 704643072)
@@ -306,7 +310,7 @@ at5 c = simp (
   c .sub11 .ensures .is,
   (prior5 c) .before .halved4 .ensures .is,
   (prior5 c) .before .before .before .before .halved3 .ensures .is,
-  (prior3 (prior4 (prior5 c))) .before .before .before .before .before .before .before .halved .ensures .is,
+  mid2 (prior3 (prior4 (prior5 c))) .before .halved .ensures .is,
 )
 
 all5 : (c : tie.After-sub11) → values5 c ≡ run upTo5 (args (first5 c))

@@ -11,10 +11,10 @@ use Rattle.psnr_hvs.proofs.along_row.Statement.{statement}
 use Rattle.psnr_hvs.proofs.along_row.Tie as tie
 
 abbrev Inv-loop : tie.InvT-loop
-Inv-loop result a8 a16 b8 b16 layout y mask csf n s₀ x₀ s x = (x ≤ n) × (s ≡ alongRow csf mask (planesIn layout a8 a16 b8 b16) y result x)
+Inv-loop a8 a16 b8 b16 layout y csf mask result n s₀ x₀ s x = (x ≤ n) × (s ≡ alongRow (planesIn layout a8 a16 b8 b16) y csf mask result x)
 
 abbrev μ-loop : tie.MeasureT-loop
-μ-loop result a8 a16 b8 b16 layout y mask csf n s₀ x₀ s x = n - x
+μ-loop a8 a16 b8 b16 layout y csf mask result n s₀ x₀ s x = n - x
 
 blocks-per-side-requires : tie.Need-blocks-per-side-requires Inv-loop μ-loop
 blocks-per-side-requires c κs = search needs
@@ -43,7 +43,8 @@ loop-again c = (search needs, rw (row-more, c .block-at .ensures, c .before .bef
 
 returns : tie.Need-returns Inv-loop μ-loop
 returns c =
-    let e : c .before .loop .x ≡ blocksPerSide (c .before .before .before .before .before .before .before .args .layout .size .width) = omega (arith, c .before .before .blocks-per-side .ensures) in
+    let s = c .before .before .before .before .before .before .before in
+    let e : c .before .loop .x ≡ blocksPerSide (s .args .layout .size .width) = omega (arith, c .before .before .blocks-per-side .ensures) in
     rw e at (c .before .loop .inv .1)
 
 pub along-row-spec : {M : Type 1} → statement M

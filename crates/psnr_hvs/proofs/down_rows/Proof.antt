@@ -11,10 +11,10 @@ use Rattle.psnr_hvs.proofs.down_rows.Statement.{statement}
 use Rattle.psnr_hvs.proofs.down_rows.Tie as tie
 
 abbrev Inv-loop : tie.InvT-loop
-Inv-loop a8 a16 b8 b16 layout mask csf n s₀ y₀ s y = (y ≤ n) × (s ≡ downRows csf mask (planesIn layout a8 a16 b8 b16) y)
+Inv-loop a8 a16 b8 b16 layout csf mask n s₀ y₀ s y = (y ≤ n) × (s ≡ downRows (planesIn layout a8 a16 b8 b16) csf mask y)
 
 abbrev μ-loop : tie.MeasureT-loop
-μ-loop a8 a16 b8 b16 layout mask csf n s₀ y₀ s y = n - y
+μ-loop a8 a16 b8 b16 layout csf mask n s₀ y₀ s y = n - y
 
 blocks-per-side-requires : tie.Need-blocks-per-side-requires Inv-loop μ-loop
 blocks-per-side-requires c κs = search needs
@@ -43,7 +43,8 @@ loop-again c = (search needs, rw (rows-more, c .along-row .ensures, c .before .b
 
 returns : tie.Need-returns Inv-loop μ-loop
 returns c =
-    let e : c .before .loop .y ≡ blocksPerSide (c .before .before .before .before .before .before .before .args .layout .size .height) = omega (arith, c .before .before .blocks-per-side .ensures) in
+    let s = c .before .before .before .before .before .before .before in
+    let e : c .before .loop .y ≡ blocksPerSide (s .args .layout .size .height) = omega (arith, c .before .before .blocks-per-side .ensures) in
     rw e at (c .before .loop .inv .1)
 
 pub down-rows-spec : {M : Type 1} → statement M

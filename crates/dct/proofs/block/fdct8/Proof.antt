@@ -4,11 +4,12 @@ use mathlib.Core.List.{List, _++_}
 use lib.IntN.{ℤ}
 use lib.ListN.{drop}
 use borrow.Author.Needs.{needs}
-use Rattle.lifting.specs.Inner.Operation.{runLimit}
+use Rattle.lifting.specs.Inner.Operation.{runLimit, vals}
 use Rattle.lifting.specs.Inner.Within.{AllWithin}
 use Rattle.lifting.specs.Steps.{run, steps}
 use Rattle.dct.specs.Block.{fdct8, inputOrder}
-use Rattle.lifting.proofs.Size.{read, whole8}
+use Rattle.lifting.proofs.Size.{read-all, whole8}
+use Rattle.dct.proofs.Blocks.{ordered-within}
 use Rattle.dct.proofs.block.fdct8.Statement.{statement}
 use Rattle.dct.proofs.block.fdct8.Tie as tie
 
@@ -18,22 +19,8 @@ gather-requires c κs = search needs
 run-steps-requires : tie.Need-run-steps-requires
 run-steps-requires c κs =
     let d = c .before .before .before .before .before .before .before .before in
-    let w = subst (AllWithin runLimit) (sym (d .gather .ensures)) (d .before .pre .1 .1 .1) in (
-      read (w .0),
-      (
-        read (w .1 .1 .1 .1 .1 .1 .1 .0),
-        (
-          read (w .1 .1 .0),
-          (
-            read (w .1 .1 .1 .1 .1 .0),
-            (
-              read (w .1 .0),
-              (read (w .1 .1 .1 .1 .1 .1 .0), (read (w .1 .1 .1 .0), (read (w .1 .1 .1 .1 .0), tt))),
-            ),
-          ),
-        ),
-      ),
-    )
+    let w = subst (AllWithin runLimit) (sym (d .gather .ensures)) (d .before .pre .1 .1 .1) in
+    read-all runLimit (inputOrder (vals (d .gather .result))) (ordered-within runLimit (vals (d .gather .result)) w)
 
 store-requires : tie.Need-store-requires
 store-requires c κs = c .before .before .before .before .before .before .before .before .before .before .before .pre .1 .1 .0

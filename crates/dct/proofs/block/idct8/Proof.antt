@@ -4,11 +4,11 @@ use mathlib.Core.List.{List, _++_}
 use lib.IntN.{ℤ}
 use lib.ListN.{drop}
 use borrow.Author.Needs.{needs}
-use Rattle.lifting.specs.Inner.Operation.{undoLimit}
+use Rattle.lifting.specs.Inner.Operation.{undoLimit, vals}
 use Rattle.lifting.specs.Inner.Within.{AllWithin}
 use Rattle.lifting.specs.Steps.{run, undoAll, steps}
 use Rattle.dct.specs.Block.{idct8, inputOrder⁻¹}
-use Rattle.lifting.proofs.Size.{read, whole8}
+use Rattle.lifting.proofs.Size.{read-all, whole8}
 use Rattle.dct.proofs.block.idct8.Statement.{statement}
 use Rattle.dct.proofs.block.idct8.Tie as tie
 
@@ -21,25 +21,8 @@ gather-requires c κs = search needs
 undo-steps-requires : tie.Need-undo-steps-requires
 undo-steps-requires c κs =
     let d = c .before .before .before .before .before .before .before .before in
-    let w = subst (AllWithin undoLimit) (sym (d .gather .ensures)) (d .before .pre .1 .1 .1) in (
-      read (w .0),
-      (
-        read (w .1 .0),
-        (
-          read (w .1 .1 .0),
-          (
-            read (w .1 .1 .1 .0),
-            (
-              read (w .1 .1 .1 .1 .0),
-              (
-                read (w .1 .1 .1 .1 .1 .0),
-                (read (w .1 .1 .1 .1 .1 .1 .0), (read (w .1 .1 .1 .1 .1 .1 .1 .0), tt)),
-              ),
-            ),
-          ),
-        ),
-      ),
-    )
+    let w = subst (AllWithin undoLimit) (sym (d .gather .ensures)) (d .before .pre .1 .1 .1) in
+    read-all undoLimit (vals (d .gather .result)) w
 
 store-requires : tie.Need-store-requires
 store-requires c κs = c .before .before .before .before .before .before .before .before .before .before .before .before .pre .1 .1 .0

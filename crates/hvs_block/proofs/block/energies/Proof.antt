@@ -3,22 +3,22 @@ use borrow.Author.Needs.{needs}
 use mathlib.Core.Path.{_≡_, sym, _∙_}
 use Prim.Native.Nat.{_-_, _≤_}
 use native.Mathlib.Omega.{arith}
-use Rattle.hvs_block.specs.Rounded.{zero64}
-use Rattle.hvs_block.specs.Block.{weigh, energy}
+use Rattle.number.specs.Literals.{zeroD}
+use Rattle.hvs_block.specs.Block.{addEnergy, energy}
 use Rattle.hvs_block.proofs.Folds.{flat8, by-eights}
 use Rattle.hvs_block.proofs.Sizes.{square-fits, square-is}
-use Rattle.hvs_block.proofs.Walks.{weigh-first, weigh-more}
+use Rattle.hvs_block.proofs.Walks.{energy-first, energy-more}
 use Rattle.hvs_block.proofs.block.energies.Statement.{statement}
 use Rattle.hvs_block.proofs.block.energies.Tie as tie
 
 abbrev Inv-loop : tie.InvT-loop
-Inv-loop d1 d2 mask s₀ t₀ k₀ s t k = (1 ≤ k) × (k ≤ 64) × (s ≡ flat8 (weigh mask d1) zero64 k) × (t ≡ flat8 (weigh mask d2) zero64 k)
+Inv-loop d1 d2 mask s₀ t₀ k₀ s t k = (1 ≤ k) × (k ≤ 64) × (s ≡ flat8 (addEnergy d1 mask) zeroD k) × (t ≡ flat8 (addEnergy d2 mask) zeroD k)
 
 abbrev μ-loop : tie.MeasureT-loop
 μ-loop d1 d2 mask s₀ t₀ k₀ s t k = 64 - k
 
 loop-holds : tie.Need-loop-holds Inv-loop μ-loop
-loop-holds c = (search needs, search needs, sym (weigh-first (c .args .mask .now) (c .args .d1 .now) _), sym (weigh-first (c .args .mask .now) (c .args .d2 .now) _))
+loop-holds c = (search needs, search needs, sym (energy-first (c .args .d1 .now) (c .args .mask .now) _), sym (energy-first (c .args .d2 .now) (c .args .mask .now) _))
 
 mul-v : tie.Need-mul-v Inv-loop μ-loop
 mul-v c = search needs
@@ -74,8 +74,8 @@ loop-again c =
     let two = s .args .d2 .now in (
       search needs,
       search needs,
-      rw (weigh-more (s .args .mask .now) one zero64 (l .k) (l .inv .0), square-is one (s .pre .1 .0) (l .k), l .inv .2),
-      rw (weigh-more (s .args .mask .now) two zero64 (l .k) (l .inv .0), square-is two (s .pre .1 .1) (l .k), l .inv .3),
+      rw (energy-more one (s .args .mask .now) zeroD (l .k) (l .inv .0), square-is one (s .pre .1 .0) (l .k), l .inv .2),
+      rw (energy-more two (s .args .mask .now) zeroD (l .k) (l .inv .0), square-is two (s .pre .1 .1) (l .k), l .inv .3),
     )
 
 returns : tie.Need-returns Inv-loop μ-loop

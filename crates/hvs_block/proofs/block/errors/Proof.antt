@@ -15,28 +15,28 @@ use Rattle.hvs_block.proofs.block.errors.Statement.{statement}
 use Rattle.hvs_block.proofs.block.errors.Tie as tie
 
 abbrev Inv-loop : tie.InvT-loop
-Inv-loop result d1 d2 m mask csf s₀ k₀ s k = (k ≤ 64) × (s ≡ flat8 (addTerm csf mask m d1 d2) result k)
+Inv-loop d1 d2 csf mask m result s₀ k₀ s k = (k ≤ 64) × (s ≡ flat8 (addTerm d1 d2 csf mask m) result k)
 
 abbrev μ-loop : tie.MeasureT-loop
-μ-loop result d1 d2 m mask csf s₀ k₀ s k = 64 - k
+μ-loop d1 d2 csf mask m result s₀ k₀ s k = 64 - k
 
 loop-holds : tie.Need-loop-holds Inv-loop μ-loop
 loop-holds c = (search needs, sym (fold-none _ _))
 
-mul-apart : tie.Need-mul-apart Inv-loop μ-loop
-mul-apart c = search needs
+mul-distance : tie.Need-mul-distance Inv-loop μ-loop
+mul-distance c = search needs
 
-shared-slice-copy-out-apart : tie.Need-shared-slice-copy-out-apart Inv-loop μ-loop
-shared-slice-copy-out-apart c = search needs
+shared-slice-copy-out-distance : tie.Need-shared-slice-copy-out-distance Inv-loop μ-loop
+shared-slice-copy-out-distance c = search needs
 
-mul-apart-2 : tie.Need-mul-apart-2 Inv-loop μ-loop
-mul-apart-2 c = search needs
+mul-distance-2 : tie.Need-mul-distance-2 Inv-loop μ-loop
+mul-distance-2 c = search needs
 
-shared-slice-copy-out-apart-2 : tie.Need-shared-slice-copy-out-apart-2 Inv-loop μ-loop
-shared-slice-copy-out-apart-2 c = search needs
+shared-slice-copy-out-distance-2 : tie.Need-shared-slice-copy-out-distance-2 Inv-loop μ-loop
+shared-slice-copy-out-distance-2 c = search needs
 
-apart-requires : tie.Need-apart-requires Inv-loop μ-loop
-apart-requires c κs =
+distance-requires : tie.Need-distance-requires Inv-loop μ-loop
+distance-requires c κs =
     let s = c .before .before .before .before in
     (read (small-at coefficientLimit (s .args .d1 .now) (s .pre .1 .0) _), read (small-at coefficientLimit (s .args .d2 .now) (s .pre .1 .1) _))
 
@@ -81,9 +81,9 @@ loop-again c =
     let two = s .args .d2 .now in (
       search needs,
       rw (
-        term-more (s .args .csf .now) (s .args .mask .now) (s .args .m) one two (s .args .result) (l .k),
+        term-more one two (s .args .csf .now) (s .args .mask .now) (s .args .m) (s .args .result) (l .k),
         c .term .ensures,
-        c .before .before .before .apart .ensures,
+        c .before .before .before .distance .ensures,
         read-coefficient one (s .pre .1 .0) (l .k),
         read-coefficient two (s .pre .1 .1) (l .k),
         l .inv .1,
@@ -103,11 +103,11 @@ errors-spec =
     Inv-loop
     μ-loop
     loop-holds
-    mul-apart
-    shared-slice-copy-out-apart
-    mul-apart-2
-    shared-slice-copy-out-apart-2
-    apart-requires
+    mul-distance
+    shared-slice-copy-out-distance
+    mul-distance-2
+    shared-slice-copy-out-distance-2
+    distance-requires
     mul-term
     mul-term-2
     index-1-term

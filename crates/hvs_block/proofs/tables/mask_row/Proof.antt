@@ -6,7 +6,7 @@ use native.Mathlib.Omega.{arith}
 use lib.ListN.{length, getD, length-set}
 use lib.Ieee.{nan}
 use Rattle.hvs_block.specs.Tables.{maskOf}
-use Rattle.hvs_block.proofs.Folds.{Filled, filled-none, filled-more, filled-all}
+use Rattle.number.proofs.Lists.{Filled, filled-none, filled-more, filled-all}
 use Rattle.hvs_block.proofs.tables.mask_row.Statement.{statement}
 use Rattle.hvs_block.proofs.tables.mask_row.Tie as tie
 

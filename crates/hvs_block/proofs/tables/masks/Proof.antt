@@ -6,7 +6,7 @@ use native.Mathlib.Omega.{arith}
 use lib.ListN.{length, getD, length-set}
 use mathlib.Core.List.{[]}
 use Rattle.hvs_block.specs.Tables.{maskRow, masksOf}
-use Rattle.hvs_block.proofs.Folds.{Filled, filled-none, filled-more, filled-all}
+use Rattle.number.proofs.Lists.{Filled, filled-none, filled-more, filled-all}
 use Rattle.hvs_block.proofs.tables.masks.Statement.{statement}
 use Rattle.hvs_block.proofs.tables.masks.Tie as tie
 

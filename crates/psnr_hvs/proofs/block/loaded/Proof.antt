@@ -3,7 +3,7 @@ use borrow.Author.Needs.{needs}
 use mathlib.Core.Path.{_≡_, ap, _∙_}
 use Prim.Native.Nat.{_+_, _-_, _*_, _/_, _%_, _≤_, _<_, _^_}
 use native.Mathlib.Omega.{arith}
-use native.Mathlib.Nat.{lt-of-le-of-lt}
+use native.Mathlib.Nat.{le-trans, lt-of-le-of-lt}
 use lib.ListN.{length, length-set}
 use lib.Dec.{lit<}
 use lib.IntN.{pos}
@@ -13,7 +13,8 @@ use Rattle.plane.specs.Plane.{samplesOf, planeIn}
 use Rattle.plane.proofs.Rows.{inside, count-fits}
 use Rattle.lifting.proofs.Size.{fits}
 use Rattle.psnr_hvs.specs.Score.{sampleIn, blockAt}
-use Rattle.hvs_block.proofs.Folds.{Filled, filled-none, filled-more, filled-all}
+use Rattle.number.proofs.Lists.{Filled, filled-none, filled-more, filled-all}
+use Rattle.hvs_block.proofs.Numbers.{limit-small}
 use Rattle.psnr_hvs.proofs.block.loaded.Statement.{statement}
 use Rattle.psnr_hvs.proofs.block.loaded.Tie as tie
 
@@ -38,7 +39,7 @@ place-fits c =
 sample-small : (c : tie.After-sample Inv-loop μ-loop) → c .sample .result < 2 ^ 31
 sample-small c =
     let s = c .before .before .before .before .before in
-    rw (c .sample .ensures) (lt-of-le-of-lt (s .pre .1 .small _ _ (omega arith) (omega arith)) (lit< tt))
+    rw (c .sample .ensures) (lt-of-le-of-lt (le-trans (s .pre .1 .small _ _ (omega arith) (omega arith)) limit-small) (lit< tt))
 
 loop-holds : tie.Need-loop-holds Inv-loop μ-loop
 loop-holds c = (search needs, search needs, filled-none _ _)

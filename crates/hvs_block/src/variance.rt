@@ -7,20 +7,20 @@ ghost use lib.ListN.{length};
 ghost use Rattle.number.specs.Steps.{_⊗_, _⊘_, double};
 ghost use Rattle.plane.specs.Sums.{sumTo};
 ghost use Rattle.dct.specs.Limits.{blockSize};
-ghost use Rattle.hvs_block.specs.Rounded.{fifteen, sixteen, sixtyThree, sixtyFour};
+ghost use Rattle.hvs_block.specs.Literals.{fifteen, sixteen, sixtyThree, sixtyFour};
 ghost use Rattle.hvs_block.specs.Block as Block;
-ghost use Rattle.hvs_block.specs.Levels.{Sample, Samples, levelIn, squares};
+ghost use Rattle.hvs_block.specs.Inner.Levels.{Sample, Samples, levelIn, squares};
 
 // The sum of some samples, and the sum of their squares.
-struct Sums {
-    s: u32,
-    q: u32,
+struct SampleSums {
+    sum: u32,
+    squares: u32,
 }
 
 // The same of a quarter, with its variance.
-struct Part {
-    s: u32,
-    q: u32,
+struct QuarterSums {
+    sum: u32,
+    squares: u32,
     var: f64,
 }
 
@@ -33,21 +33,21 @@ fn level(v: i32) -> u32
 }
 
 // The sums of a quarter, by its first row and column.
-fn sums_in(b: &[i32], top: usize, left: usize) -> Sums
+fn quarter_sums(b: &[i32], top: usize, left: usize) -> SampleSums
     requires { ⌜ length (now b) ≡ blockSize ⌝ }
     requires { ⌜ Samples (now b) ⌝ }
     requires { ⌜ (top ≤ 4) × (left ≤ 4) ⌝ }
-    ensures { λ r. ⌜ r .s ≡ sumTo (levelIn (now (b .entry)) top left) 16 ⌝ }
-    ensures { λ r. ⌜ r .q ≡ squares (levelIn (now (b .entry)) top left) 16 ⌝ }
+    ensures { λ r. ⌜ r .sum ≡ sumTo (levelIn (now (b .entry)) top left) 16 ⌝ }
+    ensures { λ r. ⌜ r .squares ≡ squares (levelIn (now (b .entry)) top left) 16 ⌝ }
 {
-    let mut s: u32 = 0;
-    let mut q: u32 = 0;
+    let mut sum: u32 = 0;
+    let mut squares: u32 = 0;
     for k in 0..16 {
         let v = level(b[8 * (top + k / 4) + (left + k % 4)]);
-        s = s + v;
-        q = q + v * v;
+        sum = sum + v;
+        squares = squares + v * v;
     }
-    Sums { s, q }
+    SampleSums { sum, squares }
 }
 
 // The variance of a quarter, by its sums.
@@ -69,19 +69,19 @@ fn gvar(s: u32, q: u32) -> f64
 }
 
 // A quarter.
-fn quarter(b: &[i32], top: usize, left: usize) -> Part
+fn quarter(b: &[i32], top: usize, left: usize) -> QuarterSums
     requires { ⌜ length (now b) ≡ blockSize ⌝ }
     requires { ⌜ Samples (now b) ⌝ }
     requires { ⌜ (top ≤ 4) × (left ≤ 4) ⌝ }
-    ensures { λ r. ⌜ r .s ≡ sumTo (levelIn (now (b .entry)) top left) 16 ⌝ }
-    ensures { λ r. ⌜ r .q ≡ squares (levelIn (now (b .entry)) top left) 16 ⌝ }
+    ensures { λ r. ⌜ r .sum ≡ sumTo (levelIn (now (b .entry)) top left) 16 ⌝ }
+    ensures { λ r. ⌜ r .squares ≡ squares (levelIn (now (b .entry)) top left) 16 ⌝ }
     ensures { λ r. ⌜ r .var ≡ Block.var (now (b .entry)) top left ⌝ }
 {
-    let t = sums_in(b, top, left);
-    Part {
-        s: t.s,
-        q: t.q,
-        var: var(t.s, t.q),
+    let t = quarter_sums(b, top, left);
+    QuarterSums {
+        sum: t.sum,
+        squares: t.squares,
+        var: var(t.sum, t.squares),
     }
 }
 
@@ -95,7 +95,10 @@ pub fn ratio(b: &[i32]) -> f64
     let c = quarter(b, 4, 0);
     let d = quarter(b, 0, 4);
     let e = quarter(b, 4, 4);
-    let g = gvar(a.s + c.s + d.s + e.s, a.q + c.q + d.q + e.q);
+    let g = gvar(
+        a.sum + c.sum + d.sum + e.sum,
+        a.squares + c.squares + d.squares + e.squares,
+    );
     let s = 0.0 + a.var + c.var + d.var + e.var;
     if 0.0 < g { s / g } else { g }
 }

@@ -1,24 +1,25 @@
--- `sums_in` adds the samples of a quarter, and their squares. Assumes nothing.
+-- `quarter_sums` adds the samples of a quarter, and their squares. Assumes nothing.
 use borrow.Author.Needs.{needs}
 use native.Mathlib.Nat.{mul-le-mul}
 use lib.IntN.{natAbs}
 use Rattle.hvs_block.proofs.Sizes.{read-sample, sample-read}
 use mathlib.Core.Path.{_≡_, sym, ap, _∙_}
-use Prim.Native.Nat.{_-_, _≤_}
+use Prim.Native.Nat.{_-_, _≤_, _^_}
 use native.Mathlib.Omega.{arith}
 use Rattle.plane.specs.Sums.{sumTo}
 use Rattle.plane.proofs.Sums.{sum-none, sum-more}
-use Rattle.hvs_block.specs.Levels.{levelIn, squares}
+use Rattle.hvs_block.specs.Inner.Levels.{levelIn, squares}
 use Rattle.hvs_block.proofs.Levels.{sum-most, squares-most}
-use Rattle.hvs_block.proofs.Numbers.{sample-at}
-use Rattle.hvs_block.proofs.spread.sums_in.Statement.{statement}
-use Rattle.hvs_block.proofs.spread.sums_in.Tie as tie
+use Rattle.hvs_block.proofs.Numbers.{sample-at, sample-small}
+use Rattle.hvs_block.proofs.variance.quarter_sums.Statement.{statement}
+use Rattle.hvs_block.proofs.variance.quarter_sums.Tie as tie
 
 abbrev Inv-loop : tie.InvT-loop
-Inv-loop b top left s₀ q₀ k₀ s q k = (k ≤ 16) × (s ≡ sumTo (levelIn b top left) k) × (q ≡ squares (levelIn b top left) k)
+Inv-loop b top left sum₀ squares₀ k₀ sum sumOfSquares k =
+    (k ≤ 16) × (sum ≡ sumTo (levelIn b top left) k) × (sumOfSquares ≡ squares (levelIn b top left) k)
 
 abbrev μ-loop : tie.MeasureT-loop
-μ-loop b top left s₀ q₀ k₀ s q k = 16 - k
+μ-loop b top left sum₀ squares₀ k₀ sum squares k = 16 - k
 
 loop-holds : tie.Need-loop-holds Inv-loop μ-loop
 loop-holds c = (search needs, sym (sum-none _), sym (sum-none _))
@@ -49,20 +50,20 @@ got : (c : tie.After-level Inv-loop μ-loop) → let s = c .before .before .befo
     c .level .result ≡ levelIn (s .args .b .now) (s .args .top) (s .args .left) (c .before .before .before .loop .k)
 got c = let s = c .before .before .before .before in c .level .ensures ∙ ap natAbs (read-sample (sample-at (s .args .b .now) (s .pre .1 .0) _))
 
-small : (c : tie.After-level Inv-loop μ-loop) → c .level .result ≤ 4095
-small c = let s = c .before .before .before .before in rw (got c) (sample-at (s .args .b .now) (s .pre .1 .0) _ .small)
+small : (c : tie.After-level Inv-loop μ-loop) → c .level .result ≤ 2 ^ 12
+small c = let s = c .before .before .before .before in rw (got c) (sample-small (sample-at (s .args .b .now) (s .pre .1 .0) _))
 
-add-s : tie.Need-add-s Inv-loop μ-loop
-add-s c =
+add-sum : tie.Need-add-sum Inv-loop μ-loop
+add-sum c =
     let s = c .before .before .before .before in
     let l = c .before .before .before .loop in
     omega (arith, small c, l .inv .1, sum-most (s .args .b .now) (s .pre .1 .0) (s .args .top) (s .args .left) (l .k))
 
-mul-q : tie.Need-mul-q Inv-loop μ-loop
-mul-q c = omega (arith, mul-le-mul (small c) (small c))
+mul-squares : tie.Need-mul-squares Inv-loop μ-loop
+mul-squares c = omega (arith, mul-le-mul (small c) (small c))
 
-add-q : tie.Need-add-q Inv-loop μ-loop
-add-q c =
+add-squares : tie.Need-add-squares Inv-loop μ-loop
+add-squares c =
     let s = c .before .before .before .before in
     let l = c .before .before .before .loop in
     omega (arith, mul-le-mul (small c) (small c), l .inv .2, squares-most (s .args .b .now) (s .pre .1 .0) (s .args .top) (s .args .left) (l .k))
@@ -83,8 +84,8 @@ returns c =
     let e : c .before .loop .k ≡ 16 = omega arith in
     (rw e at (c .before .loop .inv .1), rw e at (c .before .loop .inv .2))
 
-pub sums-in-spec : {M : Type 1} → statement M
-sums-in-spec =
+pub quarter-sums-spec : {M : Type 1} → statement M
+quarter-sums-spec =
     tie.close
     (tie.spec
     Inv-loop
@@ -97,9 +98,9 @@ sums-in-spec =
     mul-level-2
     shared-slice-copy-out-level
     level-requires
-    add-s
-    mul-q
-    add-q
+    add-sum
+    mul-squares
+    add-squares
     add-k
     loop-less
     loop-again

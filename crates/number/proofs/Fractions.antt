@@ -13,8 +13,8 @@ use lib.Ieee.{Float, nan, inf, fin, binary64, up, down, round, sum, add, sub, mu
 use lib.Ieee.Exact.{HasValue, round-exact}
 use lib.Ieee.Fits.{down-pos}
 use lib.Ieee.Scale.{round-same}
-use Rattle.hvs_block.specs.Rounded.{zero64}
+use Rattle.number.specs.Literals.{zeroD}
 use Rattle.number.specs.Steps.{_⊕_, _⊖_, _⊗_, _⊘_, double}
 
 -- a / c, with the sign s, as a double
 abbrev pub frac : Bool → ℕ → ℕ → Float
@@ -49,7 +49,7 @@ unfolding ofInt
 double-is e g =
     round-same binary64 false g 1 (2 ^ e * g) (2 ^ e) (lit< tt) (pow-pos e) (mul-comm g (2 ^ e) ∙ sym (mul-one (2 ^ e * g)))
 
-pub zero-is : (c : ℕ) → 0 < c → zero64 ≡ frac false 0 c
+pub zero-is : (c : ℕ) → 0 < c → zeroD ≡ frac false 0 c
 unfolding ofBits round
 zero-is c p = round-same binary64 false 0 1 0 c (lit< tt) p (omega arith)
 

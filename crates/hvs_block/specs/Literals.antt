@@ -1,15 +1,7 @@
--- The doubles that the definitions name. Definitions only.
-use lib.IntN.{ℤ}
-use lib.Ieee.{Float, binary64, ofInt, ofBits}
+-- The doubles that the definitions name besides 0.0, each by its bits. Definitions only.
+use lib.Ieee.{Float, binary64, ofBits}
 
--- a whole number of either sign as a double
-abbrev pub signed : ℤ → Float
-signed z = ofInt binary64 z
-
--- 0.0, 15.0, 16.0, 32.0, 63.0 and 64.0
-abbrev pub zero64 : Float
-zero64 = ofBits binary64 0
-
+-- 15.0, 16.0, 32.0, 63.0 and 64.0
 abbrev pub fifteen : Float
 fifteen = ofBits binary64 0x402E000000000000
 

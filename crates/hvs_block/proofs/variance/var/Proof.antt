@@ -1,7 +1,7 @@
--- `gvar` is one exact number and two rounded steps. Assumes nothing.
+-- `var` is one exact number and two rounded steps. Assumes nothing.
 use borrow.Author.Needs.{needs}
-use Rattle.hvs_block.proofs.spread.gvar.Statement.{statement}
-use Rattle.hvs_block.proofs.spread.gvar.Tie as tie
+use Rattle.hvs_block.proofs.variance.var.Statement.{statement}
+use Rattle.hvs_block.proofs.variance.var.Tie as tie
 
 mul-exact : tie.Need-mul-exact
 mul-exact c = search needs
@@ -18,5 +18,5 @@ exact-requires c κs = search needs
 returns : tie.Need-returns
 returns c = rw (c .exact .ensures)
 
-pub gvar-spec : {M : Type 1} → statement M
-gvar-spec = tie.close (tie.spec mul-exact mul-exact-2 sub-exact exact-requires returns)
+pub var-spec : {M : Type 1} → statement M
+var-spec = tie.close (tie.spec mul-exact mul-exact-2 sub-exact exact-requires returns)

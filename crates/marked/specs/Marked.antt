@@ -1,5 +1,5 @@
 -- SCOPE, "Numbers to hold it to": every number marked *, in its order, one row for each mark. `gives` is worked out from the
--- definitions that the contracts cite; `says` is what the document says. proofs/Figures.antt shows that they agree. Definitions only.
+-- definitions that the contracts cite; `says` is what SCOPE says. proofs/Marked.antt shows that they agree. Definitions only.
 use mathlib.Core.Bool.{false}
 use mathlib.Core.Path.{_≡_}
 use mathlib.Core.List.{List, [], _∷_, map}
@@ -15,19 +15,19 @@ use Rattle.lifting.specs.Steps.{half}
 use Rattle.dct.specs.Block.{fdct8, rows, fdct8x8}
 use Rattle.window.specs.Moments.{momentsAt}
 use Rattle.window.specs.declared.Moments.{Moments}
-use Rattle.hvs_block.specs.Fold.{listTo}
+use Rattle.number.specs.Steps.{listTo}
 use Rattle.psnr_hvs.specs.Score.{blocksPerSide}
 use Rattle.msssim.specs.Scale.{Scale, belowOf}
 use Rattle.msssim.specs.Answer.{firstScale}
 
-pub record Figure : Type 0 where
+pub record Marked : Type 0 where
   pub gives : List ℤ
   pub says : List ℤ
 
 -- each row gives what it says
-abbrev pub Held : List Figure → Type 0
-Held [] = Unit {0}
-Held (f ∷ fs) = (f .gives ≡ f .says) × Held fs
+abbrev pub Agree : List Marked → Type 0
+Agree [] = Unit {0}
+Agree (f ∷ fs) = (f .gives ≡ f .says) × Agree fs
 
 -- numbers that have no sign, among those that have one
 abbrev counts : List ℕ → List ℤ
@@ -60,8 +60,8 @@ six m = counts (m .mux ∷ m .muy ∷ m .x2 ∷ m .xy ∷ m .y2 ∷ m .w ∷ [])
 
 -- ---- the list
 
-unfoldable pub figures : List Figure
-figures =
+unfoldable pub marked : List Marked
+marked =
     -- (10,20,30) and (13,20,26): 25
     record { gives = errorOfThree (10 ∷ 20 ∷ 30 ∷ []) (13 ∷ 20 ∷ 26 ∷ []); says = pos 25 ∷ [] }
     -- equal planes: 0

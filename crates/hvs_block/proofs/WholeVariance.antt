@@ -1,4 +1,4 @@
--- A variance by whole numbers: of N = 2 ^ e samples g with the sum S and the sum of squares Q, the steps of the definition give
+-- A variance by whole numbers: of N = 2 ^ e samples g, none above 2 ^ 12, with the sum S and the sum of squares Q, the steps of the definition give
 -- exactly (N · Q - S²) / N. Assumes nothing.
 use mathlib.Core.Path.{_≡_, sym, ap, _∙_}
 use mathlib.Core.Bool.{false}
@@ -14,9 +14,9 @@ use lib.Ieee.Scale.{round-same}
 use Rattle.number.specs.Steps.{_⊕_, _⊖_, _⊗_, _⊘_, double, foldTo}
 use Rattle.plane.specs.Sums.{sumTo}
 use Rattle.plane.proofs.Sums.{sum-mul, sum-bound, sum-ext}
-use Rattle.hvs_block.specs.Levels.{squares}
-use Rattle.hvs_block.specs.Rounded.{zero64}
-use Rattle.hvs_block.proofs.Fractions.{frac, exact, double-is, zero-is, whole, add-at, over-at, difference-at}
+use Rattle.hvs_block.specs.Inner.Levels.{squares}
+use Rattle.number.specs.Literals.{zeroD}
+use Rattle.number.proofs.Fractions.{frac, exact, double-is, zero-is, whole, add-at, over-at, difference-at}
 
 -- ---- whole numbers
 
@@ -79,17 +79,17 @@ module _ (N : ℕ) (g : ℕ → ℕ) (p : 0 < N) where
 
 -- the steps of the definition
 abbrev pub summed : (ℕ → Float) → ℕ → Float
-summed f n = foldTo (λ (s : Float) (k : ℕ). s ⊕ f k) zero64 n
+summed f n = foldTo (λ (s : Float) (k : ℕ). s ⊕ f k) zeroD n
 
-abbrev pub spreadFrom : Float → Float → Float
-spreadFrom m v = (v ⊖ m) ⊗ (v ⊖ m)
+abbrev pub squaredFrom : Float → Float → Float
+squaredFrom m v = (v ⊖ m) ⊗ (v ⊖ m)
 
-module _ (e : ℕ) (l : e ≤ 6) (g : ℕ → ℕ) (small : (k : ℕ) → g k ≤ 4095) where
+module _ (e : ℕ) (l : e ≤ 6) (g : ℕ → ℕ) (small : (k : ℕ) → g k ≤ 2 ^ 12) where
   few : 2 ^ e ≤ 64
   few = pow-mono {i = e} {j = 6} l
 
-  sum-small : (n : ℕ) → n ≤ 64 → sumTo g n ≤ 262080
-  sum-small n h = omega (arith, sum-bound g 4095 n (λ (k : ℕ) i. small k))
+  sum-small : (n : ℕ) → n ≤ 64 → sumTo g n ≤ 2 ^ 18
+  sum-small n h = omega (arith, sum-bound g (2 ^ 12) n (λ (k : ℕ) i. small k))
 
   sum-is : (n : ℕ) → n ≤ 64 → summed (λ (k : ℕ). double (g k)) n ≡ double (sumTo g n)
   unfolding foldTo sumTo ofInt
@@ -106,14 +106,14 @@ module _ (e : ℕ) (l : e ≤ 6) (g : ℕ → ℕ) (small : (k : ℕ) → g k �
       rw (sum-is (2 ^ e) few) (over-at _ (sumTo g (2 ^ e)) 1 e (whole (sumTo g (2 ^ e)) a) (lit< tt) ∙ ap (frac false (sumTo g (2 ^ e))) (one-mul (2 ^ e)))
 
   -- ---- the spread
-  off-small : (k : ℕ) → off (2 ^ e) g k ≤ 262080
+  off-small : (k : ℕ) → off (2 ^ e) g k ≤ 2 ^ 18
   off-small k = omega (arith, mul-le-mul few (small k), sum-small (2 ^ e) few)
 
   off-squares : (n : ℕ) → n ≤ 64 → sumTo (λ (k : ℕ). off (2 ^ e) g k * off (2 ^ e) g k) n < 2 ^ 52
   off-squares n h =
-      omega (arith, sum-bound (λ (k : ℕ). off (2 ^ e) g k * off (2 ^ e) g k) 68685926400 n (λ (k : ℕ) i. mul-le-mul (off-small k) (off-small k)))
+      omega (arith, sum-bound (λ (k : ℕ). off (2 ^ e) g k * off (2 ^ e) g k) (2 ^ 36) n (λ (k : ℕ) i. mul-le-mul (off-small k) (off-small k)))
 
-  term-is : (k : ℕ) → spreadFrom (frac false (sumTo g (2 ^ e)) (2 ^ e)) (double (g k)) ≡ frac false (off (2 ^ e) g k * off (2 ^ e) g k) (2 ^ (e + e))
+  term-is : (k : ℕ) → squaredFrom (frac false (sumTo g (2 ^ e)) (2 ^ e)) (double (g k)) ≡ frac false (off (2 ^ e) g k * off (2 ^ e) g k) (2 ^ (e + e))
   term-is k =
       let a : 2 ^ e * g k < 2 ^ 53 = omega (arith, mul-le-mul few (small k)) in
       let b : sumTo g (2 ^ e) < 2 ^ 53 = omega (arith, sum-small (2 ^ e) few) in
@@ -121,16 +121,16 @@ module _ (e : ℕ) (l : e ≤ 6) (g : ℕ → ℕ) (small : (k : ℕ) → g k �
       rw (double-is e (g k), pow-add 2 e e)
       (difference-at _ _ e (2 ^ e * g k) (sumTo g (2 ^ e)) (exact false e (2 ^ e * g k) m a) (exact false e (sumTo g (2 ^ e)) m b) m a b)
 
-  spread-is : (n : ℕ) → n ≤ 64 → summed (λ (k : ℕ). spreadFrom (frac false (sumTo g (2 ^ e)) (2 ^ e)) (double (g k))) n
+  squares-is : (n : ℕ) → n ≤ 64 → summed (λ (k : ℕ). squaredFrom (frac false (sumTo g (2 ^ e)) (2 ^ e)) (double (g k))) n
       ≡ frac false (sumTo (λ (k : ℕ). off (2 ^ e) g k * off (2 ^ e) g k) n) (2 ^ (e + e))
   unfolding foldTo sumTo
-  spread-is zero h = zero-is (2 ^ (e + e)) (pow-pos (e + e))
-  spread-is (suc n) h =
+  squares-is zero h = zero-is (2 ^ (e + e)) (pow-pos (e + e))
+  squares-is (suc n) h =
       let t = sumTo (λ (k : ℕ). off (2 ^ e) g k * off (2 ^ e) g k) n in
       let a : t < 2 ^ 53 = omega (arith, off-squares n (omega arith)) in
       let b : off (2 ^ e) g n * off (2 ^ e) g n < 2 ^ 53 = omega (arith, mul-le-mul (off-small n) (off-small n)) in
       let m : e + e ≤ 12 = omega arith in
-      rw (spread-is n (omega arith), term-is n)
+      rw (squares-is n (omega arith), term-is n)
       (add-at _ _ t (off (2 ^ e) g n * off (2 ^ e) g n) (2 ^ (e + e)) (exact false (e + e) t m a) (exact false (e + e) (off (2 ^ e) g n * off (2 ^ e) g n) m b)
       (pow-pos (e + e)))
 
@@ -145,11 +145,11 @@ module _ (e : ℕ) (l : e ≤ 6) (g : ℕ → ℕ) (small : (k : ℕ) → g k �
       let one : 1 * varied ≤ 2 ^ e * varied = mul-le-mul-right varied (pow-pos e) in
       omega (arith, o, v, one)
 
-  pub variance-is : summed (λ (k : ℕ). spreadFrom (summed (λ (i : ℕ). double (g i)) (2 ^ e) ⊘ fin false 1 (pos e)) (double (g k))) (2 ^ e)
+  pub variance-is : summed (λ (k : ℕ). squaredFrom (summed (λ (i : ℕ). double (g i)) (2 ^ e) ⊘ fin false 1 (pos e)) (double (g k))) (2 ^ e)
       ≡ double varied ⊘ fin false 1 (pos e)
   variance-is =
       let a : varied < 2 ^ 53 = omega (arith, varied-small) in
-      rw (mean-is, spread-is (2 ^ e) few, off-sum (2 ^ e) g (pow-pos e))
+      rw (mean-is, squares-is (2 ^ e) few, off-sum (2 ^ e) g (pow-pos e))
       (round-same binary64 false (2 ^ e * varied) (2 ^ (e + e)) varied (1 * 2 ^ e) (pow-pos (e + e)) (mul-pos (lit< tt) (pow-pos e))
       (rw (one-mul (2 ^ e), pow-add 2 e e) (ap (λ (z : ℕ). z * 2 ^ e) (mul-comm (2 ^ e) varied) ∙ mul-assoc varied (2 ^ e) (2 ^ e)))
       ∙ sym (over-at (double varied) varied 1 e (whole varied a) (lit< tt)))

@@ -5,11 +5,11 @@ use native.Mathlib.Omega.{arith}
 use Rattle.plane.specs.Sums.{sumTo}
 use Rattle.hvs_block.specs.Block as Block
 use Rattle.hvs_block.specs.Block.{ratio, varSum}
-use Rattle.hvs_block.specs.Levels.{levelOf, squares}
+use Rattle.hvs_block.specs.Inner.Levels.{levelOf, squares}
 use Rattle.hvs_block.proofs.Levels.{sums-add, squares-add, whole-sum, whole-squares, whole-le, gvar-is}
 use borrow.Author.Needs.{needs}
-use Rattle.hvs_block.proofs.spread.ratio.Statement.{statement}
-use Rattle.hvs_block.proofs.spread.ratio.Tie as tie
+use Rattle.hvs_block.proofs.variance.ratio.Statement.{statement}
+use Rattle.hvs_block.proofs.variance.ratio.Tie as tie
 
 quarter-requires : tie.Need-quarter-requires
 quarter-requires c κs = search needs
@@ -23,32 +23,39 @@ quarter-requires-3 c κs = search needs
 quarter-requires-4 : tie.Need-quarter-requires-4
 quarter-requires-4 c κs = search needs
 
+-- ---- the places, by name
+abbrev start : tie.After-quarter4 → tie.Start
+start c = c .before .before .before .before
+
+abbrev four : tie.After-gvar → tie.After-quarter4
+four c = c .before .before .before .before .before .before .before .before .before
+
 -- the four sums make up the whole block's
 module _ (c : tie.After-quarter4) where
-  total : c .before .before .before .quarter .result .s + c .before .before .quarter2 .result .s + c .before .quarter3 .result .s + c .quarter4 .result .s
+  total : c .before .before .before .quarter .result .sum + c .before .before .quarter2 .result .sum + c .before .quarter3 .result .sum + c .quarter4 .result .sum
       ≡ sumTo (levelOf (c .before .before .before .before .args .b .now)) 64
   total =
       rw (c .before .before .before .quarter .ensures .0, c .before .before .quarter2 .ensures .0, c .before .quarter3 .ensures .0, c .quarter4 .ensures .0)
       (sums-add (c .before .before .before .before .args .b .now) (c .before .before .before .before .pre .1))
 
-  total-squares : c .before .before .before .quarter .result .q + c .before .before .quarter2 .result .q + c .before .quarter3 .result .q + c .quarter4 .result .q
+  total-squares : c .before .before .before .quarter .result .squares + c .before .before .quarter2 .result .squares + c .before .quarter3 .result .squares + c .quarter4 .result .squares
       ≡ squares (levelOf (c .before .before .before .before .args .b .now)) 64
   total-squares =
       rw (c .before .before .before .quarter .ensures .1 .0, c .before .before .quarter2 .ensures .1 .0, c .before .quarter3 .ensures .1 .0, c .quarter4 .ensures .1 .0)
       (squares-add (c .before .before .before .before .args .b .now) (c .before .before .before .before .pre .1))
 
-  sum-fits : c .before .before .before .quarter .result .s + c .before .before .quarter2 .result .s + c .before .quarter3 .result .s + c .quarter4 .result .s ≤ 2 ^ 18
+  sum-fits : c .before .before .before .quarter .result .sum + c .before .before .quarter2 .result .sum + c .before .quarter3 .result .sum + c .quarter4 .result .sum ≤ 2 ^ 18
   sum-fits = rw total (whole-sum (c .before .before .before .before .args .b .now) (c .before .before .before .before .pre .1))
 
-  squares-fit : c .before .before .before .quarter .result .q + c .before .before .quarter2 .result .q + c .before .quarter3 .result .q + c .quarter4 .result .q ≤ 2 ^ 30
+  squares-fit : c .before .before .before .quarter .result .squares + c .before .before .quarter2 .result .squares + c .before .quarter3 .result .squares + c .quarter4 .result .squares
+      ≤ 2 ^ 30
   squares-fit = rw total-squares (whole-squares (c .before .before .before .before .args .b .now) (c .before .before .before .before .pre .1))
 
 -- so its variance is the definition's
-variance : (c : tie.After-gvar) → c .gvar .result ≡ Block.gvar (c .before .before .before .before .before .before .before .before .before .before .before .before .before .args .b .now)
+variance : (c : tie.After-gvar) → c .gvar .result ≡ Block.gvar (start (four c) .args .b .now)
 variance c =
-    let s = c .before .before .before .before .before .before .before .before .before .before .before .before .before in
     let q = c .before .before .before .before .before .before .before .before .before in
-    rw (total q, total-squares q) at (c .gvar .ensures) ∙ sym (gvar-is (s .args .b .now) (s .pre .1))
+    rw (total q, total-squares q) at (c .gvar .ensures) ∙ sym (gvar-is (start q .args .b .now) (start q .pre .1))
 
 add-gvar : tie.Need-add-gvar
 add-gvar c = omega (arith, sum-fits (c .before .before))
@@ -70,20 +77,21 @@ add-gvar-6 c = omega (arith, squares-fit (c .before .before .before .before .bef
 
 gvar-requires : tie.Need-gvar-requires
 gvar-requires c κs =
-    let s = c .before .before .before .before .before .before .before .before .before .before .before .before in
     let q = c .before .before .before .before .before .before .before .before in
-    (rw (total q, total-squares q) (whole-le (s .args .b .now) (s .pre .1)), squares-fit q)
+    (rw (total q, total-squares q) (whole-le (start q .args .b .now) (start q .pre .1)), squares-fit q)
 
 returns : tie.Need-returns
 unfolding ratio varSum
 returns c =
+    let v = c .before .before .before .before .before in
+    let q = v .before .before .before .before .before .before .before .before .before in
     rw (
-      ← (variance (c .before .before .before .before .before)),
+      ← (variance v),
       c .if1 .taken,
-      c .before .before .before .before .before .before .before .before .before .before .before .before .before .before .before .before .before .quarter .ensures .1 .1,
-      c .before .before .before .before .before .before .before .before .before .before .before .before .before .before .before .before .quarter2 .ensures .1 .1,
-      c .before .before .before .before .before .before .before .before .before .before .before .before .before .before .before .quarter3 .ensures .1 .1,
-      c .before .before .before .before .before .before .before .before .before .before .before .before .before .before .quarter4 .ensures .1 .1,
+      q .before .before .before .quarter .ensures .1 .1,
+      q .before .before .quarter2 .ensures .1 .1,
+      q .before .quarter3 .ensures .1 .1,
+      q .quarter4 .ensures .1 .1,
     )
 
 returns-2 : tie.Need-returns-2
