@@ -1,6 +1,9 @@
-// Transforms and their inverses: 130 numbers each, as the table says.
+// Transforms and their inverses. A row has which of the two it is, the answer, 64 numbers, and the 64 that they become.
 ghost use Prim.Native.Nat.{_<_};
 use crate::table;
+
+// How many numbers a row has.
+const ROW: usize = 130;
 
 // Number i of the table.
 fn entry(i: usize) -> i32 {
@@ -42,7 +45,7 @@ fn ask(back: bool, block: &[i32], out: &mut [i32]) -> u8 {
 pub fn block_is(i: usize) -> bool
     requires { ⌜ i < 4096 ⌝ }
 {
-    let at = 130 * i;
+    let at = ROW * i;
     let from = block(at + 2);
     let mut out = [0i32; 64];
     let answer = ask(entry(at) != 0, &from, &mut out);

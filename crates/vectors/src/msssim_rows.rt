@@ -12,6 +12,15 @@ const PLACES: usize = 1632;
 
 const ROOM: usize = 561;
 
+// The largest sample of depth 8 and of depth 12, and how many values there are.
+const BYTE_MAX: usize = 255;
+
+const WORD_MAX: usize = 4095;
+
+const BYTE_VALUES: usize = 256;
+
+const WORD_VALUES: usize = 4096;
+
 // How far below the largest sample i is: less than `reach`. oracle/src/scaled.rs has the same rule.
 fn below(i: usize, seed: usize, reach: usize) -> usize {
     if reach == 0 {
@@ -23,7 +32,7 @@ fn below(i: usize, seed: usize, reach: usize) -> usize {
 fn bytes(seed: usize, reach: usize) -> [u8; SAMPLES] {
     let mut list = [0u8; SAMPLES];
     for i in 0..SAMPLES {
-        list[i] = (255 - below(i, seed, reach) % 256) as u8;
+        list[i] = (BYTE_MAX - below(i, seed, reach) % BYTE_VALUES) as u8;
     }
     list
 }
@@ -31,7 +40,7 @@ fn bytes(seed: usize, reach: usize) -> [u8; SAMPLES] {
 fn words(seed: usize, reach: usize) -> [u16; SAMPLES] {
     let mut list = [0u16; SAMPLES];
     for i in 0..SAMPLES {
-        list[i] = (4095 - below(i, seed, reach) % 4096) as u16;
+        list[i] = (WORD_MAX - below(i, seed, reach) % WORD_VALUES) as u16;
     }
     list
 }

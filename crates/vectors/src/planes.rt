@@ -3,19 +3,22 @@
 use crate::rows::Row;
 use crate::tell;
 
+// The samples of a plane, as many as the table's places reach: at this place no sample is set.
+const ROOM: usize = 8192;
+
 // A plane of bytes that are 0 but for one.
-fn bytes(at: usize, value: usize) -> [u8; 8192] {
-    let mut list = [0u8; 8192];
-    if at < 8192 {
+fn bytes(at: usize, value: usize) -> [u8; ROOM] {
+    let mut list = [0u8; ROOM];
+    if at < ROOM {
         list[at] = (value % 256) as u8;
     }
     list
 }
 
 // The same of words.
-fn words(at: usize, value: usize) -> [u16; 8192] {
-    let mut list = [0u16; 8192];
-    if at < 8192 {
+fn words(at: usize, value: usize) -> [u16; ROOM] {
+    let mut list = [0u16; ROOM];
+    if at < ROOM {
         list[at] = (value % 65536) as u16;
     }
     list
