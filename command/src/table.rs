@@ -139,7 +139,11 @@ impl Table {
 
 /// The worst frame, and those that come next.
 fn worst(out: &mut dyn Write, places: &[Place]) -> io::Result<()> {
-    let next = |place: &Place| format!("{} ({}, {:.6})", place.frame, place.plane, place.value);
+    let round = |place: &Place| {
+        let column = COLUMNS.iter().find(|column| column.0 == place.field);
+        column.map_or_else(|| place.value.to_string(), |column| column.3(place.value))
+    };
+    let next = |place: &Place| format!("{} ({}, {})", place.frame, place.plane, round(place));
     if let Some((first, others)) = places.split_first() {
         let Place { field, frame, plane, value } = first;
         writeln!(out, "worst {}: {:?} in frame {}, plane {}", field, value, frame, plane)?;
