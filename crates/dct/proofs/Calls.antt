@@ -30,7 +30,7 @@ module _ (n : ℕ) (given : List ℤ) (p : ℕ) where
       let r = and-parts (eqb p blockSize) (allWithin n given) (q .1) in
       record { in-places = eqb-true (length given) blockSize (q .0); out-places = eqb-true p blockSize (r .0); sizes = small n given (r .1) }
 
-  pub is-taken : Taken n given p → blockSuits n given p ≡ true
+  is-taken : Taken n given p → blockSuits n given p ≡ true
   unfolding blockSuits
   is-taken t =
       rw (eq-eqb (length given) blockSize (t .in-places), eq-eqb p blockSize (t .out-places), is-within n given (t .sizes))

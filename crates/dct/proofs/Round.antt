@@ -7,7 +7,7 @@ use lib.IntN.{ℤ, pos}
 use lib.ListN.{length, getD, drop}
 use lib.Seq.{drop-cons, drop-length}
 use Rattle.lifting.specs.Steps.{run, undoAll, steps}
-use Rattle.dct.specs.Block.{eight, column, row, inputOrder, inputOrder⁻¹, fdct8, idct8, rows, fdct8Columns, transposed, idct8Rows, fdct8x8, idct8x8}
+use Rattle.dct.specs.Block.{column, row, inputOrder, inputOrder⁻¹, fdct8, idct8, rows, fdct8Columns, transposed, idct8Rows, fdct8x8, idct8x8}
 use Rattle.lifting.proofs.Trip.{there-and-back, back-and-there, length-run}
 use Rattle.dct.proofs.Blocks.{length-fdct8, length-rows}
 
@@ -22,21 +22,24 @@ counted k zero b e = sym (ap (λ (j : ℕ). drop j b) (let q : k ≡ length b = 
 counted k (suc n) b e =
     ap (λ (l : List ℤ). getD b k (pos 0) ∷ l) (counted (suc k) n b (omega arith)) ∙ sym (drop-cons b k (pos 0) (omega arith))
 
-pub of-eight : (v : List ℤ) → length v ≡ 8 → eight (λ k. getD v k (pos 0)) ≡ v
+abbrev eight : (ℕ → ℤ) → List ℤ
+eight g = g 0 ∷ g 1 ∷ g 2 ∷ g 3 ∷ g 4 ∷ g 5 ∷ g 6 ∷ g 7 ∷ []
+
+of-eight : (v : List ℤ) → length v ≡ 8 → eight (λ k. getD v k (pos 0)) ≡ v
 unfolding count
 of-eight v e = counted 0 8 v (sym e)
 
-pub of-rows : (b : List ℤ) → length b ≡ 64 → rows (λ i. row i b) 8 ≡ b
+of-rows : (b : List ℤ) → length b ≡ 64 → rows (λ i. row i b) 8 ≡ b
 unfolding count
 of-rows b e = counted 0 64 b (sym e)
 
 -- ---- eight numbers
 
-pub fdct8-undone : (x : List ℤ) → length x ≡ 8 → idct8 (fdct8 x) ≡ x
+fdct8-undone : (x : List ℤ) → length x ≡ 8 → idct8 (fdct8 x) ≡ x
 unfolding fdct8 idct8
 fdct8-undone x e = ap inputOrder⁻¹ (there-and-back (inputOrder x) refl) ∙ of-eight x e
 
-pub undone-fdct8 : (t : List ℤ) → length t ≡ 8 → fdct8 (idct8 t) ≡ t
+undone-fdct8 : (t : List ℤ) → length t ≡ 8 → fdct8 (idct8 t) ≡ t
 unfolding fdct8 idct8
 undone-fdct8 t e =
     ap (run steps) (of-eight (run (undoAll steps) t) (length-run (undoAll steps) t ∙ e)) ∙ back-and-there t e
@@ -59,7 +62,7 @@ row-of g (suc (suc (suc (suc (suc (suc zero)))))) h = refl
 row-of g (suc (suc (suc (suc (suc (suc (suc zero))))))) h = refl
 row-of g (suc (suc (suc (suc (suc (suc (suc (suc i)))))))) h = absurd (omega arith)
 
-pub column-transposed : (b : List ℤ) (i : ℕ) → i < 8 → column i (transposed b) ≡ row i b
+column-transposed : (b : List ℤ) (i : ℕ) → i < 8 → column i (transposed b) ≡ row i b
 unfolding transposed
 column-transposed b zero h = refl
 column-transposed b (suc zero) h = refl
@@ -71,11 +74,11 @@ column-transposed b (suc (suc (suc (suc (suc (suc zero)))))) h = refl
 column-transposed b (suc (suc (suc (suc (suc (suc (suc zero))))))) h = refl
 column-transposed b (suc (suc (suc (suc (suc (suc (suc (suc i)))))))) h = absurd (omega arith)
 
-pub rows-same : (f g : ℕ → List ℤ) (n : ℕ) → ((k : ℕ) → k < n → f k ≡ g k) → rows f n ≡ rows g n
+rows-same : (f g : ℕ → List ℤ) (n : ℕ) → ((k : ℕ) → k < n → f k ≡ g k) → rows f n ≡ rows g n
 rows-same f g zero h = refl
 rows-same f g (suc n) h = ap₂ (λ (x y : List ℤ). x ++ y) (rows-same f g n (λ k l. h k (omega arith))) (h n (omega arith))
 
-pub row-rows : (f : ℕ → List ℤ) → ((k : ℕ) → length (f k) ≡ 8) → (i : ℕ) → i < 8 → row i (rows f 8) ≡ f i
+row-rows : (f : ℕ → List ℤ) → ((k : ℕ) → length (f k) ≡ 8) → (i : ℕ) → i < 8 → row i (rows f 8) ≡ f i
 row-rows f h i l =
     ap (row i) (rows-same f (λ k. eight (λ j. getD (f k) j (pos 0))) 8 (λ k _. sym (of-eight (f k) (h k))))
     ∙ row-of (λ k j. getD (f k) j (pos 0)) i l ∙ of-eight (f i) (h i)
@@ -86,7 +89,7 @@ transposed-twice : (b : List ℤ) → length b ≡ 64 → transposed (transposed
 unfolding transposed
 transposed-twice b e = rows-same (λ i. column i (transposed b)) (λ i. row i b) 8 (λ i l. column-transposed b i l) ∙ of-rows b e
 
-pub fdct8-columns-undone : (b : List ℤ) → length b ≡ 64 → idct8Rows (fdct8Columns b) ≡ b
+fdct8-columns-undone : (b : List ℤ) → length b ≡ 64 → idct8Rows (fdct8Columns b) ≡ b
 unfolding fdct8Columns idct8Rows transposed
 fdct8-columns-undone b e =
     ap transposed
@@ -94,7 +97,7 @@ fdct8-columns-undone b e =
     (λ i l. ap idct8 (row-rows (λ k. fdct8 (column k b)) (λ k. length-fdct8 (column k b)) i l) ∙ fdct8-undone (column i b) refl))
     ∙ transposed-twice b e
 
-pub undone-fdct8-columns : (z : List ℤ) → length z ≡ 64 → fdct8Columns (idct8Rows z) ≡ z
+undone-fdct8-columns : (z : List ℤ) → length z ≡ 64 → fdct8Columns (idct8Rows z) ≡ z
 unfolding fdct8Columns idct8Rows
 undone-fdct8-columns z e =
     let y = rows (λ i. idct8 (row i z)) 8 in
@@ -106,7 +109,7 @@ pub length-fdct8-columns : (b : List ℤ) → length (fdct8Columns b) ≡ 64
 unfolding fdct8Columns
 length-fdct8-columns b = length-rows (λ i. fdct8 (column i b)) (λ i. length-fdct8 (column i b)) 8
 
-pub length-idct8-rows : (b : List ℤ) → length (idct8Rows b) ≡ 64
+length-idct8-rows : (b : List ℤ) → length (idct8Rows b) ≡ 64
 unfolding idct8Rows transposed
 length-idct8-rows b = refl
 

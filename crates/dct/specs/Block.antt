@@ -6,9 +6,6 @@ use lib.IntN.{ℤ, pos}
 use lib.ListN.{getD}
 use Rattle.lifting.specs.Steps.{run, steps, undoAll}
 
-abbrev pub eight : (ℕ → ℤ) → List ℤ
-eight g = g 0 ∷ g 1 ∷ g 2 ∷ g 3 ∷ g 4 ∷ g 5 ∷ g 6 ∷ g 7 ∷ []
-
 -- eight numbers of a block: the first at a place, each so many places after the one before
 abbrev pub spaced : ℕ → ℕ → List ℤ → List ℤ
 spaced at by b =

@@ -105,7 +105,7 @@ module _ (e : ℕ) (l : e ≤ 6) (g : ℕ → ℕ) (small : (k : ℕ) → g k �
       let a : sumTo g (2 ^ e) < 2 ^ 53 = omega (arith, sum-small (2 ^ e) few) in
       rw (sum-is (2 ^ e) few) (over-at _ (sumTo g (2 ^ e)) 1 e (whole (sumTo g (2 ^ e)) a) (lit< tt) ∙ ap (frac false (sumTo g (2 ^ e))) (one-mul (2 ^ e)))
 
-  -- ---- the spread
+  -- ---- the squared distances from the mean
   off-small : (k : ℕ) → off (2 ^ e) g k ≤ 2 ^ 18
   off-small k = omega (arith, mul-le-mul few (small k), sum-small (2 ^ e) few)
 

@@ -18,39 +18,39 @@ twice k m =
     ∙ ap (λ (x : ℤ). x +ℤ negℤ (negℤ m)) (+ℤ-invr k) ∙ +ℤ-idl (negℤ (negℤ m)) ∙ negℤ-negℤ m
 
 -- the place that a step writes is within n places, and is not the one it reads
-pub record Lawful (n i j : ℕ) : Type 0 where
-  pub inside : i < n
-  pub apart : j ≢ i
+record Separate (n i j : ℕ) : Type 0 where
+  inside : i < n
+  apart : j ≢ i
 
-unfoldable pub Apart : ℕ → Step → Type 0
-Apart n (plus i j f) = Lawful n i j
-Apart n (less i j f) = Lawful n i j
-Apart n (from i j f) = Lawful n i j
+unfoldable Apart : ℕ → Step → Type 0
+Apart n (plus i j f) = Separate n i j
+Apart n (less i j f) = Separate n i j
+Apart n (from i j f) = Separate n i j
 
-unfoldable pub AllApart : ℕ → List Step → Type 0
+unfoldable AllApart : ℕ → List Step → Type 0
 AllApart n [] = Unit {0}
 AllApart n (s ∷ ss) = Apart n s × AllApart n ss
 
 -- by a test, which computes
-lawful : ℕ → ℕ → ℕ → Bool
-lawful n i j = ltb i n && not (eqb j i)
+separate : ℕ → ℕ → ℕ → Bool
+separate n i j = ltb i n && not (eqb j i)
 
 test : ℕ → Step → Bool
-test n (plus i j f) = lawful n i j
-test n (less i j f) = lawful n i j
-test n (from i j f) = lawful n i j
+test n (plus i j f) = separate n i j
+test n (less i j f) = separate n i j
+test n (from i j f) = separate n i j
 
-pub tests : ℕ → List Step → Bool
+tests : ℕ → List Step → Bool
 tests n [] = true
 tests n (s ∷ ss) = test n s && tests n ss
 
-pub both : (a b : Bool) → T (a && b) → T a × T b
+both : (a b : Bool) → T (a && b) → T a × T b
 both true b t = (tt, t)
 both false b t = absurd t
 
-is-lawful : (n i j : ℕ) → T (lawful n i j) → Lawful n i j
-unfolding lawful
-is-lawful n i j t =
+is-separate : (n i j : ℕ) → T (separate n i j) → Separate n i j
+unfolding separate
+is-separate n i j t =
     let p = both (ltb i n) (not (eqb j i)) t in
     record {
       inside = ltb→lt i n (p .0);
@@ -59,21 +59,21 @@ is-lawful n i j t =
 
 is-apart : (n : ℕ) (s : Step) → T (test n s) → Apart n s
 unfolding test Apart
-is-apart n (plus i j f) t = is-lawful n i j t
-is-apart n (less i j f) t = is-lawful n i j t
-is-apart n (from i j f) t = is-lawful n i j t
+is-apart n (plus i j f) t = is-separate n i j t
+is-apart n (less i j f) t = is-separate n i j t
+is-apart n (from i j f) t = is-separate n i j t
 
-pub all-apart : (n : ℕ) (ss : List Step) → T (tests n ss) → AllApart n ss
+all-apart : (n : ℕ) (ss : List Step) → T (tests n ss) → AllApart n ss
 unfolding tests AllApart
 all-apart n [] t = tt
 all-apart n (s ∷ ss) t = let p = both (test n s) (tests n ss) t in (is-apart n s (p .0), all-apart n ss (p .1))
 
-pub steps-apart : AllApart 8 steps
-unfolding test tests lawful steps steps1 steps2 steps3 steps4 steps5
+steps-apart : AllApart 8 steps
+unfolding test tests separate steps steps1 steps2 steps3 steps4 steps5
 steps-apart = all-apart 8 steps tt
 
 undone-apart : AllApart 8 (undoAll steps)
-unfolding test tests lawful steps steps1 steps2 steps3 steps4 steps5
+unfolding test tests separate steps steps1 steps2 steps3 steps4 steps5
 undone-apart = all-apart 8 (undoAll steps) tt
 
 -- a write that h of the two places undoes
@@ -87,13 +87,13 @@ rewritten v i j g h l d e =
     (ap₂ h (getD-set-same v i (g a b) (pos 0) l) (getD-set-other v i j (g a b) (pos 0) d) ∙ e a b)
     ∙ set-getD v i (pos 0)
 
-pub undoes : (s : Step) (v : List ℤ) → Apart (length v) s → step (undo s) (step s v) ≡ v
+undoes : (s : Step) (v : List ℤ) → Apart (length v) s → step (undo s) (step s v) ≡ v
 unfolding Apart
 undoes (plus i j f) v p = rewritten v i j (λ a b. a +ℤ of f b) (λ a b. a -ℤ of f b) (p .inside) (p .apart) (λ a b. +ℤ-negℤ-cancel a (of f b))
 undoes (less i j f) v p = rewritten v i j (λ a b. a -ℤ of f b) (λ a b. a +ℤ of f b) (p .inside) (p .apart) (λ a b. -ℤ-+ℤ-cancel a (of f b))
 undoes (from i j f) v p = rewritten v i j (λ a b. of f b -ℤ a) (λ a b. of f b -ℤ a) (p .inside) (p .apart) (λ a b. twice (of f b) a)
 
-pub length-step : (s : Step) (v : List ℤ) → length (step s v) ≡ length v
+length-step : (s : Step) (v : List ℤ) → length (step s v) ≡ length v
 length-step (plus i j f) v = length-set v i _
 length-step (less i j f) v = length-set v i _
 length-step (from i j f) v = length-set v i _
@@ -102,7 +102,7 @@ pub run-append : (a b : List Step) (v : List ℤ) → run (a ++ b) v ≡ run b (
 run-append [] b v = refl
 run-append (s ∷ ss) b v = run-append ss b (step s v)
 
-pub undone : (ss : List Step) (v : List ℤ) → AllApart (length v) ss → run (undoAll ss) (run ss v) ≡ v
+undone : (ss : List Step) (v : List ℤ) → AllApart (length v) ss → run (undoAll ss) (run ss v) ≡ v
 unfolding AllApart
 undone [] v p = refl
 undone (s ∷ ss) v p =
