@@ -14,10 +14,13 @@ use Rattle.plane.specs.Inner.Lawful.{AcceptedPair}
 use Rattle.window.specs.Kernel.{fixedKernel, fixedTotal}
 use Rattle.window.proofs.Demand.{Bounded, Demanded, scales, scaleMax, fixed-sums}
 use Rattle.downscale.proofs.Summed.{summed-most}
-use Rattle.msssim.specs.Scale.{Scale, scaleCount, belowOf, scaleAt, scaleTotals, meanSsim, meanCs, pairsFrom}
+use Rattle.msssim.specs.Scale.{Scale, scaleCount, belowOf, scaleTotals, meanSsim, meanCs, pairsFrom}
 use Rattle.msssim.specs.Answer.{leastSide, firstScale}
 
 -- ---- k scales below a scale
+unfoldable pub scaleAt : Scale → ℕ → Scale
+scaleAt s zero = s
+scaleAt s (suc k) = scaleAt (belowOf s) k
 
 -- no sample of either plane is above the scale's largest
 abbrev Small : Scale → Type 0

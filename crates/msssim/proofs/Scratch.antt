@@ -10,7 +10,7 @@ use Rattle.ssim.specs.Scratch.{grownOf, linesOf}
 use Rattle.msssim.specs.Scratch.{placesNeeded}
 
 -- L by SSIM's own rule
-fixed-lines : linesOf (length fixedKernel) ≡ 16
+pub fixed-lines : linesOf (length fixedKernel) ≡ 16
 unfolding linesOf grownOf foldTo
 fixed-lines = refl
 

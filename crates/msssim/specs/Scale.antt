@@ -28,11 +28,6 @@ scaleOf max width height a b = record { max = max; width = width; height = heigh
 abbrev pub belowOf : Scale → Scale
 belowOf s = scaleOf (4 * s .max) (s .width / 2) (s .height / 2) (summedOf (s .a)) (summedOf (s .b))
 
--- k scales below
-unfoldable pub scaleAt : Scale → ℕ → Scale
-scaleAt s zero = s
-scaleAt s (suc k) = scaleAt (belowOf s) k
-
 -- the sums over every centre of a scale, under the fixed kernel
 abbrev pub scaleTotals : Scale → Totals
 scaleTotals s = totalsOf (double (s .max * s .max)) fixedKernel (s .width) (s .height) (s .a) (s .b) (s .height)

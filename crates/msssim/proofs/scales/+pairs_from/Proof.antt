@@ -43,15 +43,27 @@ claims t = (
 )
 
 module _ (t : ℕ) where
-  -- ---- places: the start, where a scale is left, where both planes are halved, and the end
+  -- ---- places: the start, where a scale is left, is summed, has its pair, has its first plane halved, and both; after the call; and the end
   abbrev Start : Type 0
   Start = lts.Start (claims t) (asked t) self.Post
 
   abbrev Left : Type 0
   Left = lts.Then1 (claims t) (asked t) self.Post
 
+  abbrev Summed : Type 0
+  Summed = lts.After-totals (claims t) (asked t) self.Post
+
+  abbrev Paired : Type 0
+  Paired = lts.After-put-pair (claims t) (asked t) self.Post
+
+  abbrev First : Type 0
+  First = lts.After-downscale (claims t) (asked t) self.Post
+
   abbrev Halved : Type 0
   Halved = lts.After-slice-known6 (claims t) (asked t) self.Post
+
+  abbrev Called : Type 0
+  Called = lts.After-pairs-from (claims t) (asked t) self.Post
 
   abbrev End : Type 0
   End = lts.After-slice-known9 (claims t) (asked t) self.Post
@@ -59,11 +71,23 @@ module _ (t : ℕ) where
   abbrev start : Left → Start
   start c = c .before .before .before .before
 
+  abbrev first : Halved → First
+  first c = c .before .before .before .before .before .before
+
+  abbrev paired : Halved → Paired
+  paired c = first c .before .before .before .before
+
+  abbrev summed : Halved → Summed
+  summed c = paired c .before .before .before
+
   abbrev left : Halved → Left
-  left c = c .before .before .before .before .before .before .before .before .before .before .before .before .before .before .before .before .before
+  left c = summed c .before .before .before .before
+
+  abbrev called : End → Called
+  called c = c .before .before .before .before .before .before .before
 
   abbrev halved : End → Halved
-  halved c = c .before .before .before .before .before .before .before .before .before .before .before .before
+  halved c = called c .before .before .before .before .before
 
   -- the samples of this scale fit, and so do those of the scales below
   fits : (c : Left) → let s = start c in (s .args .max ≤ mostSample) × (4 * s .args .max * 4 ^ (s .args .left - 1) ≤ 4 * mostSample)
@@ -100,12 +124,12 @@ module _ (t : ℕ) where
   sub-pairs-from-2 : lts.Need-sub-pairs-from-2 (claims t) (asked t) self.Post
   sub-pairs-from-2 c =
       let h : Halved = c .before .before .before in
-      omega (arith, h .before .before .before .before .before .before .before .before .before .before .put-pair .kept .1 .0, start (left h) .pre .1 .1 .0 .1, left h .if1 .taken)
+      omega (arith, paired h .put-pair .kept .1 .0, start (left h) .pre .1 .1 .0 .1, left h .if1 .taken)
 
   part-pairs-from-start : lts.Need-part-pairs-from-start (claims t) (asked t) self.Post
   part-pairs-from-start c =
       let h : Halved = c .before .before .before in
-      omega (arith, h .before .before .before .before .before .before .before .before .before .before .put-pair .kept .1 .0, start (left h) .pre .1 .1 .0 .1, left h .if1 .taken)
+      omega (arith, paired h .put-pair .kept .1 .0, start (left h) .pre .1 .1 .0 .1, left h .if1 .taken)
 
   part-pairs-from-end : lts.Need-part-pairs-from-end (claims t) (asked t) self.Post
   part-pairs-from-end c = le-refl _
@@ -114,12 +138,12 @@ module _ (t : ℕ) where
   pairs-from-requires c κs =
       let h : Halved = c .before .before .before .before in
       let s = start (left h) in
-      let a = h .before .before .before .before .before .before .downscale in
+      let a = first h .downscale in
       let b = h .before .before .downscale2 in
-      let p = h .before .before .before .before .before .before .before .before .before .before .put-pair in (
+      let p = paired h .put-pair in (
         omega (arith, s .pre .0, left h .if1 .taken),
         (
-          omega (arith, h .before .before .before .before .before .before .before .before .before .before .before .before .before .totals .kept .1 .1 .1 .1 .1 .0),
+          omega (arith, summed h .totals .kept .1 .1 .1 .1 .1 .0),
           (
             (fits (left h) .1, rest-length (p .last .1 .0) (s .args .left) (p .kept .1 .0 ∙ s .pre .1 .1 .0 .1)),
             (
@@ -131,18 +155,18 @@ module _ (t : ℕ) where
       )
 
   same-length : lts.Need-same-length (claims t) (asked t) self.Post
-  same-length c = c .before .before .before .before .before .before .before .pairs-from .kept .0 ∙ halved c .before .before .before .before .before .before .downscale .kept .0
+  same-length c = called c .pairs-from .kept .0 ∙ first (halved c) .downscale .kept .0
 
   same-length-2 : lts.Need-same-length-2 (claims t) (asked t) self.Post
-  same-length-2 c = c .before .before .before .before .before .before .before .pairs-from .kept .1 .0 ∙ halved c .before .before .downscale2 .kept .0
+  same-length-2 c = called c .pairs-from .kept .1 .0 ∙ halved c .before .before .downscale2 .kept .0
 
   same-length-3 : lts.Need-same-length-3 (claims t) (asked t) self.Post
-  same-length-3 c = c .before .before .before .before .before .before .before .pairs-from .kept .1 .1 .1 .1 .1 .1 .0 ∙ halved c .before .before .before .before .before .before .before .before .before .before .before .before .before .totals .kept .1 .1 .1 .1 .1 .0
+  same-length-3 c = called c .pairs-from .kept .1 .1 .1 .1 .1 .1 .0 ∙ summed (halved c) .totals .kept .1 .1 .1 .1 .1 .0
 
   same-length-4 : lts.Need-same-length-4 (claims t) (asked t) self.Post
   same-length-4 c =
-      let p = halved c .before .before .before .before .before .before .before .before .before .before .put-pair in
-      let f = c .before .before .before .before .before .before .before .pairs-from in
+      let p = paired (halved c) .put-pair in
+      let f = called c .pairs-from in
       let kept = f .kept .1 .1 .1 .1 .1 .1 in
       let last = f .last .1 .1 .1 .1 .1 .1 in
       same-len-mid 2 (length (p .last .1 .0) - 2) (p .last .1 .0) (last .1 .0) (kept .1 .0) ∙ p .kept .1 .0
@@ -151,12 +175,12 @@ module _ (t : ℕ) where
   returns c =
       let h = halved c in
       let s = start (left h) in
-      let a = h .before .before .before .before .before .before .downscale in
+      let a = first h .downscale in
       let b = h .before .before .downscale2 in
-      let p = h .before .before .before .before .before .before .before .before .before .before .put-pair in
-      let f = c .before .before .before .before .before .before .before .pairs-from in
+      let p = paired h .put-pair in
+      let f = called c .pairs-from in
       let last = f .last .1 .1 .1 .1 .1 .1 in
-      let scored = h .before .before .before .before .before .before .before .before .before .before .before .before .before .totals in
+      let scored = summed h .totals in
       pairs-step (s .args .left) (s .args .max) (s .args .width) (s .args .height) (now (s .args .a32)) (a .last .0) (now (s .args .b32)) (b .last .0)
       (scored .result) _ (p .last .1 .0) (last .1 .0) (left h .if1 .taken) (scored .ensures) (p .ensures) (f .ensures) (a .ensures) (b .ensures)
 
