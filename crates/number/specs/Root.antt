@@ -1,4 +1,4 @@
--- SCOPE, "Root": +0 gives +0; a positive finite x gives the double nearest the exact root, compared as squared whole numbers.
+-- SCOPE, "HVS, SSIM and scales", root: +0 gives +0; a positive finite x gives the double nearest the exact root, compared as squared whole numbers.
 -- `proofs/Nearest.antt` shows that no other double is nearer and that no tie can occur. Definitions only.
 use mathlib.Core.Bool.{Bool, true, false, _&&_, cond}
 use Prim.Native.Nat.{ℕ, zero, suc, _+_, _-_, _*_, _/_, _^_}

@@ -1,5 +1,5 @@
--- SCOPE: "Doubles: each operation rounded once, in the order written in the Rust". The four operations on doubles, the double
--- of a whole number, steps taken in turn, and a list by its places. Definitions only.
+-- SCOPE, "HVS, SSIM and scales": on doubles each operation is rounded once, in the order of the Rust. The four operations, the double of
+-- a whole number, steps taken in turn, and a list by its places. Definitions only.
 use mathlib.Core.List.{List, [], _∷_, _++_}
 use Prim.Native.Nat.{ℕ, zero, suc}
 use lib.IntN.{pos}

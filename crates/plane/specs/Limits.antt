@@ -11,7 +11,7 @@ sideLimit = 8192
 unfoldable pub strideLimit : ℕ
 strideLimit = 16384
 
--- "bytes carry depths 1 to 8, words carry 9 to 12": the least depth
+-- the least depth that a sample width carries: bytes go from 1 to 8, words from 9 to 12
 unfoldable pub leastDepth : Bool → ℕ
 leastDepth false = 1
 leastDepth true = 9

@@ -55,7 +55,7 @@ planes layout a8 a16 b8 b16 = planesIn layout (now a8) (now a16) (now b8) (now b
 abbrev pub called : Bool → RefT (List ℕ) → RefT (List ℕ) → ℕ → ℕ → ℕ → ℕ → ℕ → Planes
 called wide a b width height strideA strideB depth = planesOf (sizeOf wide width height depth) (planeOf (now a) strideA) (planeOf (now b) strideB)
 
--- "sample_max is 2^depth - 1"
+-- sample_max, the largest sample of a depth
 unfoldable pub maxOf : ℕ → ℕ
 maxOf depth = 2 ^ depth - 1
 
@@ -71,7 +71,7 @@ at samples i = getD samples i 0
 abbrev pub sampleAt : Plane → ℕ → ℕ → ℕ
 sampleAt p r c = at (p .samples) (r * p .stride + c)
 
--- "A plane must reach stride × (height - 1) + width samples"
+-- how many samples a plane must have: the padding of its last row need not be there
 abbrev pub needed : ℕ → ℕ → ℕ → ℕ
 needed width height stride = stride * (height - 1) + width
 

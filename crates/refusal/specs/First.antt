@@ -1,5 +1,5 @@
--- SCOPE: "The lowest number that applies and belongs to that call is given." A call lists its tests in ascending order of
--- their numbers, each number beside whether its test passes. Definitions only.
+-- SCOPE, "When the desk says no": of the numbers that apply and belong to a call the lowest is given. A call lists its tests in
+-- ascending order of their numbers, each number beside whether its test passes. Definitions only.
 use mathlib.Core.Bool.{Bool, true, false}
 use mathlib.Core.List.{List, [], _∷_}
 use Prim.Native.Nat.{ℕ, zero, suc}
