@@ -14,7 +14,7 @@ within least most n = leb least n && leb n most
 
 -- SSIM: the 64-bit places for a width and a count of taps
 unfoldable pub ssimPlaces : ℕ → ℕ → ℕ
-ssimPlaces width taps = cond (within 1 sideLimit width && within 1 mostTaps taps) (ssim.placesOf width taps) 0
+ssimPlaces width taps = cond (within 1 sideLimit width && within 1 mostTaps taps) (ssim.scratchPlaces width taps) 0
 
 -- MS-SSIM: the 64-bit places, and the 32-bit places of each plane
 unfoldable pub msssimPlaces : ℕ → ℕ

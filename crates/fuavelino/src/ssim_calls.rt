@@ -1,10 +1,8 @@
 // SSIM for other languages. `ssim` and `cs` are written where the answer is 0, and as they were otherwise.
 ghost use mathlib.Core.Path.{_≡_};
 ghost use mathlib.Core.Bool.{true, false};
-ghost use lib.ListN.{length};
 ghost use Rattle.plane.specs.Plane.{called};
-ghost use Rattle.ssim.specs.Scratch.{placesOf, scratchAfter};
-ghost use Rattle.ssim.specs.Answer.{ssimRefusal, ssimOf};
+ghost use Rattle.ssim.specs.Answer.{ssimOf, scratchAfter};
 ghost use Rattle.fuavelino.specs.Ssim.{ssimNumber, ssimWritten, csWritten};
 use ssim::Ssim;
 
@@ -24,17 +22,15 @@ pub extern "C" fn fuavelino_ssim8(
     cs: &mut f64,
 ) -> u8
     ensures { λ r. ⌜ r ≡ ssimNumber (ssimOf (called false (a .entry) (b .entry) width height «stride_a» «stride_b» depth)
-        (now (kernel .entry)) (length (now (scratch .entry)))) ⌝ }
+        (now (kernel .entry)) (now (scratch .entry))) ⌝ }
     ensures { λ _. ⌜ now (scratch .exit) ≡ scratchAfter
-        (ssimRefusal (called false (a .entry) (b .entry) width height «stride_a» «stride_b» depth)
-        (now (kernel .entry)) (length (now (scratch .entry))))
-        (placesOf width (length (now (kernel .entry)))) (now (scratch .entry)) ⌝ }
+        (called false (a .entry) (b .entry) width height «stride_a» «stride_b» depth) (now (kernel .entry)) (now (scratch .entry)) ⌝ }
     ensures { λ _. ⌜ now (ssim .exit) ≡ ssimWritten
         (ssimOf (called false (a .entry) (b .entry) width height «stride_a» «stride_b» depth)
-        (now (kernel .entry)) (length (now (scratch .entry)))) (now (ssim .entry)) ⌝ }
+        (now (kernel .entry)) (now (scratch .entry))) (now (ssim .entry)) ⌝ }
     ensures { λ _. ⌜ now (cs .exit) ≡ csWritten
         (ssimOf (called false (a .entry) (b .entry) width height «stride_a» «stride_b» depth)
-        (now (kernel .entry)) (length (now (scratch .entry)))) (now (cs .entry)) ⌝ }
+        (now (kernel .entry)) (now (scratch .entry))) (now (cs .entry)) ⌝ }
 {
     match ssim::ssim8(
         a,
@@ -72,17 +68,15 @@ pub extern "C" fn fuavelino_ssim16(
     cs: &mut f64,
 ) -> u8
     ensures { λ r. ⌜ r ≡ ssimNumber (ssimOf (called true (a .entry) (b .entry) width height «stride_a» «stride_b» depth)
-        (now (kernel .entry)) (length (now (scratch .entry)))) ⌝ }
+        (now (kernel .entry)) (now (scratch .entry))) ⌝ }
     ensures { λ _. ⌜ now (scratch .exit) ≡ scratchAfter
-        (ssimRefusal (called true (a .entry) (b .entry) width height «stride_a» «stride_b» depth)
-        (now (kernel .entry)) (length (now (scratch .entry))))
-        (placesOf width (length (now (kernel .entry)))) (now (scratch .entry)) ⌝ }
+        (called true (a .entry) (b .entry) width height «stride_a» «stride_b» depth) (now (kernel .entry)) (now (scratch .entry)) ⌝ }
     ensures { λ _. ⌜ now (ssim .exit) ≡ ssimWritten
         (ssimOf (called true (a .entry) (b .entry) width height «stride_a» «stride_b» depth)
-        (now (kernel .entry)) (length (now (scratch .entry)))) (now (ssim .entry)) ⌝ }
+        (now (kernel .entry)) (now (scratch .entry))) (now (ssim .entry)) ⌝ }
     ensures { λ _. ⌜ now (cs .exit) ≡ csWritten
         (ssimOf (called true (a .entry) (b .entry) width height «stride_a» «stride_b» depth)
-        (now (kernel .entry)) (length (now (scratch .entry)))) (now (cs .entry)) ⌝ }
+        (now (kernel .entry)) (now (scratch .entry))) (now (cs .entry)) ⌝ }
 {
     match ssim::ssim16(
         a,

@@ -9,7 +9,7 @@ use Rattle.plane.specs.Tests.{sizeTests, layoutTests}
 use Rattle.psnr.specs.Squared.{squareOf, rowError, errorTo, squaredErrorOf}
 use Rattle.lifting.specs.Steps.{half, part, steps, steps1, steps2, steps3, steps4, steps5}
 use Rattle.dct.specs.Block.{fdct8, fdct8Columns, fdct8x8}
-use Rattle.window.specs.Moments.{inside, momentAt}
+use Rattle.window.specs.Moments.{clipped, momentAt}
 use Rattle.number.specs.Steps.{listTo}
 use Rattle.marked.specs.Marked.{Agree, marked}
 
@@ -17,5 +17,5 @@ pub marked-agree : Agree marked
 unfolding marked sideLimit strideLimit leastDepth mostDepth maxOf allTo sumTo depthSuits sidesSuit sidesReach strideSuits longEnough
     noneAbove rowSuits samplesSuit sizeTests layoutTests squareOf rowError errorTo squaredErrorOf
     ofInt round units odd size climb span toUnsigned
-    half part steps steps1 steps2 steps3 steps4 steps5 fdct8 fdct8Columns fdct8x8 inside momentAt listTo
+    half part steps steps1 steps2 steps3 steps4 steps5 fdct8 fdct8Columns fdct8x8 clipped momentAt listTo
 marked-agree = (refl, (refl, (refl, (refl, (refl, (refl, (refl, (refl, (refl, (refl, (refl, tt)))))))))))

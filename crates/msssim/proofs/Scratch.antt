@@ -6,12 +6,12 @@ use lib.ListN.{length}
 use Rattle.number.specs.Steps.{foldTo}
 use Rattle.window.specs.Kernel.{fixedKernel}
 use Rattle.window.specs.Inner.Columns.{columnsOf}
-use Rattle.ssim.specs.Scratch.{grownOf, linesOf}
+use Rattle.ssim.specs.Scratch.{doubledBelow, nextPower}
 use Rattle.msssim.specs.Scratch.{placesNeeded}
 
 -- L by SSIM's own rule
-pub fixed-lines : linesOf (length fixedKernel) ≡ 16
-unfolding linesOf grownOf foldTo
+pub fixed-lines : nextPower (length fixedKernel) ≡ 16
+unfolding nextPower doubledBelow foldTo
 fixed-lines = refl
 
 pub places-96 : (width : ℕ) → placesNeeded width ≡ 96 * width

@@ -8,7 +8,7 @@ use lib.IntN.{ℤ, pos}
 use lib.ListN.{length}
 use Rattle.plane.specs.declared.Size.{Size}
 use Rattle.window.specs.Kernel.{fixedKernel}
-use Rattle.ssim.specs.Scratch.{placesOf, cleared}
+use Rattle.ssim.specs.Scratch.{scratchPlaces, cleared}
 
 -- the scratch of a call: 64-bit places for the window sums, and 32-bit places for the scales of each plane
 pub record Scratch : Type 0 where
@@ -22,7 +22,7 @@ scratchOf places a32 b32 = record { places = now places; a32 = now a32; b32 = no
 
 -- what is needed of the first: as much as SSIM needs under a kernel of so many taps
 abbrev pub placesNeeded : ℕ → ℕ
-placesNeeded width = placesOf width (length fixedKernel)
+placesNeeded width = scratchPlaces width (length fixedKernel)
 
 -- and of the other two: a place to each sample
 abbrev pub samplesNeeded : ℕ → ℕ → ℕ

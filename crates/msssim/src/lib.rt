@@ -45,7 +45,7 @@ pub fn places_needed(width: usize) -> usize
     requires { ⌜ width ≤ sideLimit ⌝ }
     ensures { λ r. ⌜ r ≡ placesNeeded width ⌝ }
 {
-    ssim::places(width, TAPS)
+    ssim::scratch_places(width, TAPS)
 }
 
 // How many 32-bit places are needed for each plane: one to a sample.

@@ -36,7 +36,7 @@ pub fn totals(
 {
     let kernel = [8u16, 37, 112, 218, 274, 218, 112, 37, 8];
     let need = 5 * (width + MARGINS);
-    let max2 = ssim::score::squared(max);
+    let max2 = ssim::centre::squared(max);
     let grid = Grid {
         samples: Samples::Longs,
         width,

@@ -11,21 +11,20 @@ use lib.ListN.{length}
 use Rattle.refusal.specs.Numbers.{kernelNo, scratchNo}
 use Rattle.refusal.specs.First.{firstBroken}
 use Rattle.refusal.proofs.Chain.{Named, passed}
-use Rattle.plane.specs.Limits.{mostDepth}
-use Rattle.plane.specs.Plane.{Planes, maxOf, both}
+use Rattle.plane.specs.Plane.{Planes, both}
 use Rattle.plane.specs.Tests.{pairTests, pairRefusal}
 use Rattle.plane.proofs.Accept.{accepted, plane-named}
-use Rattle.plane.proofs.Depth.{depth-small, max-small}
+use Rattle.plane.proofs.Depth.{depth-small}
 use Rattle.plane.proofs.Several.{planes-stop, planes-pass}
 use Rattle.window.specs.Kernel.{mostTaps, lawful, lentTotal}
 use Rattle.window.specs.Inner.Columns.{columnsOf}
-use Rattle.window.specs.Moments.{mostSample}
+use Rattle.window.proofs.Demand.{plane-small}
 use Rattle.window.proofs.Grids.{bounded-most}
 use Rattle.window.proofs.KernelSays.{kernel-says, kernel-serves, lent-total}
-use Rattle.ssim.specs.Scratch.{linesOf, placesOf}
+use Rattle.ssim.specs.Scratch.{nextPower, scratchPlaces}
 use Rattle.ssim.specs.Answer.{lentTests, ssimRefusal}
 use Rattle.ssim.specs.Inner.Sound.{Sound}
-use Rattle.ssim.proofs.Powers.{lines-reach}
+use Rattle.ssim.proofs.Powers.{power-reach}
 
 -- ---- what a lawful kernel says of the count of its taps
 pub taps-count : (ker : List ℕ) → lawful lentTotal ker ≡ true → (1 ≤ length ker) × (length ker ≤ mostTaps)
@@ -45,11 +44,11 @@ module _ (p : Planes) (ker : List ℕ) (lent : ℕ) {n : ℕ} (e : n ≡ pairRef
   unfolding lentTests
   kernel-refuses z f = planes-pass (p .size) (both p) 0 e own z (rw f)
 
-  pub scratch-refuses : n ≡ 0 → lawful lentTotal ker ≡ true → lent < placesOf (p .size .width) (length ker) → scratchNo ≡ ssimRefusal p ker lent
+  pub scratch-refuses : n ≡ 0 → lawful lentTotal ker ≡ true → lent < scratchPlaces (p .size .width) (length ker) → scratchNo ≡ ssimRefusal p ker lent
   unfolding lentTests
   scratch-refuses z f l = planes-pass (p .size) (both p) 0 e own z (rw (f, lt-leb _ _ l))
 
-  pub none-refuses : n ≡ 0 → lawful lentTotal ker ≡ true → placesOf (p .size .width) (length ker) ≤ lent → 0 ≡ ssimRefusal p ker lent
+  pub none-refuses : n ≡ 0 → lawful lentTotal ker ≡ true → scratchPlaces (p .size .width) (length ker) ≤ lent → 0 ≡ ssimRefusal p ker lent
   unfolding lentTests
   none-refuses z f l = planes-pass (p .size) (both p) 0 e own z (rw (f, le-leb _ _ l))
 
@@ -62,18 +61,13 @@ halves ((n, true) ∷ later) more named e = halves later more (named .1) e
 halves ((n, false) ∷ later) more named e = absurd (omega (arith, named .0, e))
 
 -- the columns and their margins, five places each: width + 2 off is at most width × (2 off + 1), so at most width × L
-room : (width : ℕ) (ker : List ℕ) → 1 ≤ width → length ker ≡ 2 * (length ker / 2) + 1 → 5 * columnsOf ker width ≤ placesOf width (length ker)
+room : (width : ℕ) (ker : List ℕ) → 1 ≤ width → length ker ≡ 2 * (length ker / 2) + 1 → 5 * columnsOf ker width ≤ scratchPlaces width (length ker)
 room width ker l odd =
     let off = length ker / 2 in
-    let reach : 2 * off + 1 ≤ linesOf (length ker) = omega (arith, lines-reach (length ker)) in
+    let reach : 2 * off + 1 ≤ nextPower (length ker) = omega (arith, power-reach (length ker)) in
     let margins : 2 * off * 1 ≤ 2 * off * width = mul-le-mul-left (2 * off) l in
-    let all : width * (2 * off + 1) ≤ width * linesOf (length ker) = mul-le-mul-left width reach in
-    omega (arith, mul-add width (2 * off) 1, mul-comm width (2 * off), mul-assoc 6 width (linesOf (length ker)))
-
--- the largest sample of any depth can be summed
-samples-fit : (wide : Bool) {depth : ℕ} → depth ≤ mostDepth wide → maxOf depth ≤ mostSample
-unfolding mostSample
-samples-fit wide l = omega (arith, max-small wide l)
+    let all : width * (2 * off + 1) ≤ width * nextPower (length ker) = mul-le-mul-left width reach in
+    omega (arith, mul-add width (2 * off) 1, mul-comm width (2 * off), mul-assoc 6 width (nextPower (length ker)))
 
 pub sound : (p : Planes) (ker : List ℕ) (lent : ℕ) {n : ℕ} → n ≡ ssimRefusal p ker lent → n ≡ 0 → Sound p ker lent
 unfolding lentTests
@@ -82,7 +76,7 @@ sound p ker lent e z =
     let q = accepted (p .size) (both p) 0 (h .0) in
     let t = passed (lentTests (p .size .width) ker lent) (lit≤ tt, (lit≤ tt, tt)) (h .1) in
     let k = kernel-says lentTotal ker (t .0) in
-    let max-fits = samples-fit (p .size .wide) (q .sized .depth-most) in
+    let max-fits = plane-small (p .size .wide) (p .size .depth) (q .sized .depth-most) in
     record {
       taps-least = omega (arith, k .odd);
       taps-most = k .short;

@@ -7,58 +7,58 @@ use native.Mathlib.Omega.{arith}
 use borrow.Author.Tests.{lt-ltb, le-ltb}
 use lib.Pow.{pow-pos, pow-mono}
 use Rattle.number.specs.Steps.{foldTo}
-use Rattle.ssim.specs.Scratch.{grownOf, linesOf}
+use Rattle.ssim.specs.Scratch.{doubledBelow, nextPower}
 
-pub grown-below : (n p : ℕ) → p < n → grownOf n p ≡ 2 * p
-unfolding grownOf
-grown-below n p l = rw (lt-ltb p n l)
+pub doubled-below : (n p : ℕ) → p < n → doubledBelow n p ≡ 2 * p
+unfolding doubledBelow
+doubled-below n p l = rw (lt-ltb p n l)
 
-pub grown-there : (n p : ℕ) → n ≤ p → grownOf n p ≡ p
-unfolding grownOf
-grown-there n p l = rw (le-ltb p n l)
+pub doubled-there : (n p : ℕ) → n ≤ p → doubledBelow n p ≡ p
+unfolding doubledBelow
+doubled-there n p l = rw (le-ltb p n l)
 
 -- what p has where it reaches n, and twice p where it does not, the next has
-grown-all : (P : ℕ → Type 0) (n p : ℕ) → (n ≤ p → P p) → (p < n → P (2 * p)) → P (grownOf n p)
-grown-all P n p stay more = go (decLt p n)
+doubled-all : (P : ℕ → Type 0) (n p : ℕ) → (n ≤ p → P p) → (p < n → P (2 * p)) → P (doubledBelow n p)
+doubled-all P n p stay more = go (decLt p n)
   where
-    go : Dec (p < n) → P (grownOf n p)
-    go (yes l) = rw (grown-below n p l) (more l)
-    go (no l) = rw (grown-there n p (omega arith)) (stay (omega arith))
+    go : Dec (p < n) → P (doubledBelow n p)
+    go (yes l) = rw (doubled-below n p l) (more l)
+    go (no l) = rw (doubled-there n p (omega arith)) (stay (omega arith))
 
 -- so each of them has what 1 has and a doubling keeps
-kept : (P : ℕ → Type 0) (n : ℕ) → P 1 → ((p : ℕ) → P p → p < n → P (2 * p)) → P (linesOf n)
-unfolding linesOf foldTo
+kept : (P : ℕ → Type 0) (n : ℕ) → P 1 → ((p : ℕ) → P p → p < n → P (2 * p)) → P (nextPower n)
+unfolding nextPower foldTo
 kept P n one more = go n
   where
-    go : (i : ℕ) → P (foldTo (λ (p j : ℕ). grownOf n p) 1 i)
+    go : (i : ℕ) → P (foldTo (λ (p j : ℕ). doubledBelow n p) 1 i)
     go zero = one
-    go (suc i) = let q = go i in grown-all P n _ (λ l. q) (more _ q)
+    go (suc i) = let q = go i in doubled-all P n _ (λ l. q) (more _ q)
 
 -- no product of it leaves the machine's numbers
-pub grown-le : (n p : ℕ) → p ≤ 2 * n → grownOf n p ≤ 2 * n
-grown-le n p l = grown-all (λ (q : ℕ). q ≤ 2 * n) n p (λ m. l) (λ m. omega arith)
+pub doubled-le : (n p : ℕ) → p ≤ 2 * n → doubledBelow n p ≤ 2 * n
+doubled-le n p l = doubled-all (λ (q : ℕ). q ≤ 2 * n) n p (λ m. l) (λ m. omega arith)
 
-pub lines-le : (n : ℕ) → 1 ≤ n → linesOf n ≤ 2 * n
-lines-le n l = kept (λ (q : ℕ). q ≤ 2 * n) n (omega arith) (λ p q m. omega arith)
+pub power-le : (n : ℕ) → 1 ≤ n → nextPower n ≤ 2 * n
+power-le n l = kept (λ (q : ℕ). q ≤ 2 * n) n (omega arith) (λ p q m. omega arith)
 
--- ---- "the least power of two not below the tap count"
+-- ---- the least power of two not below the tap count
 
 -- a power of two
-pub lines-power : (n : ℕ) → (k : ℕ) × (linesOf n ≡ 2 ^ k)
-lines-power n = kept (λ (q : ℕ). (k : ℕ) × (q ≡ 2 ^ k)) n (0, refl) (λ p q l. (suc (q .0), rw (q .1, pow-succ' 2 (q .0))))
+pub power-is : (n : ℕ) → (k : ℕ) × (nextPower n ≡ 2 ^ k)
+power-is n = kept (λ (q : ℕ). (k : ℕ) × (q ≡ 2 ^ k)) n (0, refl) (λ p q l. (suc (q .0), rw (q .1, pow-succ' 2 (q .0))))
 
 -- not below the count
-pub lines-reach : (n : ℕ) → n ≤ linesOf n
-unfolding linesOf foldTo
-lines-reach n = omega (arith, far n)
+pub power-reach : (n : ℕ) → n ≤ nextPower n
+unfolding nextPower foldTo
+power-reach n = omega (arith, far n)
   where
-    far : (i : ℕ) → min n (i + 1) ≤ foldTo (λ (p j : ℕ). grownOf n p) 1 i
+    far : (i : ℕ) → min n (i + 1) ≤ foldTo (λ (p j : ℕ). doubledBelow n p) 1 i
     far zero = omega arith
-    far (suc i) = let q = far i in grown-all (λ (p : ℕ). min n (suc i + 1) ≤ p) n _ (λ l. omega arith) (λ l. omega arith)
+    far (suc i) = let q = far i in doubled-all (λ (p : ℕ). min n (suc i + 1) ≤ p) n _ (λ l. omega arith) (λ l. omega arith)
 
 -- and no other such power is below it
-pub lines-least : (n k : ℕ) → n ≤ 2 ^ k → linesOf n ≤ 2 ^ k
-lines-least n k l =
+pub power-least : (n k : ℕ) → n ≤ 2 ^ k → nextPower n ≤ 2 ^ k
+power-least n k l =
     kept (λ (q : ℕ). ((j : ℕ) × (q ≡ 2 ^ j)) × (q ≤ 2 ^ k)) n ((0, refl), pow-pos k)
     (λ p q m. ((suc (q .0 .0), rw (q .0 .1, pow-succ' 2 (q .0 .0))), twice p (q .0 .0) (q .0 .1) (omega arith) (decLt (q .0 .0) k))) .1
   where

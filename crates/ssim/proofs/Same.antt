@@ -9,8 +9,8 @@ use borrow.Rule.Slice.PartMut.{putMid}
 use Rattle.number.proofs.Folds.{fold-more, fold-none, fold-ext}
 use Rattle.window.specs.Inner.Parts.{weightOf}
 use Rattle.window.specs.Inner.Columns.{columnsOf, Holds, Margins, momentsIn}
-use Rattle.window.proofs.Held.{moments-same}
-use Rattle.ssim.specs.Score.{stepOf, rowOf, noneYet, totalsOf}
+use Rattle.window.proofs.Sums.Held.{moments-same}
+use Rattle.ssim.specs.Score.{withCentre, rowOf, noTotals, totalsOf}
 
 module _ (max2 : Float) (ker : List ℕ) (width height : ℕ) (a b : ℕ → ℕ → ℕ) where
   -- one row more, from its columns put back between their margins
@@ -20,9 +20,9 @@ module _ (max2 : Float) (ker : List ℕ) (width height : ℕ) (a b : ℕ → ℕ
       ≡ totalsOf max2 ker width height a b (y + 1)
   unfolding totalsOf
   totals-more s cols k y held old room count same =
-      fold-ext _ _ _ width (λ t x l. ap (stepOf max2 t) (moments-same s cols k ker width height a b y held old room count same x))
-      ∙ sym (fold-more _ noneYet y)
+      fold-ext _ _ _ width (λ t x l. ap (withCentre max2 t) (moments-same s cols k ker width height a b y held old room count same x))
+      ∙ sym (fold-more _ noTotals y)
 
-  pub totals-none : totalsOf max2 ker width height a b 0 ≡ noneYet
+  pub totals-none : totalsOf max2 ker width height a b 0 ≡ noTotals
   unfolding totalsOf
   totals-none = fold-none _ _

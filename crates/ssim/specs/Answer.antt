@@ -5,6 +5,7 @@ use Prim.Native.Nat.{ℕ, _*_}
 use lib.Dec.{leb}
 use lib.Ieee.{Float}
 use lib.Ieee.Scale as Scale
+use lib.IntN.{ℤ, pos}
 use lib.ListN.{length}
 use Rattle.refusal.specs.Numbers.{kernelNo, scratchNo, notFiniteNo}
 use Rattle.refusal.specs.First.{firstBroken, byRefusal}
@@ -13,7 +14,7 @@ use Rattle.plane.specs.Plane.{Planes, maxOf}
 use Rattle.plane.specs.Tests.{pairTests}
 use Rattle.window.specs.Kernel.{lawful, lentTotal}
 use Rattle.ssim.specs.Score.{totalsIn}
-use Rattle.ssim.specs.Scratch.{placesOf}
+use Rattle.ssim.specs.Scratch.{scratchPlaces, cleared}
 use Rattle.ssim.specs.declared.Ssim.{Ssim}
 use Rattle.ssim.specs.declared.Ssim.the-variants.{Pair, Refused}
 use Rattle.ssim.specs.declared.Totals.{Totals}
@@ -22,11 +23,11 @@ use Rattle.ssim.specs.declared.Totals.{Totals}
 
 -- 7 and 8, after those of the planes
 unfoldable pub lentTests : ℕ → List ℕ → ℕ → List (ℕ × Bool)
-lentTests width ker places = (kernelNo, lawful lentTotal ker) ∷ (scratchNo, leb (placesOf width (length ker)) places) ∷ []
+lentTests width ker lent = (kernelNo, lawful lentTotal ker) ∷ (scratchNo, leb (scratchPlaces width (length ker)) lent) ∷ []
 
 -- 1 2 4 5 6 7 8 in ascending order: the planes, the kernel, and how many places of scratch are lent
 abbrev pub ssimRefusal : Planes → List ℕ → ℕ → ℕ
-ssimRefusal p ker places = firstBroken (pairTests p 0 ++ lentTests (p .size .width) ker places)
+ssimRefusal p ker lent = firstBroken (pairTests p 0 ++ lentTests (p .size .width) ker lent)
 
 -- ---- the answer
 
@@ -43,9 +44,14 @@ pairOf t =
     pairOr9 (Scale.finite ssim && Scale.finite cs) ssim cs
 
 -- the score of two planes that no test refuses
-abbrev pub scoreOf : Planes → List ℕ → Ssim
-scoreOf p ker = let max = maxOf (p .size .depth) in pairOf (totalsIn (double (max * max)) ker p (p .size .height))
+abbrev pub ssimScore : Planes → List ℕ → Ssim
+ssimScore p ker = let max = maxOf (p .size .depth) in pairOf (totalsIn (double (max * max)) ker p (p .size .height))
 
 -- the refusal, where there is one; else the score
-abbrev pub ssimOf : Planes → List ℕ → ℕ → Ssim
-ssimOf p ker places = let n = ssimRefusal p ker places in byRefusal n (scoreOf p ker) (Refused n)
+abbrev pub ssimOf : Planes → List ℕ → List ℤ → Ssim
+ssimOf p ker scratch = let n = ssimRefusal p ker (length scratch) in byRefusal n (ssimScore p ker) (Refused n)
+
+-- what then stands in the scratch: refused, what stood there; else, and at 9, the needed part is zero
+abbrev pub scratchAfter : Planes → List ℕ → List ℤ → List ℤ
+scratchAfter p ker scratch =
+    byRefusal (ssimRefusal p ker (length scratch)) (cleared (pos 0) (scratchPlaces (p .size .width) (length ker)) scratch) scratch

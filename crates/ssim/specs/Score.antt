@@ -3,15 +3,12 @@
 use mathlib.Core.List.{List}
 use Prim.Native.Nat.{ℕ}
 use lib.Ieee.{Float, binary64, ofBits}
+use Rattle.number.specs.Literals.{zeroD, twoD}
 use Rattle.number.specs.Steps.{_⊕_, _⊖_, _⊗_, _⊘_, double, foldTo}
 use Rattle.plane.specs.Plane.{Planes, sampleAt}
 use Rattle.window.specs.Moments.{momentsAt}
 use Rattle.window.specs.declared.Moments.{Moments}
 use Rattle.ssim.specs.declared.Totals.{Totals}
-
--- 2.0
-abbrev pub two : Float
-two = ofBits binary64 0x4000000000000000
 
 -- SSIM_K1 = 0.01 * 0.01, SSIM_K2 = 0.03 * 0.03
 abbrev pub k1 : Float
@@ -43,15 +40,15 @@ module _ (max2 : Float) (moments : Moments) where
   -- cs_tmp
   abbrev pub csOf : Float
   csOf =
-      wOf ⊗ (c2Of ⊕ two ⊗ (double (moments .xy) ⊗ wOf ⊖ mxyOf))
+      wOf ⊗ (c2Of ⊕ twoD ⊗ (double (moments .xy) ⊗ wOf ⊖ mxyOf))
       ⊘ (double (moments .x2) ⊗ wOf ⊖ mx2Of ⊕ double (moments .y2) ⊗ wOf ⊖ my2Of ⊕ c2Of)
 
 -- one centre more: cs += .., ssim += .., ssimw += ..
-unfoldable pub stepOf : Float → Totals → Moments → Totals
-stepOf max2 t m =
+unfoldable pub withCentre : Float → Totals → Moments → Totals
+withCentre max2 t m =
     record {
       cs = t .cs ⊕ csOf max2 m;
-      ssim = t .ssim ⊕ csOf max2 m ⊗ (two ⊗ mxyOf max2 m ⊕ c1Of max2 m) ⊘ (mx2Of max2 m ⊕ my2Of max2 m ⊕ c1Of max2 m);
+      ssim = t .ssim ⊕ csOf max2 m ⊗ (twoD ⊗ mxyOf max2 m ⊕ c1Of max2 m) ⊘ (mx2Of max2 m ⊕ my2Of max2 m ⊕ c1Of max2 m);
       ssimw = t .ssimw ⊕ wOf max2 m;
     }
 
@@ -59,17 +56,17 @@ stepOf max2 t m =
 
 -- n centres of a row, whose moments are g 0, g 1, ..
 abbrev pub rowOf : Float → (ℕ → Moments) → Totals → ℕ → Totals
-rowOf max2 g t n = foldTo (λ (s : Totals) (x : ℕ). stepOf max2 s (g x)) t n
+rowOf max2 g t n = foldTo (λ (s : Totals) (x : ℕ). withCentre max2 s (g x)) t n
 
--- 0.0 each
-abbrev pub noneYet : Totals
-noneYet = record { ssim = ofBits binary64 0; cs = ofBits binary64 0; ssimw = ofBits binary64 0 }
+-- before the first
+abbrev pub noTotals : Totals
+noTotals = record { ssim = zeroD; cs = zeroD; ssimw = zeroD }
 
--- the first n rows of centres of two views
+-- the first n rows of centres of twoD views
 unfoldable pub totalsOf : Float → List ℕ → ℕ → ℕ → (ℕ → ℕ → ℕ) → (ℕ → ℕ → ℕ) → ℕ → Totals
 totalsOf max2 ker width height a b n =
-    foldTo (λ (s : Totals) (y : ℕ). rowOf max2 (λ (x : ℕ). momentsAt ker width height a b x y) s width) noneYet n
+    foldTo (λ (s : Totals) (y : ℕ). rowOf max2 (λ (x : ℕ). momentsAt ker width height a b x y) s width) noTotals n
 
--- of two planes
+-- of twoD planes
 abbrev pub totalsIn : Float → List ℕ → Planes → ℕ → Totals
 totalsIn max2 ker p n = totalsOf max2 ker (p .size .width) (p .size .height) (sampleAt (p .a)) (sampleAt (p .b)) n

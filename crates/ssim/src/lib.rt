@@ -8,13 +8,13 @@ ghost use lib.ListN.{length};
 ghost use Rattle.plane.specs.Limits.{sideLimit};
 ghost use Rattle.plane.specs.Plane.{planes, called};
 ghost use Rattle.window.specs.Kernel.{mostTaps};
-ghost use Rattle.ssim.specs.Scratch.{grownOf, linesOf, placesOf, cleared, scratchAfter};
-ghost use Rattle.ssim.specs.Answer.{ssimRefusal, scoreOf, ssimOf};
+ghost use Rattle.ssim.specs.Scratch.{doubledBelow, nextPower, scratchPlaces, cleared};
+ghost use Rattle.ssim.specs.Answer.{ssimRefusal, ssimScore, ssimOf, scratchAfter};
 ghost use Rattle.ssim.specs.Inner.Sound.{Sound};
 use plane::Layout;
 use plane::Size;
 
-pub mod score;
+pub mod centre;
 pub mod walk;
 
 // What SSIM answers.
@@ -31,32 +31,32 @@ pub struct Totals {
 }
 
 // p, or twice p where p is below n.
-fn grown(n: usize, p: usize) -> usize
+fn doubled(n: usize, p: usize) -> usize
     requires { ⌜ p ≤ 2 * n ⌝ }
     requires { ⌜ n ≤ mostTaps ⌝ }
-    ensures { λ r. ⌜ r ≡ grownOf n p ⌝ }
+    ensures { λ r. ⌜ r ≡ doubledBelow n p ⌝ }
 {
     if p < n { 2 * p } else { p }
 }
 
 // The least power of two not below the count of taps.
-pub fn lines(taps: usize) -> usize
+pub fn next_power(taps: usize) -> usize
     requires { ⌜ (1 ≤ taps) × (taps ≤ mostTaps) ⌝ }
-    ensures { λ r. ⌜ r ≡ linesOf taps ⌝ }
+    ensures { λ r. ⌜ r ≡ nextPower taps ⌝ }
 {
     let mut p = 1;
     for i in 0..taps {
-        p = grown(taps, p);
+        p = doubled(taps, p);
     }
     p
 }
 
-// The places of scratch that are needed.
-pub fn places(width: usize, taps: usize) -> usize
+// The places of scratch that a kernel of so many taps needs.
+pub fn scratch_places(width: usize, taps: usize) -> usize
     requires { ⌜ (1 ≤ taps) × (taps ≤ mostTaps) × (width ≤ sideLimit) ⌝ }
-    ensures { λ r. ⌜ r ≡ placesOf width taps ⌝ }
+    ensures { λ r. ⌜ r ≡ scratchPlaces width taps ⌝ }
 {
-    6 * width * lines(taps)
+    6 * width * next_power(taps)
 }
 
 // The lowest of 1 2 4 5 6 7 8 that applies, and 0 where none does. `lent` is how many places of scratch there are.
@@ -78,14 +78,14 @@ fn refusal(
     if !window::kernel_lawful(kernel) {
         return refusal::KERNEL;
     }
-    if lent < places(layout.size.width, kernel.len()) {
+    if lent < scratch_places(layout.size.width, kernel.len()) {
         return refusal::SCRATCH;
     }
     0
 }
 
 // The score of two planes of either width that no test refuses. The needed part of the scratch is all zero afterwards.
-fn scored(
+fn score(
     a8: &[u8],
     a16: &[u16],
     b8: &[u8],
@@ -95,12 +95,12 @@ fn scored(
     scratch: &mut [i64],
 ) -> Ssim
     requires { ⌜ Sound (planes layout a8 a16 b8 b16) (now kernel) (length (now scratch)) ⌝ }
-    ensures { λ r. ⌜ r ≡ scoreOf (planes layout (a8 .entry) (a16 .entry) (b8 .entry) (b16 .entry)) (now (kernel .entry)) ⌝ }
-    ensures { λ _. ⌜ now (scratch .exit) ≡ cleared (pos 0) (placesOf (layout .size .width) (length (now (kernel .entry))))
+    ensures { λ r. ⌜ r ≡ ssimScore (planes layout (a8 .entry) (a16 .entry) (b8 .entry) (b16 .entry)) (now (kernel .entry)) ⌝ }
+    ensures { λ _. ⌜ now (scratch .exit) ≡ cleared (pos 0) (scratchPlaces (layout .size .width) (length (now (kernel .entry))))
         (now (scratch .entry)) ⌝ }
 {
-    let need = places(layout.size.width, kernel.len());
-    let max2 = score::squared(plane::sample_max(layout.size.depth));
+    let need = scratch_places(layout.size.width, kernel.len());
+    let max2 = centre::squared(plane::sample_max(layout.size.depth));
     let grid = window::columns::grid_of(layout);
     let t = walk::totals(
         a8,
@@ -115,11 +115,11 @@ fn scored(
         max2,
         &mut scratch[..need],
     );
-    score::pair(t)
+    centre::pair(t)
 }
 
 // SSIM of two planes of either width.
-fn of_either(
+fn answer(
     a8: &[u8],
     a16: &[u16],
     b8: &[u8],
@@ -129,16 +129,15 @@ fn of_either(
     scratch: &mut [i64],
 ) -> Ssim
     ensures { λ r. ⌜ r ≡ ssimOf (planes layout (a8 .entry) (a16 .entry) (b8 .entry) (b16 .entry))
-        (now (kernel .entry)) (length (now (scratch .entry))) ⌝ }
-    ensures { λ _. ⌜ now (scratch .exit) ≡ scratchAfter (ssimRefusal (planes layout (a8 .entry) (a16 .entry) (b8 .entry) (b16 .entry))
-        (now (kernel .entry)) (length (now (scratch .entry)))) (placesOf (layout .size .width) (length (now (kernel .entry))))
-        (now (scratch .entry)) ⌝ }
+        (now (kernel .entry)) (now (scratch .entry)) ⌝ }
+    ensures { λ _. ⌜ now (scratch .exit) ≡ scratchAfter (planes layout (a8 .entry) (a16 .entry) (b8 .entry) (b16 .entry))
+        (now (kernel .entry)) (now (scratch .entry)) ⌝ }
 {
     let no = refusal(a8, a16, b8, b16, layout, kernel, scratch.len());
     if no != 0 {
         return Ssim::Refused(no);
     }
-    scored(a8, a16, b8, b16, layout, kernel, scratch)
+    score(a8, a16, b8, b16, layout, kernel, scratch)
 }
 
 // SSIM of two planes of bytes. Refused, scratch is as it was; else, and at 9, its needed part is all zero and the rest as it was.
@@ -153,10 +152,8 @@ pub fn ssim8(
     kernel: &[u16],
     scratch: &mut [i64],
 ) -> Ssim
-    ensures { λ r. ⌜ r ≡ ssimOf (called false (a .entry) (b .entry) width height «stride_a» «stride_b» depth)
-        (now (kernel .entry)) (length (now (scratch .entry))) ⌝ }
-    ensures { λ _. ⌜ now (scratch .exit) ≡ scratchAfter (ssimRefusal (called false (a .entry) (b .entry) width height «stride_a» «stride_b» depth)
-        (now (kernel .entry)) (length (now (scratch .entry)))) (placesOf width (length (now (kernel .entry)))) (now (scratch .entry)) ⌝ }
+    ensures { λ r. ⌜ r ≡ ssimOf (called false (a .entry) (b .entry) width height «stride_a» «stride_b» depth) (now (kernel .entry)) (now (scratch .entry)) ⌝ }
+    ensures { λ _. ⌜ now (scratch .exit) ≡ scratchAfter (called false (a .entry) (b .entry) width height «stride_a» «stride_b» depth) (now (kernel .entry)) (now (scratch .entry)) ⌝ }
 {
     let size = Size {
         wide: false,
@@ -169,7 +166,7 @@ pub fn ssim8(
         stride_a,
         stride_b,
     };
-    of_either(a, &[0u16; 0], b, &[0u16; 0], layout, kernel, scratch)
+    answer(a, &[0u16; 0], b, &[0u16; 0], layout, kernel, scratch)
 }
 
 // The same of words.
@@ -184,10 +181,8 @@ pub fn ssim16(
     kernel: &[u16],
     scratch: &mut [i64],
 ) -> Ssim
-    ensures { λ r. ⌜ r ≡ ssimOf (called true (a .entry) (b .entry) width height «stride_a» «stride_b» depth)
-        (now (kernel .entry)) (length (now (scratch .entry))) ⌝ }
-    ensures { λ _. ⌜ now (scratch .exit) ≡ scratchAfter (ssimRefusal (called true (a .entry) (b .entry) width height «stride_a» «stride_b» depth)
-        (now (kernel .entry)) (length (now (scratch .entry)))) (placesOf width (length (now (kernel .entry)))) (now (scratch .entry)) ⌝ }
+    ensures { λ r. ⌜ r ≡ ssimOf (called true (a .entry) (b .entry) width height «stride_a» «stride_b» depth) (now (kernel .entry)) (now (scratch .entry)) ⌝ }
+    ensures { λ _. ⌜ now (scratch .exit) ≡ scratchAfter (called true (a .entry) (b .entry) width height «stride_a» «stride_b» depth) (now (kernel .entry)) (now (scratch .entry)) ⌝ }
 {
     let size = Size {
         wide: true,
@@ -200,5 +195,5 @@ pub fn ssim16(
         stride_a,
         stride_b,
     };
-    of_either(&[0u8; 0], a, &[0u8; 0], b, layout, kernel, scratch)
+    answer(&[0u8; 0], a, &[0u8; 0], b, layout, kernel, scratch)
 }

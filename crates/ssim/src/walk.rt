@@ -7,11 +7,11 @@ ghost use Rattle.plane.specs.Limits.{sideLimit};
 ghost use Rattle.plane.specs.Sums.{sumTo};
 ghost use Rattle.window.specs.Kernel.{tap, fixedTotal};
 ghost use Rattle.window.specs.Inner.Parts.{Kernel};
-ghost use Rattle.window.specs.Inner.Columns.{onGrid, Summable, columnsOf, Margins, AllSmall, momentsIn};
+ghost use Rattle.window.specs.Inner.Columns.{onGrid, Summable, columnsOf, Margins, ColumnSums, momentsIn};
 ghost use Rattle.ssim.specs.Score.{rowOf};
 ghost use Rattle.ssim.specs.Inner.Walk.{totalsOn};
 use crate::Totals;
-use crate::score;
+use crate::centre;
 use window::Grid;
 
 // The centres of one row, whose column sums stand in `cols`. `down` is the weight of the rows, `total` what all taps sum to.
@@ -27,12 +27,12 @@ pub fn centres(
     requires { ⌜ (width ≤ sideLimit) × (5 * columnsOf (now kernel) width ≤ length (now cols)) × (down ≤ fixedTotal) ⌝ }
     requires { ⌜ Kernel (now kernel) ⌝ }
     requires { ⌜ total ≡ sumTo (tap (now kernel)) (length (now kernel)) ⌝ }
-    requires { ⌜ AllSmall (now cols) (5 * columnsOf (now kernel) width) ⌝ }
+    requires { ⌜ ColumnSums (now cols) (5 * columnsOf (now kernel) width) ⌝ }
     ensures { λ r. ⌜ r ≡ rowOf max2 (momentsIn (now (kernel .entry)) (now (cols .entry)) width down) t width ⌝ }
 {
     let mut t = t;
     for x in 0..width {
-        t = score::step(
+        t = centre::step(
             max2,
             t,
             window::row::moments_at(cols, width, kernel, total, down, x),

@@ -17,9 +17,9 @@ use Rattle.plane.proofs.Depth.{max-grows}
 use Rattle.window.specs.Kernel.{lentTotal, fixedKernel, fixedTotal, lawful}
 use Rattle.window.specs.Moments.{momentAt, muxAt, muyAt, x2At, xyAt, y2At, wAt, mostSample}
 use Rattle.window.proofs.KernelSays.{kernel-says, lent-total, fixed-lawful}
-use Rattle.window.proofs.Separable.{weights}
-use Rattle.window.proofs.Cauchy.{first-le, second-le, signed-le}
-use Rattle.window.proofs.DemandMoments.{moment-le, weight-some, moment-gram}
+use Rattle.window.proofs.Centre.Separable.{weights}
+use Rattle.window.proofs.Centre.Cauchy.{first-le, second-le, signed-le}
+use Rattle.window.proofs.Centre.Places.{moment-le, weight-some, moment-gram}
 
 -- ---- the laws
 
@@ -52,7 +52,7 @@ module _ (ker : List ℕ) (width height : ℕ) (a b : ℕ → ℕ → ℕ) (x y 
       let says = kernel-says total ker ok in
       let half : length ker / 2 < length ker = omega (arith, says .odd) in
       rw (← weights ker width height a b x y)
-      (one-le-mul (weight-some ker half (says .middle) height y m) (weight-some ker half (says .middle) width x l))
+      (one-le-mul (le-trans (says .middle) (weight-some ker half height y m)) (le-trans (says .middle) (weight-some ker half width x l)))
 
   -- with no sample above B, no sum is above the square of the kernel's total times what is summed
   pub record Most (total B : ℕ) : Type 0 where

@@ -1,12 +1,6 @@
 pub mod KernelSays
-pub mod Windows
-pub mod Separable
-pub mod Five
-pub mod Column
 pub mod Grids
-pub mod Folded
-pub mod Held
-pub mod Cauchy
-pub mod DemandMoments
+pub mod Sums
+pub mod Centre
 pub mod Demand
 pub mod Visible

@@ -26,23 +26,23 @@ fixedKernel = 8 ∷ 37 ∷ 112 ∷ 218 ∷ 274 ∷ 218 ∷ 112 ∷ 37 ∷ 8 ∷ 
 unfoldable pub fixedTotal : ℕ
 fixedTotal = 1024
 
--- "an odd count of taps, 1 to 255"
+-- an odd count of taps, and not too many
 unfoldable pub oddCount : List ℕ → Bool
 oddCount ker = eqb (length ker % 2) 1 && leb (length ker) mostTaps
 
--- "each 0 to 256"
+-- no tap above the total
 unfoldable pub tapsSuit : ℕ → List ℕ → Bool
 tapsSuit total ker = allTo (λ (k : ℕ). leb (tap ker k) total) (length ker)
 
--- "summing to 256"
+-- the taps sum to the total
 unfoldable pub sumsTo : ℕ → List ℕ → Bool
 sumsTo total ker = eqb (sumTo (tap ker) (length ker)) total
 
--- "the same from both ends"
+-- the same from both ends
 unfoldable pub mirrored : List ℕ → Bool
 mirrored ker = allTo (λ (k : ℕ). eqb (tap ker k) (tap ker (length ker - 1 - k))) (length ker)
 
--- "middle tap at least 1"
+-- the middle tap is at least 1
 unfoldable pub middled : List ℕ → Bool
 middled ker = leb 1 (tap ker (length ker / 2))
 

@@ -15,12 +15,12 @@ mostSample = 2 ^ 20
 
 -- Along one side: place k of a kernel whose middle stands at x lies at x + k - off, off being half the count of taps. f there, where
 -- that is inside, and 0 outside; j is x + k.
-unfoldable pub inside : ℕ → ℕ → (ℕ → ℕ) → ℕ → ℕ
-inside off side f j = cond (ltb j off) 0 (cond (ltb j (off + side)) (f (j - off)) 0)
+unfoldable pub clipped : ℕ → ℕ → (ℕ → ℕ) → ℕ → ℕ
+clipped off side f j = cond (ltb j off) 0 (cond (ltb j (off + side)) (f (j - off)) 0)
 
 -- what a plane of these sides shows at the kernel place (x + j, y + i): v there, and 0 outside
 abbrev pub seenAt : List ℕ → ℕ → ℕ → (ℕ → ℕ → ℕ) → ℕ → ℕ → ℕ
-seenAt ker width height v x y = inside (length ker / 2) height (λ (r : ℕ). inside (length ker / 2) width (v r) x) y
+seenAt ker width height v x y = clipped (length ker / 2) height (λ (r : ℕ). clipped (length ker / 2) width (v r) x) y
 
 -- the sum over all kernel places about the centre (x, y), each weighed by its tap down and its tap across
 unfoldable pub momentAt : List ℕ → ℕ → ℕ → (ℕ → ℕ → ℕ) → ℕ → ℕ → ℕ

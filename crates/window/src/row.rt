@@ -10,13 +10,13 @@ ghost use Rattle.plane.specs.Limits.{sideLimit};
 ghost use Rattle.plane.specs.Sums.{sumTo};
 ghost use Rattle.window.specs.Kernel.{tap, fixedTotal};
 ghost use Rattle.window.specs.Inner.Parts.{Kernel, tappedOf, Room, nth, fiveOf, acrossOf, weightOf};
-ghost use Rattle.window.specs.Inner.Columns.{atZ, cellOf, columnsOf, Small, AllSmall, momentsIn};
+ghost use Rattle.window.specs.Inner.Columns.{atZ, cellOf, columnsOf, ColumnSum, ColumnSums, momentsIn};
 use crate::FiveSums;
 use crate::Moments;
 use crate::columns;
 
 // A place of the scratch as a number.
-fn up(z: i64) -> u64
+fn unsigned(z: i64) -> u64
     requires { ⌜ T (nonNeg z) ⌝ }
     ensures { λ r. ⌜ pos r ≡ z ⌝ }
 {
@@ -26,16 +26,16 @@ fn up(z: i64) -> u64
 // What stands at place i.
 fn get(cols: &[i64], i: usize) -> u64
     requires { ⌜ i < length (now cols) ⌝ }
-    requires { ⌜ Small (atZ (now cols) i) ⌝ }
+    requires { ⌜ ColumnSum (atZ (now cols) i) ⌝ }
     ensures { λ r. ⌜ r ≡ natAbs (atZ (now (cols .entry)) i) ⌝ }
 {
-    up(cols[i])
+    unsigned(cols[i])
 }
 
 // The five sums of column c, of n that stand there.
 fn cells(cols: &[i64], n: usize, c: usize) -> FiveSums
     requires { ⌜ (c < n) × (5 * n ≤ length (now cols)) ⌝ }
-    requires { ⌜ AllSmall (now cols) (5 * n) ⌝ }
+    requires { ⌜ ColumnSums (now cols) (5 * n) ⌝ }
     ensures { λ r. ⌜ r ≡ fiveOf (λ (m : ℕ). cellOf (now (cols .entry)) m c) ⌝ }
 {
     let at = 5 * c;
@@ -51,7 +51,7 @@ fn cells(cols: &[i64], n: usize, c: usize) -> FiveSums
 // The five sums of columns i and j together.
 fn pair(cols: &[i64], n: usize, i: usize, j: usize) -> FiveSums
     requires { ⌜ (i < n) × (j < n) × (5 * n ≤ length (now cols)) ⌝ }
-    requires { ⌜ AllSmall (now cols) (5 * n) ⌝ }
+    requires { ⌜ ColumnSums (now cols) (5 * n) ⌝ }
     ensures { λ r. ⌜ r ≡ fiveOf (λ (m : ℕ). cellOf (now (cols .entry)) m i + cellOf (now (cols .entry)) m j) ⌝ }
 {
     let s = cells(cols, n, i);
@@ -108,7 +108,7 @@ fn none() -> FiveSums
 fn along(cols: &[i64], n: usize, kernel: &[u16], x: usize) -> FiveSums
     requires { ⌜ (x + 2 * (length (now kernel) / 2) < n) × (5 * n ≤ length (now cols)) ⌝ }
     requires { ⌜ Kernel (now kernel) ⌝ }
-    requires { ⌜ AllSmall (now cols) (5 * n) ⌝ }
+    requires { ⌜ ColumnSums (now cols) (5 * n) ⌝ }
     ensures { λ r. ⌜ r ≡ fiveOf (λ (m : ℕ). acrossOf (now (kernel .entry)) (cellOf (now (cols .entry)) m) x) ⌝ }
 {
     let off = kernel.len() / 2;
@@ -159,7 +159,7 @@ pub fn moments_at(
     requires { ⌜ (x < width) × (width ≤ sideLimit) × (5 * columnsOf (now kernel) width ≤ length (now cols)) × (down ≤ fixedTotal) ⌝ }
     requires { ⌜ Kernel (now kernel) ⌝ }
     requires { ⌜ total ≡ sumTo (tap (now kernel)) (length (now kernel)) ⌝ }
-    requires { ⌜ AllSmall (now cols) (5 * columnsOf (now kernel) width) ⌝ }
+    requires { ⌜ ColumnSums (now cols) (5 * columnsOf (now kernel) width) ⌝ }
     ensures { λ r. ⌜ r ≡ momentsIn (now (kernel .entry)) (now (cols .entry)) width down x ⌝ }
 {
     let t = along(cols, width + 2 * (kernel.len() / 2), kernel, x);

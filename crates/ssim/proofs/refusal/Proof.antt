@@ -21,8 +21,8 @@ returns-2 c =
     kernel-refuses _ _ _ (c .before .before .before .check .ensures) (c .before .before .if1 .left)
     (fails (c .before .kernel-lawful .ensures) (c .if2 .taken))
 
-places-requires : tie.Need-places-requires
-places-requires c κs =
+scratch-places-requires : tie.Need-scratch-places-requires
+scratch-places-requires c κs =
     let count = taps-count _ (holds (c .before .kernel-lawful .ensures) (c .if2 .left)) in
     let planes = accepted _ _ _ (sym (c .before .before .before .check .ensures) ∙ c .before .before .if1 .left) in
     (count .0, count .1, planes .sized .width-most)
@@ -31,13 +31,13 @@ returns-3 : tie.Need-returns-3
 returns-3 c =
     scratch-refuses _ _ _ (c .before .before .before .before .before .check .ensures) (c .before .before .before .before .if1 .left)
     (holds (c .before .before .before .kernel-lawful .ensures) (c .before .before .if2 .left))
-    (rw (c .before .places .ensures) at (c .if3 .taken))
+    (rw (c .before .scratch-places .ensures) at (c .if3 .taken))
 
 returns-4 : tie.Need-returns-4
 returns-4 c =
     none-refuses _ _ _ (c .before .before .before .before .before .check .ensures) (c .before .before .before .before .if1 .left)
     (holds (c .before .before .before .kernel-lawful .ensures) (c .before .before .if2 .left))
-    (rw (c .before .places .ensures) at (c .if3 .left))
+    (rw (c .before .scratch-places .ensures) at (c .if3 .left))
 
 pub refusal-spec : {M : Type 1} → statement M
 refusal-spec =
@@ -47,6 +47,6 @@ refusal-spec =
     returns
     kernel-lawful-requires
     returns-2
-    places-requires
+    scratch-places-requires
     returns-3
     returns-4)

@@ -10,7 +10,7 @@ use Rattle.plane.specs.Sums.{sumTo}
 use Rattle.window.specs.Kernel.{tap, mostTaps, lentTotal}
 use Rattle.window.specs.Inner.Parts.{Kernel}
 use Rattle.window.specs.Inner.Columns.{gridded, Summable, columnsOf}
-use Rattle.ssim.specs.Scratch.{placesOf}
+use Rattle.ssim.specs.Scratch.{scratchPlaces}
 
 pub record Sound (p : Planes) (ker : List ℕ) (lent : ℕ) : Type 0 where
   pub taps-least : 1 ≤ length ker
@@ -21,5 +21,5 @@ pub record Sound (p : Planes) (ker : List ℕ) (lent : ℕ) : Type 0 where
   pub kernel : Kernel ker
   pub total : lentTotal ≡ sumTo (tap ker) (length ker)
   pub summable : Summable (gridded p)
-  pub lent-enough : placesOf (p .size .width) (length ker) ≤ lent
-  pub columns-fit : 5 * columnsOf ker (p .size .width) ≤ placesOf (p .size .width) (length ker)
+  pub lent-enough : scratchPlaces (p .size .width) (length ker) ≤ lent
+  pub columns-fit : 5 * columnsOf ker (p .size .width) ≤ scratchPlaces (p .size .width) (length ker)

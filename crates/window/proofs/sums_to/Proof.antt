@@ -7,7 +7,7 @@ use denote.Ref.{now}
 use lib.ListN.{length}
 use Rattle.plane.specs.Sums.{sumTo}
 use Rattle.plane.proofs.Sums.{sum-none, sum-more, sum-bound}
-use Rattle.window.proofs.Windows.{taps-room}
+use Rattle.window.proofs.Sums.Windows.{taps-room}
 use Rattle.window.specs.Kernel.{tap, sumsTo}
 use Rattle.window.proofs.sums_to.Statement.{statement}
 use Rattle.window.proofs.sums_to.Tie as tie

@@ -115,13 +115,13 @@ pub record Margins (s : List ℤ) (ker : List ℕ) (width : ℕ) : Type 0 where
 abbrev pub Fits : FiveSums → Type 0
 Fits t = (m : ℕ) → nth t m < 2 ^ 63
 
--- a place that can be read as a number of at most 2 ^ 50: what column sums never exceed
-pub record Small (z : ℤ) : Type 0 where
+-- a place that holds a column sum: a number, of at most 2 ^ 50
+pub record ColumnSum (z : ℤ) : Type 0 where
   pub sign : T (nonNeg z)
   pub low : natAbs z ≤ 2 ^ 50
 
-abbrev pub AllSmall : List ℤ → ℕ → Type 0
-AllSmall s n = (j : ℕ) → j < n → Small (atZ s j)
+abbrev pub ColumnSums : List ℤ → ℕ → Type 0
+ColumnSums s n = (j : ℕ) → j < n → ColumnSum (atZ s j)
 
 -- the six moments at x, as the column sums give them; down is the weight of the rows
 unfoldable pub momentsIn : List ℕ → List ℤ → ℕ → ℕ → ℕ → Moments

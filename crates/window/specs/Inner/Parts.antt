@@ -6,14 +6,14 @@ use Prim.Native.Nat.{ℕ, zero, suc, _+_, _-_, _*_, _/_, _≤_, _<_, _^_}
 use lib.ListN.{length}
 use Rattle.plane.specs.Sums.{sumTo}
 use Rattle.window.specs.Kernel.{tap, mostTaps, fixedTotal}
-use Rattle.window.specs.Moments.{inside}
+use Rattle.window.specs.Moments.{clipped}
 use Rattle.window.specs.declared.FiveSums.{FiveSums}
 
 -- ---- one window
 
 -- the first n taps over f along a side, the middle at x
 unfoldable pub partOf : List ℕ → ℕ → (ℕ → ℕ) → ℕ → ℕ → ℕ
-partOf ker side f x n = sumTo (λ (k : ℕ). tap ker k * inside (length ker / 2) side f (x + k)) n
+partOf ker side f x n = sumTo (λ (k : ℕ). tap ker k * clipped (length ker / 2) side f (x + k)) n
 
 -- all of them
 abbrev pub windowOf : List ℕ → ℕ → (ℕ → ℕ) → ℕ → ℕ

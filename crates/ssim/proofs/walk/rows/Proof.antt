@@ -9,8 +9,8 @@ use lib.ListN.{length}
 use Rattle.plane.specs.Plane.{sampleAt}
 use Rattle.plane.proofs.Limits.{side-small}
 use Rattle.window.specs.Inner.Columns.{OnGrid, onGrid, onGridIn, Margins}
-use Rattle.window.proofs.Windows.{weight-le, taps-room}
-use Rattle.window.proofs.Held.{part-length, all-small, margins-kept}
+use Rattle.window.proofs.Sums.Windows.{weight-le, taps-room}
+use Rattle.window.proofs.Sums.Held.{part-length, all-sums, margins-kept}
 use Rattle.ssim.specs.Inner.Walk.{totalsOn}
 use Rattle.ssim.proofs.Same.{totals-none, totals-more}
 use Rattle.ssim.proofs.walk.rows.Statement.{statement}
@@ -83,7 +83,7 @@ centres-requires c κs =
         s .pre .1 .1 .0,
         (
           s .pre .1 .1 .1 .0,
-          all-small (l .cols) after k (now (s .args .kernel)) (s .args .grid .width) (s .args .grid .height)
+          all-sums (l .cols) after k (now (s .args .kernel)) (s .args .grid .width) (s .args .grid .height)
               (sampleAt (both s .a))
               (sampleAt (both s .b)) (l .y) (f .ensures) (l .inv .2) (omega arith) (omega arith) same
               (s .pre .1 .1 .0) (small .first .small) (small .second .small),

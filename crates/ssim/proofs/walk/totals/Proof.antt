@@ -6,7 +6,7 @@ use borrow.Author.Needs.{needs}
 use lib.IntN.{pos}
 use denote.Ref.{now}
 use lib.ListN.{length, replicate}
-use Rattle.window.proofs.Held.{margins-zero}
+use Rattle.window.proofs.Sums.Held.{margins-zero}
 use Rattle.ssim.proofs.walk.totals.Statement.{statement}
 use Rattle.ssim.proofs.walk.totals.Tie as tie
 

@@ -8,8 +8,8 @@ use lib.ListN.{length}
 use Rattle.plane.specs.Plane.{sampleAt}
 use Rattle.plane.proofs.Limits.{side-small}
 use Rattle.window.specs.Inner.Columns.{OnGrid, onGrid, onGridIn, HoldsRow}
-use Rattle.window.proofs.Column.{column-fits}
-use Rattle.window.proofs.Held.{holds-none, holds-more}
+use Rattle.window.proofs.Sums.Column.{column-fits}
+use Rattle.window.proofs.Sums.Held.{holds-none, holds-more}
 use Rattle.window.proofs.columns.fill.Statement.{statement}
 use Rattle.window.proofs.columns.fill.Tie as tie
 

@@ -7,8 +7,8 @@ use denote.Ref.{now}
 use lib.ListN.{length}
 use Rattle.window.specs.Inner.Parts.{foldsOf}
 use Rattle.window.specs.Inner.Columns.{cellOf}
-use Rattle.window.proofs.Five.{nth-five}
-use Rattle.window.proofs.Folded.{folds-none, folds-more, folds-all, middle-room, folds-room}
+use Rattle.window.proofs.Sums.Five.{nth-five}
+use Rattle.window.proofs.Sums.Folded.{folds-none, folds-more, folds-all, middle-room, folds-room}
 use Rattle.window.proofs.row.along.Statement.{statement}
 use Rattle.window.proofs.row.along.Tie as tie
 

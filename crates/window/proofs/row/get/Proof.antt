@@ -9,19 +9,19 @@ use Rattle.window.specs.Inner.Columns.{atZ}
 use Rattle.window.proofs.row.get.Statement.{statement}
 use Rattle.window.proofs.row.get.Tie as tie
 
-mul-up : tie.Need-mul-up
-mul-up c = search needs
+mul-unsigned : tie.Need-mul-unsigned
+mul-unsigned c = search needs
 
-shared-slice-copy-out-up : tie.Need-shared-slice-copy-out-up
-shared-slice-copy-out-up c = search needs
+shared-slice-copy-out-unsigned : tie.Need-shared-slice-copy-out-unsigned
+shared-slice-copy-out-unsigned c = search needs
 
-up-requires : tie.Need-up-requires
-up-requires c κs = search needs
+unsigned-requires : tie.Need-unsigned-requires
+unsigned-requires c κs = search needs
 
 returns : tie.Need-returns
 returns c =
     let s = c .before .before in
-    ap natAbs (c .up .ensures ∙ toZ-ofZ w64 (atZ (now (s .args .cols)) (s .args .i)) (record { sfits = c .before .up-arg .given }))
+    ap natAbs (c .unsigned .ensures ∙ toZ-ofZ w64 (atZ (now (s .args .cols)) (s .args .i)) (record { sfits = c .before .unsigned-arg .given }))
 
 pub get-spec : {M : Type 1} → statement M
-get-spec = tie.close (tie.spec mul-up shared-slice-copy-out-up up-requires returns)
+get-spec = tie.close (tie.spec mul-unsigned shared-slice-copy-out-unsigned unsigned-requires returns)

@@ -3,7 +3,7 @@ use native.Mathlib.Omega.{arith}
 use borrow.Author.Needs.{needs}
 use denote.Ref.{now}
 use lib.Dec.{lit<}
-use Rattle.window.proofs.Five.{cells-low}
+use Rattle.window.proofs.Sums.Five.{cells-low}
 use Rattle.window.proofs.row.pair.Statement.{statement}
 use Rattle.window.proofs.row.pair.Tie as tie
 

@@ -5,7 +5,7 @@ use native.Mathlib.Omega.{arith}
 use borrow.Author.Needs.{needs}
 use native.Mathlib.Nat.{mul-one, le-refl}
 use Rattle.window.specs.Inner.Parts.{partOf}
-use Rattle.window.proofs.Windows.{part-more, part-first, part-last, part-room, total-room}
+use Rattle.window.proofs.Sums.Windows.{part-more, part-first, part-last, part-room, total-room}
 use Rattle.window.proofs.row.taps_inside.Statement.{statement}
 use Rattle.window.proofs.row.taps_inside.Tie as tie
 

@@ -1,4 +1,4 @@
--- `ssim::scored` meets its contract. Assumes nothing.
+-- `ssim::score` meets its contract. Assumes nothing.
 use mathlib.Core.Path.{sym, refl, ap, subst⁻¹}
 use Prim.Native.Nat.{_*_}
 use borrow.Author.Needs.{needs}
@@ -11,11 +11,11 @@ use Rattle.window.specs.Inner.Columns.{OnGrid, Summable}
 use Rattle.window.proofs.Grids.{grid-same}
 use Rattle.ssim.specs.Answer.{pairOf}
 use Rattle.ssim.specs.Inner.Walk.{totalsOn}
-use Rattle.ssim.proofs.scored.Statement.{statement}
-use Rattle.ssim.proofs.scored.Tie as tie
+use Rattle.ssim.proofs.score.Statement.{statement}
+use Rattle.ssim.proofs.score.Tie as tie
 
-places-requires : tie.Need-places-requires
-places-requires c κs = search needs
+scratch-places-requires : tie.Need-scratch-places-requires
+scratch-places-requires c κs = search needs
 
 sample-max-requires : tie.Need-sample-max-requires
 sample-max-requires c κs = search needs
@@ -38,14 +38,14 @@ slice-relend-prefix-totals c = search needs
 slice-aggregate-totals-3 : tie.Need-slice-aggregate-totals-3
 slice-aggregate-totals-3 c =
     let s = c .before .before .before .before .before .before .before .before .before .before .before .before in
-    let need = c .before .before .before .before .before .before .places in
+    let need = c .before .before .before .before .before .before .scratch-places in
     sym (length-take-le _ (now (s .args .scratch)) (rw (need .ensures) (s .pre .lent-enough)))
 
 totals-requires : tie.Need-totals-requires
 unfolding lentTotal
 totals-requires c κs =
     let s = c .before .before .before .before .before .before .before .before .before .before .before .before in
-    let need = c .before .before .before .before .before .before .places in
+    let need = c .before .before .before .before .before .before .scratch-places in
     let long = length-take-le (need .result) (now (s .args .scratch)) (rw (need .ensures) (s .pre .lent-enough)) in
     rw (c .before .before .before .grid-of .ensures) (
       (s .pre .width-most, s .pre .height-most, rw (long, need .ensures) (s .pre .columns-fit)),
@@ -64,7 +64,7 @@ same-length c = search needs
 returns : tie.Need-returns
 returns c =
     let s = c .before .before .before .before .before .before .before .before .before .before .before .before .before .before .before in
-    let need = c .before .before .before .before .before .before .before .before .before .places in
+    let need = c .before .before .before .before .before .before .before .before .before .scratch-places in
     let largest = c .before .before .before .before .before .before .before .before .sample-max .ensures in
     let max = c .before .before .before .before .before .before .before .squared .ensures in
     let grid = c .before .before .before .before .before .before .grid-of .ensures in
@@ -75,11 +75,11 @@ returns c =
       rw (totals .1, length-take-le (need .result) (now (s .args .scratch)) (rw (need .ensures) (s .pre .lent-enough)), need .ensures),
     )
 
-pub scored-spec : {M : Type 1} → statement M
-scored-spec =
+pub score-spec : {M : Type 1} → statement M
+score-spec =
     tie.close
     (tie.spec
-    places-requires
+    scratch-places-requires
     sample-max-requires
     squared-requires
     grid-of-requires

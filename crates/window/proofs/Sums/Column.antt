@@ -9,7 +9,7 @@ use Rattle.window.specs.Moments.{mostSample}
 use Rattle.window.specs.Inner.Parts.{Kernel, quantOf, fiveOf, tappedOf, Room}
 use Rattle.window.specs.Inner.Columns.{columnTo, Fits}
 use Rattle.window.specs.declared.FiveSums.{FiveSums}
-use Rattle.window.proofs.Five.{quant-le, quant-small, parts-more, parts-first, parts-last, parts-room, parts-low}
+use Rattle.window.proofs.Sums.Five.{quant-le, quant-small, parts-more, parts-first, parts-last, parts-room, parts-low}
 
 module _ (ker : List ℕ) (height : ℕ) (a b : ℕ → ℕ → ℕ) (x y k : ℕ) where
   -- no tap before the first inside counts

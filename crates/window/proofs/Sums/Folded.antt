@@ -11,7 +11,7 @@ use Rattle.plane.proofs.Sums.{sum-none, sum-more, sum-mono, sum-mul, sum-le, su
 use Rattle.window.specs.Kernel.{tap, fixedTotal}
 use Rattle.window.specs.Inner.Parts.{Kernel, acrossOf, foldedOf, foldsOf, fiveOf, tappedOf, Room}
 use Rattle.window.specs.declared.FiveSums.{FiveSums}
-use Rattle.window.proofs.Five.{five-ext, nth-of, row-room}
+use Rattle.window.proofs.Sums.Five.{five-ext, nth-of, row-room}
 
 module _ (ker : List ℕ) (g : ℕ → ℕ) (x : ℕ) where
   -- the middle tap alone

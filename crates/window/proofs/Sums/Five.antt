@@ -9,10 +9,10 @@ use lib.IntN.{ℤ}
 use lib.ListN.{length}
 use Rattle.window.specs.Kernel.{tap, fixedTotal}
 use Rattle.window.specs.Inner.Parts.{partOf, Kernel, quantOf, fiveOf, nth, tappedOf, Room, partsOf}
-use Rattle.window.specs.Inner.Columns.{Fits, cellOf, AllSmall}
+use Rattle.window.specs.Inner.Columns.{Fits, cellOf, ColumnSums}
 use Rattle.window.specs.Moments.{mostSample}
 use Rattle.window.specs.declared.FiveSums.{FiveSums}
-use Rattle.window.proofs.Windows.{part-more, part-first, part-last, part-room, part-le}
+use Rattle.window.proofs.Sums.Windows.{part-more, part-first, part-last, part-room, part-le}
 
 -- g and h agree
 pub five-ext : (g h : ℕ → ℕ) → ((m : ℕ) → g m ≡ h m) → fiveOf g ≡ fiveOf h
@@ -99,7 +99,7 @@ module _ (ker : List ℕ) (side : ℕ) (f : ℕ → ℕ → ℕ) (x : ℕ) where
       (λ m. lt-of-le-of-lt (le-trans (part-le ker side (f m) x (2 ^ 40) r (h m) _ (le-refl _)) column-room) (lit< tt)))
 
 -- what was read from scratch is small
-pub cells-low : (s : List ℤ) (n c : ℕ) (t : FiveSums) → t ≡ fiveOf (λ (m : ℕ). cellOf s m c) → AllSmall s (5 * n) → c < n
+pub cells-low : (s : List ℤ) (n c : ℕ) (t : FiveSums) → t ≡ fiveOf (λ (m : ℕ). cellOf s m c) → ColumnSums s (5 * n) → c < n
     → (m : ℕ) → m < 5 → nth t m ≤ 2 ^ 50
 cells-low s n c t e small l =
     rw e (nth-of (λ (m v : ℕ). v ≤ 2 ^ 50) (λ (m : ℕ). cellOf s m c) (λ m q. small (5 * c + m) (omega arith) .low))

@@ -1,10 +1,10 @@
--- `ssim::score::squared` meets its contract. Assumes nothing.
+-- `ssim::centre::squared` meets its contract. Assumes nothing.
 use Prim.Native.Nat.{_^_, _-_, _≤_}
 use native.Mathlib.Nat.{mul-le-mul}
 use native.Mathlib.Omega.{arith}
 use borrow.Author.Needs.{needs}
-use Rattle.ssim.proofs.score.squared.Statement.{statement}
-use Rattle.ssim.proofs.score.squared.Tie as tie
+use Rattle.ssim.proofs.centre.squared.Statement.{statement}
+use Rattle.ssim.proofs.centre.squared.Tie as tie
 
 mul-double : tie.Need-mul-double
 mul-double c =

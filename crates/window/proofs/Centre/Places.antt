@@ -3,33 +3,33 @@
 use mathlib.Core.Path.{_≡_, _∙_, subst⁻¹, fun-ext}
 use mathlib.Core.List.{List}
 use Prim.Native.Nat.{ℕ, _+_, _-_, _*_, _/_, _≤_, _<_}
-use native.Mathlib.Nat.{mul-zero, mul-one, le-trans, le-refl}
+use native.Mathlib.Nat.{mul-zero, mul-one, le-refl}
 use native.Mathlib.Decide.{decLt}
 use native.Mathlib.Omega.{arith}
 use lib.ListN.{length}
 use Rattle.plane.specs.Sums.{sumTo}
 use Rattle.plane.proofs.Sums.{sum-term}
 use Rattle.window.specs.Kernel.{tap}
-use Rattle.window.specs.Moments.{inside, seenAt, momentAt}
+use Rattle.window.specs.Moments.{clipped, seenAt, momentAt}
 use Rattle.window.specs.Inner.Parts.{partOf, weightOf}
-use Rattle.window.proofs.Windows.{inside-in, inside-below, inside-above, part-below}
-use Rattle.window.proofs.Separable.{separable}
-use Rattle.window.proofs.Cauchy.{Gram, gram-point, gram-none, gram-sum}
+use Rattle.window.proofs.Sums.Windows.{clipped-in, clipped-below, clipped-above, part-below}
+use Rattle.window.proofs.Centre.Separable.{separable}
+use Rattle.window.proofs.Centre.Cauchy.{Gram, gram-point, gram-none, gram-sum}
 
 -- ---- what a place shows
 
 -- Along one side a place shows an index below `side`, the same of every f, or it is outside.
 data Side (off side j : ℕ) : Type 0 where
-  at : (k : ℕ) → k < side → ((f : ℕ → ℕ) → inside off side f j ≡ f k) → Side off side j
-  out : ((f : ℕ → ℕ) → inside off side f j ≡ 0) → Side off side j
+  at : (k : ℕ) → k < side → ((f : ℕ → ℕ) → clipped off side f j ≡ f k) → Side off side j
+  out : ((f : ℕ → ℕ) → clipped off side f j ≡ 0) → Side off side j
 
 side-of : (off side j : ℕ) → Side off side j
 side-of off side j = go (decLt j off) (decLt j (off + side))
   where
     go : Dec (j < off) → Dec (j < off + side) → Side off side j
-    go (yes l) d = out (λ f. inside-below off side f j l)
-    go (no l) (yes m) = at (j - off) (omega arith) (λ f. inside-in off side f j (omega arith) m)
-    go (no l) (no m) = out (λ f. inside-above off side f j (omega arith))
+    go (yes l) d = out (λ f. clipped-below off side f j l)
+    go (no l) (yes m) = at (j - off) (omega arith) (λ f. clipped-in off side f j (omega arith) m)
+    go (no l) (no m) = out (λ f. clipped-above off side f j (omega arith))
 
 -- Two sides: it shows the same row and column of every view, or 0 of every view.
 data Seen (ker : List ℕ) (width height x y : ℕ) : Type 0 where
@@ -48,11 +48,11 @@ seen-of ker width height x y = go (side-of (length ker / 2) height y) (side-of (
 
 module _ (ker : List ℕ) where
   -- the middle tap stands at the centre itself
-  pub weight-some : length ker / 2 < length ker → 1 ≤ tap ker (length ker / 2) → (side x : ℕ) → x < side → 1 ≤ weightOf ker side x
+  pub weight-some : length ker / 2 < length ker → (side x : ℕ) → x < side → tap ker (length ker / 2) ≤ weightOf ker side x
   unfolding partOf
-  weight-some n middle side x l =
-      let e : inside (length ker / 2) side (λ (i : ℕ). 1) (x + length ker / 2) ≡ 1 = inside-in _ side _ _ (omega arith) (omega arith) in
-      le-trans middle (rw (e, mul-one) at (sum-term (λ (k : ℕ). tap ker k * inside (length ker / 2) side (λ (i : ℕ). 1) (x + k)) _ _ n))
+  weight-some n side x l =
+      let e : clipped (length ker / 2) side (λ (i : ℕ). 1) (x + length ker / 2) ≡ 1 = clipped-in _ side _ _ (omega arith) (omega arith) in
+      rw (e, mul-one) at (sum-term (λ (k : ℕ). tap ker k * clipped (length ker / 2) side (λ (i : ℕ). 1) (x + k)) _ _ n)
 
   -- the taps' sum, once for each direction
   pub moment-le : (width height : ℕ) (v : ℕ → ℕ → ℕ) (B : ℕ) → ((r c : ℕ) → r < height → c < width → v r c ≤ B) → (x y : ℕ)

@@ -13,13 +13,13 @@ use lib.ListN.{length, set, take, drop, replicate, length-set, length-drop, leng
 use lib.Seq.{getD-set-same, getD-set-other, getD-append-add, getD-take, getD-drop, length-take-le}
 use Rattle.plane.proofs.Sums.{sum-ext}
 use Rattle.window.specs.Kernel.{tap}
-use Rattle.window.specs.Moments.{inside, momentAt, momentsAt, mostSample}
+use Rattle.window.specs.Moments.{clipped, momentAt, momentsAt, mostSample}
 use Rattle.window.specs.Inner.Parts.{partOf, partsOf, windowOf, weightOf, acrossOf, Kernel, quantOf, nth}
-use Rattle.window.specs.Inner.Columns.{atZ, cellOf, columnTo, columnAt, columnsOf, Holds, Margins, Small, AllSmall, momentsIn}
+use Rattle.window.specs.Inner.Columns.{atZ, cellOf, columnTo, columnAt, columnsOf, Holds, Margins, ColumnSum, ColumnSums, momentsIn}
 use Rattle.window.specs.declared.FiveSums.{FiveSums}
-use Rattle.window.proofs.Windows.{inside-in, inside-below, inside-above, part-le}
-use Rattle.window.proofs.Separable.{separable, weights}
-use Rattle.window.proofs.Five.{quant-le, column-room, nth-five}
+use Rattle.window.proofs.Sums.Windows.{clipped-in, clipped-below, clipped-above, part-le}
+use Rattle.window.proofs.Centre.Separable.{separable, weights}
+use Rattle.window.proofs.Sums.Five.{quant-le, column-room, nth-five}
 
 -- ---- a part from a on, of k places, has come back as ys: the places in it, before it and after it
 module _ (a k : ℕ) (xs ys : List ℤ) (room : a + k ≤ length xs) (same : length ys ≡ k) where
@@ -78,10 +78,10 @@ module _ (s cols : List ℤ) (k : ℕ) (ker : List ℕ) (width height : ℕ) (a 
       go (no m) (yes n) = let e : start + (j - start) ≡ j = omega arith in rw (rw e at (between (j - start) (omega arith))) (some (j - start) (omega arith))
 
   -- so all of them can be read
-  pub all-small : Kernel ker → ((r c : ℕ) → r < height → c < width → a r c ≤ mostSample)
-      → ((r c : ℕ) → r < height → c < width → b r c ≤ mostSample) → AllSmall now′ (5 * columnsOf ker width)
-  all-small r sa sb j l =
-      every-place Small (record { sign = tt; low = lit≤ tt }) (λ i (q : i < 5 * width).
+  pub all-sums : Kernel ker → ((r c : ℕ) → r < height → c < width → a r c ≤ mostSample)
+      → ((r c : ℕ) → r < height → c < width → b r c ≤ mostSample) → ColumnSums now′ (5 * columnsOf ker width)
+  all-sums r sa sb j l =
+      every-place ColumnSum (record { sign = tt; low = lit≤ tt }) (λ i (q : i < 5 * width).
       record {
         sign = tt;
         low = le-trans
@@ -92,20 +92,20 @@ module _ (s cols : List ℤ) (k : ℕ) (ker : List ℕ) (width height : ℕ) (a 
 
   -- sum m of column c, as a window along the row sees it
   seen : (m c : ℕ) → m < 5
-      → cellOf now′ m c ≡ inside (length ker / 2) width (λ (i : ℕ). windowOf ker height (λ (r : ℕ). quantOf m (a r i) (b r i)) y) c
+      → cellOf now′ m c ≡ clipped (length ker / 2) width (λ (i : ℕ). windowOf ker height (λ (r : ℕ). quantOf m (a r i) (b r i)) y) c
   seen m c l = go (decLt c (length ker / 2)) (decLt c (length ker / 2 + width))
     where
       go : Dec (c < length ker / 2) → Dec (c < length ker / 2 + width)
-          → cellOf now′ m c ≡ inside (length ker / 2) width (λ (i : ℕ). windowOf ker height (λ (r : ℕ). quantOf m (a r i) (b r i)) y) c
-      go (yes u) d = rw (inside-below (length ker / 2) width _ c u) (ap natAbs (margins-kept .left (5 * c + m) (omega arith)))
+          → cellOf now′ m c ≡ clipped (length ker / 2) width (λ (i : ℕ). windowOf ker height (λ (r : ℕ). quantOf m (a r i) (b r i)) y) c
+      go (yes u) d = rw (clipped-below (length ker / 2) width _ c u) (ap natAbs (margins-kept .left (5 * c + m) (omega arith)))
       go (no u) (no v) =
-          rw (inside-above (length ker / 2) width _ c (omega arith)) (ap natAbs (margins-kept .right (5 * c + m) (omega arith)))
+          rw (clipped-above (length ker / 2) width _ c (omega arith)) (ap natAbs (margins-kept .right (5 * c + m) (omega arith)))
       go (no u) (yes v) =
           let i = c - length ker / 2 in
           let e : start + (5 * i + m) ≡ 5 * c + m = omega arith in
           let p : (5 * i + m) % 5 ≡ m = omega arith in
           let q : (5 * i + m) / 5 ≡ i = omega arith in
-          rw (inside-in (length ker / 2) width _ c (omega arith) v)
+          rw (clipped-in (length ker / 2) width _ c (omega arith) v)
           (ap natAbs (rw (e, p, q) at (between (5 * i + m) (omega arith))))
 
   -- sum m at x

@@ -1,7 +1,7 @@
--- `ssim::score::pair` meets its contract. Assumes nothing.
+-- `ssim::centre::pair` meets its contract. Assumes nothing.
 use borrow.Author.Needs.{needs}
-use Rattle.ssim.proofs.score.pair.Statement.{statement}
-use Rattle.ssim.proofs.score.pair.Tie as tie
+use Rattle.ssim.proofs.centre.pair.Statement.{statement}
+use Rattle.ssim.proofs.centre.pair.Tie as tie
 
 finite-requires : tie.Need-finite-requires
 finite-requires c κs = search needs

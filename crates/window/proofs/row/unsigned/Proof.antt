@@ -1,10 +1,10 @@
--- `window::row::up` meets its contract. Assumes nothing.
+-- `window::row::unsigned` meets its contract. Assumes nothing.
 use native.Mathlib.Omega.{arith}
 use lib.Signed.{natAbs-le, pos-natAbs}
 use mir.Syntax.{w64}
 use mir.ValLaws.{toZ-ofZ}
-use Rattle.window.proofs.row.up.Statement.{statement}
-use Rattle.window.proofs.row.up.Tie as tie
+use Rattle.window.proofs.row.unsigned.Statement.{statement}
+use Rattle.window.proofs.row.unsigned.Tie as tie
 
 cast-result : tie.Need-cast-result
 cast-result c = rw (toZ-ofZ w64 (c .args .z) (c .fits .z)) (c .pre, omega (arith, natAbs-le (c .args .z) (c .fits .z .sfits)))
@@ -12,5 +12,5 @@ cast-result c = rw (toZ-ofZ w64 (c .args .z) (c .fits .z)) (c .pre, omega (arith
 returns : tie.Need-returns
 returns c = rw (toZ-ofZ w64 (c .args .z) (c .fits .z)) (pos-natAbs (c .args .z) (c .pre))
 
-pub up-spec : {M : Type 1} → statement M
-up-spec = tie.close (tie.spec cast-result returns)
+pub unsigned-spec : {M : Type 1} → statement M
+unsigned-spec = tie.close (tie.spec cast-result returns)

@@ -1,8 +1,8 @@
--- `ssim::score::step` meets its contract: the six numbers are converted, and the steps are those of the definition. Assumes nothing.
+-- `ssim::centre::step` meets its contract: the six numbers are converted, and the steps are those of the definition. Assumes nothing.
 use borrow.Author.Needs.{needs}
-use Rattle.ssim.specs.Score.{stepOf}
-use Rattle.ssim.proofs.score.step.Statement.{statement}
-use Rattle.ssim.proofs.score.step.Tie as tie
+use Rattle.ssim.specs.Score.{withCentre}
+use Rattle.ssim.proofs.centre.step.Statement.{statement}
+use Rattle.ssim.proofs.centre.step.Tie as tie
 
 double-requires : tie.Need-double-requires
 double-requires c κs = search needs
@@ -23,7 +23,7 @@ double-requires-6 : tie.Need-double-requires-6
 double-requires-6 c κs = search needs
 
 returns : tie.Need-returns
-unfolding stepOf
+unfolding withCentre
 returns c =
     simp (
       c .before .before .before .before .before .before .before .before .double .ensures,

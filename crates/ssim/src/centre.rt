@@ -2,7 +2,7 @@
 ghost use mathlib.Core.Path.{_≡_};
 ghost use Prim.Native.Nat.{_*_};
 ghost use Rattle.number.specs.Steps as Steps;
-ghost use Rattle.ssim.specs.Score.{stepOf};
+ghost use Rattle.ssim.specs.Score.{withCentre};
 ghost use Rattle.ssim.specs.Answer as Answer;
 use crate::Ssim;
 use crate::Totals;
@@ -35,7 +35,7 @@ pub fn squared(max: u32) -> f64
 
 // One centre more. `max2` is the square of the largest sample.
 pub fn step(max2: f64, t: Totals, moments: Moments) -> Totals
-    ensures { λ r. ⌜ r ≡ stepOf max2 t moments ⌝ }
+    ensures { λ r. ⌜ r ≡ withCentre max2 t moments ⌝ }
 {
     let w = double(moments.w);
     let mux = double(moments.mux);

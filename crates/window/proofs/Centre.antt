@@ -1,0 +1,3 @@
+pub mod Separable
+pub mod Cauchy
+pub mod Places

@@ -1,0 +1,5 @@
+pub mod Windows
+pub mod Five
+pub mod Column
+pub mod Folded
+pub mod Held
