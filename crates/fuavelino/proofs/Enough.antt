@@ -15,7 +15,7 @@ use Rattle.plane.specs.Plane.{Planes, both}
 use Rattle.plane.specs.Tests.{sizeTests, layoutTests, pairTests}
 use Rattle.plane.proofs.Accept.{accepted}
 use Rattle.window.specs.Kernel.{mostTaps, lentTotal, lawful}
-use Rattle.ssim.specs.Scratch.{placesOf}
+use Rattle.ssim.specs.Scratch.{scratchPlaces}
 use Rattle.ssim.specs.Answer.{lentTests, ssimRefusal}
 use Rattle.ssim.proofs.Accept.{taps-count}
 use Rattle.msssim.specs.Scratch.{Scratch, placesNeeded, samplesNeeded, scratchSuits}
@@ -53,7 +53,7 @@ is-within least most n low high = rw (le-leb least n low, le-leb n most high)
 both-true : {a b : Bool} → a ≡ true → b ≡ true → (a && b) ≡ true
 both-true e f = rw (e, f)
 
-ssim-count : (width taps : ℕ) → within 1 sideLimit width ≡ true → within 1 mostTaps taps ≡ true → placesOf width taps ≡ ssimPlaces width taps
+ssim-count : (width taps : ℕ) → within 1 sideLimit width ≡ true → within 1 mostTaps taps ≡ true → scratchPlaces width taps ≡ ssimPlaces width taps
 unfolding ssimPlaces
 ssim-count width taps w t = given _ _ (both-true w t)
 
@@ -75,12 +75,12 @@ ssim-enough p ker places enough h =
     let taps : ℕ = length ker in
     let planes = others scratchNo (pairTests p 0) (lentTests width ker places) (plane-others p 0) h in
     let tests : List (ℕ × Bool) = (kernelNo, lawful lentTotal ker) ∷ [] in
-    let kernel = others scratchNo tests ((scratchNo, leb (placesOf width taps) places) ∷ []) (λ z. omega (arith, z), tt) (planes .1) in
+    let kernel = others scratchNo tests ((scratchNo, leb (scratchPlaces width taps) places) ∷ []) (λ z. omega (arith, z), tt) (planes .1) in
     let sized = accepted (p .size) (both p) 0 (planes .0) .sized in
     let count = taps-count ker (passed tests (lit≤ tt, tt) (kernel .0) .0) in
-    let same : placesOf width taps ≡ ssimPlaces width taps =
+    let same : scratchPlaces width taps ≡ ssimPlaces width taps =
     ssim-count width taps (is-within 1 sideLimit width (sized .width-least) (sized .width-most)) (is-within 1 mostTaps taps (count .0) (count .1)) in
-    let served : placesOf width taps ≤ places = rw same enough in
+    let served : scratchPlaces width taps ≤ places = rw same enough in
     true≢false (sym (le-leb _ _ served) ∙ last-fails _ (kernel .1))
 
 pub msssim-enough : (p : Planes) (s : Scratch) → msssimPlaces (p .size .width) ≤ length (s .places)

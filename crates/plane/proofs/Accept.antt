@@ -9,7 +9,8 @@ use lib.Dec.{leb, lit≤}
 use Rattle.refusal.proofs.Chain.{and-left, and-right, Named, passed, none-broken}
 use Rattle.plane.specs.Limits.{sideLimit, strideLimit}
 use Rattle.plane.specs.declared.Size.{Size}
-use Rattle.plane.specs.Plane.{Plane, Long, maxOf, sampleAt, every}
+use Rattle.plane.specs.Plane.{Plane, maxOf, sampleAt, every}
+use Rattle.plane.specs.Inner.Lent.{Long}
 use Rattle.plane.specs.Tests.{sideSuits, sidesSuit, sidesReach, strideSuits, longEnough, rowSuits, samplesSuit}
 use Rattle.plane.specs.Tests.{depthSuits, sizeTests, layoutTests, planeTests, planeRefusal}
 use Rattle.plane.specs.Inner.Lawful.{Lawful, Sized, Each, Accepted}

@@ -10,7 +10,8 @@ use lib.Dec.{leb}
 use lib.ListN.{length, take, drop, length-drop}
 use lib.Seq.{length-take-le, getD-take, getD-drop}
 use Rattle.plane.specs.declared.Size.{Size}
-use Rattle.plane.specs.Plane.{Plane, planeOf, planeIn, samplesOf, at, sampleAt, needed, Long, maxOf, allTo}
+use Rattle.plane.specs.Plane.{Plane, planeOf, at, sampleAt, needed, maxOf, allTo}
+use Rattle.plane.specs.Inner.Lent.{planeIn, samplesOf, Long}
 use Rattle.plane.specs.Tests.{longEnough, noneAbove, rowSuits, samplesSuit}
 use Rattle.plane.proofs.All.{all-true, none-ext, none-true}
 

@@ -10,7 +10,8 @@ use Rattle.refusal.proofs.Chain.{passed, go-on, stop}
 use Rattle.plane.specs.declared.Size.{Size}
 use Rattle.plane.specs.Plane.{Plane}
 use Rattle.plane.specs.Tests.{depthSuits, strideSuits, longEnough, samplesSuit}
-use Rattle.plane.specs.Tests.{sizeTests, layoutTests, planeTests, planeRefusal, lowerOf}
+use Rattle.plane.specs.Tests.{sizeTests, layoutTests, planeTests, planeRefusal}
+use Rattle.plane.specs.Inner.Lent.{lowerOf}
 use Rattle.plane.specs.Inner.Lawful.{Accepted}
 use Rattle.plane.proofs.Accept.{sides-say, size-named, plane-named, accepted}
 

@@ -1,12 +1,11 @@
 -- SCOPE, "What a plane may be". Definitions only.
 use mathlib.Core.Bool.{Bool, true, false, _&&_}
 use mathlib.Core.List.{List, [], _∷_}
-use Prim.Native.Nat.{ℕ, zero, suc, _+_, _*_, _-_, _^_, _≤_}
-use lib.ListN.{length, getD}
+use Prim.Native.Nat.{ℕ, zero, suc, _+_, _*_, _-_, _^_}
+use lib.ListN.{getD}
 use denote.Ref.{RefT, now}
 use Rattle.plane.specs.Limits.{mostDepth}
 use Rattle.plane.specs.declared.Size.{Size}
-use Rattle.plane.specs.declared.Layout.{Layout}
 
 -- a plane as it is lent: its samples, one after another, and its stride
 pub record Plane : Type 0 where
@@ -15,11 +14,6 @@ pub record Plane : Type 0 where
 
 abbrev pub planeOf : List ℕ → ℕ → Plane
 planeOf samples stride = record { samples = samples; stride = stride }
-
--- the samples of either width: the words where `wide` says so, else the bytes
-abbrev pub samplesOf : Bool → List ℕ → List ℕ → List ℕ
-samplesOf true bytes words = words
-samplesOf false bytes words = bytes
 
 -- the two planes of a call, and what they share
 pub record Planes : Type 0 where
@@ -36,22 +30,7 @@ planesOf size a b = record { size = size; a = a; b = b }
 abbrev pub both : Planes → List Plane
 both p = p .a ∷ p .b ∷ []
 
--- the plane, and the two planes, that stand in lists of bytes and of words
-abbrev pub planeIn : Size → List ℕ → List ℕ → ℕ → Plane
-planeIn size bytes words stride = planeOf (samplesOf (size .wide) bytes words) stride
-
-abbrev pub planesIn : Layout → List ℕ → List ℕ → List ℕ → List ℕ → Planes
-planesIn layout a8 a16 b8 b16 =
-    let size = layout .size in planesOf size (planeIn size a8 a16 (layout .«stride_a»)) (planeIn size b8 b16 (layout .«stride_b»))
-
--- the same of slices, as a contract has them
-abbrev pub lent : Size → RefT (List ℕ) → RefT (List ℕ) → ℕ → Plane
-lent size bytes words stride = planeIn size (now bytes) (now words) stride
-
-abbrev pub planes : Layout → RefT (List ℕ) → RefT (List ℕ) → RefT (List ℕ) → RefT (List ℕ) → Planes
-planes layout a8 a16 b8 b16 = planesIn layout (now a8) (now a16) (now b8) (now b16)
-
--- the same of a call that is lent planes of one width, as its parameters stand
+-- the planes of a call that is lent bytes or words, its parameters as they stand
 abbrev pub called : Bool → RefT (List ℕ) → RefT (List ℕ) → ℕ → ℕ → ℕ → ℕ → ℕ → Planes
 called wide a b width height strideA strideB depth = planesOf (sizeOf wide width height depth) (planeOf (now a) strideA) (planeOf (now b) strideB)
 
@@ -74,9 +53,6 @@ sampleAt p r c = at (p .samples) (r * p .stride + c)
 -- how many samples a plane must have: the padding of its last row need not be there
 abbrev pub needed : ℕ → ℕ → ℕ → ℕ
 needed width height stride = stride * (height - 1) + width
-
-abbrev pub Long : Size → Plane → Type 0
-Long size p = needed (size .width) (size .height) (p .stride) ≤ length (p .samples)
 
 -- f holds at every index below n
 unfoldable pub allTo : (ℕ → Bool) → ℕ → Bool

@@ -1,7 +1,7 @@
 -- SCOPE, "When the desk says no", 1 to 6: each test, true where the number is not given, and their list. Definitions only.
 use mathlib.Core.Bool.{Bool, _&&_}
 use mathlib.Core.List.{List, [], _∷_, _++_}
-use Prim.Native.Nat.{ℕ, zero, suc, min}
+use Prim.Native.Nat.{ℕ}
 use lib.Dec.{leb}
 use lib.ListN.{length}
 use Rattle.refusal.specs.Numbers.{depthNo, sizeNo, sideNo, strideNo, shortNo, sampleNo}
@@ -75,9 +75,3 @@ pairTests p least = planeTests (p .size) (both p) least
 
 abbrev pub pairRefusal : Planes → ℕ → ℕ
 pairRefusal p least = planeRefusal (p .size) (both p) least
-
--- of two refusals the lower, where 0 is none
-abbrev pub lowerOf : ℕ → ℕ → ℕ
-lowerOf zero b = b
-lowerOf (suc a) zero = suc a
-lowerOf (suc a) (suc b) = min (suc a) (suc b)

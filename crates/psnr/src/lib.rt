@@ -1,7 +1,8 @@
 // Squared error of two planes, the record that keeps it, and a series of records; after psnr.rs. SCOPE, "Squared error".
 ghost use mathlib.Core.Path.{_≡_};
 ghost use mathlib.Core.Bool.{true, false};
-ghost use Rattle.plane.specs.Plane.{planes, called};
+ghost use Rattle.plane.specs.Plane.{called};
+ghost use Rattle.plane.specs.Inner.Lent.{planes};
 ghost use Rattle.psnr.specs.Squared.{squaredErrorRefusal, squaredErrorOf};
 ghost use Rattle.psnr.specs.Series.{seriesOf};
 ghost use Rattle.psnr.specs.Inner.Fold.{runWith, runStart, runStep, runFinish};

@@ -1,7 +1,7 @@
 // The sum of the squared differences over the visible samples of two planes. Nobody above knows how the rows are walked.
 ghost use mathlib.Core.Path.{_≡_};
 ghost use Prim.Native.Nat.{_<_};
-ghost use Rattle.plane.specs.Plane.{planes};
+ghost use Rattle.plane.specs.Inner.Lent.{planes};
 ghost use Rattle.psnr.specs.Squared.{squareOf, rowError, squaredErrorScore};
 ghost use Rattle.psnr.specs.Inner.Walk.{Walkable};
 use plane::Layout;

@@ -1,6 +1,6 @@
 // One block of 8 by 8 of each plane: its samples are read, and its error is added.
 ghost use mathlib.Core.Path.{_≡_};
-ghost use Rattle.plane.specs.Plane.{lent, planes};
+ghost use Rattle.plane.specs.Inner.Lent.{lent, planes};
 ghost use Rattle.plane.specs.Inner.Lawful.{Bounded, BoundedPair};
 ghost use Rattle.hvs_block.specs.Inner.Levels.{sampleLimit};
 ghost use Rattle.psnr_hvs.specs.Score.{blockAt, withBlocks};

@@ -5,7 +5,8 @@ use mathlib.Core.List.{List}
 use Prim.Native.Nat.{ℕ, _≤_}
 use native.Mathlib.Nat.{le-trans}
 use Rattle.plane.specs.declared.Layout.{Layout}
-use Rattle.plane.specs.Plane.{Plane, samplesOf, planesIn}
+use Rattle.plane.specs.Plane.{Plane}
+use Rattle.plane.specs.Inner.Lent.{samplesOf, planesIn}
 use Rattle.plane.specs.Inner.Lawful.{Bounded}
 use Rattle.window.specs.Inner.Columns.{samplesIn, samplesFor, gridOf, onGridIn, gridded}
 use Rattle.window.specs.declared.Grid.{Grid}

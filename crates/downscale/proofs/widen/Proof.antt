@@ -7,7 +7,8 @@ use borrow.Author.Needs.{needs}
 use denote.Ref.{now}
 use lib.ListN.{length}
 use Rattle.downscale.specs.Inner.Longs.{Filled}
-use Rattle.plane.specs.Plane.{planeIn, lent, sampleAt}
+use Rattle.plane.specs.Plane.{sampleAt}
+use Rattle.plane.specs.Inner.Lent.{planeIn, lent}
 use Rattle.plane.proofs.Rows.{row-inside, count-fits}
 use Rattle.downscale.proofs.Stored.{filled-none, filled-more}
 use Rattle.downscale.proofs.widen.Statement.{statement}

@@ -6,7 +6,8 @@ use native.Mathlib.Omega.{arith}
 use mathlib.Core.Path.{_≡_, refl}
 use denote.Ref.{now}
 use lib.ListN.{length, length-set}
-use Rattle.plane.specs.Plane.{at, samplesOf}
+use Rattle.plane.specs.Plane.{at}
+use Rattle.plane.specs.Inner.Lent.{samplesOf}
 use Rattle.downscale.specs.Inner.Longs.{Put}
 use Rattle.downscale.proofs.Stored.{put-none, put-more}
 use Rattle.downscale.proofs.widen_row.Statement.{statement}

@@ -3,7 +3,7 @@ use mathlib.Core.Path.{_≡_}
 use mathlib.Core.Bool.{true}
 use borrow.Author.Needs.{needs}
 use Rattle.refusal.proofs.Chain.{fails, holds}
-use Rattle.plane.specs.Plane.{lent}
+use Rattle.plane.specs.Inner.Lent.{lent}
 use Rattle.plane.specs.Tests.{strideSuits, longEnough, layoutTests}
 use Rattle.plane.proofs.Accept.{stride-says, long-says}
 use Rattle.plane.proofs.layout_refusal.Statement.{statement}

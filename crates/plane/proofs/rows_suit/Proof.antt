@@ -3,7 +3,8 @@ use mathlib.Core.Path.{_≡_, sym}
 use Prim.Native.Nat.{_≤_, _-_}
 use native.Mathlib.Omega.{arith}
 use borrow.Author.Needs.{needs}
-use Rattle.plane.specs.Plane.{planeIn, allTo}
+use Rattle.plane.specs.Plane.{allTo}
+use Rattle.plane.specs.Inner.Lent.{planeIn}
 use Rattle.plane.specs.Tests.{rowSuits}
 use Rattle.plane.proofs.All.{all-none, all-more}
 use Rattle.plane.proofs.Rows.{row-inside}

@@ -5,7 +5,8 @@ use native.Mathlib.Nat.{lt-of-le-of-lt, le-of-lt, le-refl}
 use native.Mathlib.Omega.{arith}
 use borrow.Author.Needs.{needs}
 use Rattle.refusal.proofs.Chain.{refused}
-use Rattle.plane.specs.Plane.{Planes, planes}
+use Rattle.plane.specs.Plane.{Planes}
+use Rattle.plane.specs.Inner.Lent.{planes}
 use Rattle.plane.specs.Inner.Lawful.{AcceptedPair}
 use Rattle.plane.proofs.Accept.{accepted}
 use Rattle.plane.proofs.Depth.{depth-small}

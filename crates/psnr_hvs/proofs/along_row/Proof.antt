@@ -4,7 +4,7 @@ use mathlib.Core.Path.{_≡_, sym}
 use Prim.Native.Nat.{_-_, _≤_}
 use native.Mathlib.Omega.{arith}
 use Rattle.psnr_hvs.specs.Score.{alongRow, blocksPerSide}
-use Rattle.plane.specs.Plane.{planesIn}
+use Rattle.plane.specs.Inner.Lent.{planesIn}
 use Rattle.psnr_hvs.proofs.Blocks.{ends, row-more}
 use Rattle.number.proofs.Folds.{fold-none}
 use Rattle.psnr_hvs.proofs.along_row.Statement.{statement}

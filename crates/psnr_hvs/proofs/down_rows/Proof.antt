@@ -3,7 +3,7 @@ use borrow.Author.Needs.{needs}
 use mathlib.Core.Path.{_≡_, sym}
 use Prim.Native.Nat.{_-_, _≤_}
 use native.Mathlib.Omega.{arith}
-use Rattle.plane.specs.Plane.{planesIn}
+use Rattle.plane.specs.Inner.Lent.{planesIn}
 use Rattle.psnr_hvs.specs.Score.{downRows, blocksPerSide}
 use Rattle.number.proofs.Folds.{fold-none}
 use Rattle.psnr_hvs.proofs.Blocks.{ends, rows-more}

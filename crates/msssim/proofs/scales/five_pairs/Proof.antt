@@ -3,7 +3,8 @@ use Prim.Native.Nat.{_≤_, _*_}
 use native.Mathlib.Omega.{arith}
 use borrow.Author.Needs.{needs}
 use lib.ListN.{length}
-use Rattle.plane.specs.Plane.{Planes, planes, planeOf, maxOf, sampleAt}
+use Rattle.plane.specs.Plane.{Planes, planeOf, maxOf, sampleAt}
+use Rattle.plane.specs.Inner.Lent.{planes}
 use Rattle.plane.specs.Inner.Lawful.{Bounded}
 use Rattle.plane.proofs.Depth.{depth-small}
 use Rattle.downscale.proofs.Summed.{bounded-widened}

@@ -6,7 +6,8 @@ use borrow.Author.Needs.{needs}
 use denote.Ref.{now}
 use lib.ListN.{length}
 use Rattle.plane.proofs.Rows.{row-inside, count-fits}
-use Rattle.plane.specs.Plane.{Planes, planesIn, planes}
+use Rattle.plane.specs.Plane.{Planes}
+use Rattle.plane.specs.Inner.Lent.{planesIn, planes}
 use Rattle.psnr.specs.Squared.{rowError}
 use Rattle.psnr.proofs.Squares.{row-none, row-more, row-room}
 use Rattle.psnr.proofs.walk.row_error.Statement.{statement}

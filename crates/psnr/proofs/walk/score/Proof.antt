@@ -3,7 +3,8 @@ use mathlib.Core.Path.{_≡_, sym}
 use Prim.Native.Nat.{_+_, _-_, _≤_}
 use native.Mathlib.Omega.{arith}
 use borrow.Author.Needs.{needs}
-use Rattle.plane.specs.Plane.{Planes, planesIn, planes}
+use Rattle.plane.specs.Plane.{Planes}
+use Rattle.plane.specs.Inner.Lent.{planesIn, planes}
 use Rattle.psnr.specs.Squared.{errorTo}
 use Rattle.psnr.proofs.Squares.{error-none, error-more, error-room}
 use Rattle.psnr.proofs.walk.score.Statement.{statement}

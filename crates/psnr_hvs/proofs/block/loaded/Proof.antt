@@ -9,7 +9,7 @@ use lib.Dec.{lit<}
 use lib.IntN.{pos}
 use mir.Syntax.{w32}
 use mir.Facts.{toZ-pos}
-use Rattle.plane.specs.Plane.{samplesOf, planeIn}
+use Rattle.plane.specs.Inner.Lent.{samplesOf, planeIn}
 use Rattle.plane.proofs.Rows.{inside, count-fits}
 use Rattle.lifting.proofs.Size.{fits}
 use Rattle.psnr_hvs.specs.Score.{sampleIn, blockAt}
