@@ -1,29 +1,36 @@
 -- How large the squared error can be, and that planes which no test refuses can be walked. Assumes nothing.
-use mathlib.Core.Path.{_≡_}
+use mathlib.Core.Path.{_≡_, refl}
 use mathlib.Core.Bool.{Bool, true, false}
+use mathlib.Core.List.{List}
 use Prim.Native.Nat.{ℕ, _+_, _-_, _*_, _^_, _≤_, _<_}
 use native.Mathlib.Nat.{mul-le-mul, mul-le-mul-right, le-trans, lt-of-le-of-lt}
 use native.Mathlib.Omega.{arith}
 use lib.Dec.{lit<, lit≤}
 use Rattle.plane.specs.Limits.{sideLimit, mostDepth}
 use Rattle.plane.specs.declared.Size.{Size}
-use Rattle.plane.specs.Plane.{Plane, Planes, maxOf, sampleLimit, sampleAt}
+use Rattle.plane.specs.Plane.{Plane, Planes, maxOf, sampleLimit, at, sampleAt}
 use Rattle.plane.specs.Inner.Lawful.{Bounded, Lawful, AcceptedPair}
 use Rattle.plane.proofs.Depth.{max-grows}
 use Rattle.plane.proofs.Sums.{sum-none, sum-more, sum-bound}
 use Rattle.psnr.specs.Limits.{totalLimit}
 use Rattle.psnr.specs.Squared.{apart, squareOf, rowError, errorTo}
-use Rattle.psnr.specs.Inner.Walk.{Walkable}
+use Rattle.psnr.specs.Inner.Walk.{Walkable, squaresFrom}
 
 -- ---- a sum counted up
-module _ (p : Planes) where
-  pub row-none : (y : ℕ) → rowError p 0 y ≡ 0
-  unfolding rowError
-  row-none y = sum-none _
+module _ (a b : List ℕ) (i j : ℕ) where
+  pub squares-none : squaresFrom a b i j 0 ≡ 0
+  unfolding squaresFrom
+  squares-none = sum-none _
 
-  pub row-more : (x y : ℕ) → rowError p (x + 1) y ≡ rowError p x y + squareOf (sampleAt (p .a) y x) (sampleAt (p .b) y x)
-  unfolding rowError
-  row-more x y = sum-more _ x
+  pub squares-more : (x : ℕ) → squaresFrom a b i j (x + 1) ≡ squaresFrom a b i j x + squareOf (at a (i + x)) (at b (j + x))
+  unfolding squaresFrom
+  squares-more x = sum-more _ x
+
+module _ (p : Planes) where
+  -- a row is so many samples from its start on
+  pub row-is : (n y : ℕ) → rowError p n y ≡ squaresFrom (p .a .samples) (p .b .samples) (y * p .a .stride) (y * p .b .stride) n
+  unfolding rowError squaresFrom
+  row-is n y = refl
 
   pub error-none : errorTo p 0 ≡ 0
   unfolding errorTo
@@ -34,7 +41,7 @@ module _ (p : Planes) where
   error-more y = sum-more _ y
 
 -- ---- how large it can be, where no sample is above m
-square-le : (m a b : ℕ) → a ≤ m → b ≤ m → squareOf a b ≤ m * m
+pub square-le : (m a b : ℕ) → a ≤ m → b ≤ m → squareOf a b ≤ m * m
 unfolding squareOf
 square-le m a b la lb = let l : apart a b ≤ m = omega arith in mul-le-mul l l
 
@@ -61,20 +68,10 @@ pub limits-fit : sideLimit * (sideLimit * top) < totalLimit
 unfolding sideLimit mostDepth maxOf totalLimit
 limits-fit = lit< tt
 
--- a row's sum, and the whole sum, fit a word
-row-fits : sideLimit * top < 2 ^ 64
-unfolding sideLimit mostDepth maxOf
-row-fits = lit< tt
-
+-- and the largest total fits a word
 pub total-fits : totalLimit < 2 ^ 64
 unfolding totalLimit
 total-fits = lit< tt
-
-pub row-room : {p : Planes} {x y : ℕ} → Walkable p → x ≤ p .size .width → y < p .size .height → rowError p x y < 2 ^ 64
-row-room {p} {x} {y} w lx ly =
-    lt-of-le-of-lt
-    (row-le sampleLimit p x y (λ k m. w .bounded .first .small y k ly (omega arith)) (λ k m. w .bounded .second .small y k ly (omega arith)))
-    (lt-of-le-of-lt (mul-le-mul-right top (le-trans lx (w .width-most))) row-fits)
 
 -- so that the double is exact
 module _ {p : Planes} {y : ℕ} (w : Walkable p) (l : y ≤ p .size .height) where
