@@ -9,7 +9,7 @@ use borrow.Author.Tests.{leb-true}
 use lib.Dec.{leb, lit<, lit≤}
 use lib.ListN.{length}
 use Rattle.refusal.specs.Numbers.{scratchNo}
-use Rattle.refusal.proofs.Chain.{and-left, and-right, passed}
+use Rattle.refusal.proofs.Chain.{and-left, and-right, halves, passed}
 use Rattle.plane.specs.Limits.{mostDepth}
 use Rattle.plane.specs.Plane.{Planes, maxOf, both}
 use Rattle.plane.specs.Tests.{pairTests, pairRefusal}
@@ -17,7 +17,6 @@ use Rattle.plane.proofs.Accept.{accepted, plane-named}
 use Rattle.plane.proofs.Several.{planes-pass}
 use Rattle.window.specs.Moments.{mostSample}
 use Rattle.window.proofs.Demand.{scales, scaleMax, scale-small}
-use Rattle.ssim.proofs.Accept.{halves}
 use Rattle.msssim.specs.Scale.{scaleCount}
 use Rattle.msssim.specs.Scratch.{Scratch, placesNeeded, samplesNeeded, scratchSuits}
 use Rattle.msssim.specs.Answer.{leastSide, msssimRefusal}

@@ -12,7 +12,7 @@ use Rattle.plane.specs.Limits.{mostDepth}
 use Rattle.plane.specs.Plane.{Planes}
 use Rattle.plane.specs.Inner.Lawful.{AcceptedPair}
 use Rattle.window.specs.Kernel.{fixedKernel, fixedTotal}
-use Rattle.window.proofs.Demand.{Bounded, Demanded, scales, scaleMax, fixed-sums}
+use Rattle.window.proofs.Demand.{BoundedView, Demanded, scales, scaleMax, fixed-sums}
 use Rattle.downscale.proofs.Summed.{summed-most}
 use Rattle.msssim.specs.Scale.{Scale, scaleCount, belowOf, scaleTotals, meanSsim, meanCs, pairsFrom}
 use Rattle.msssim.specs.Answer.{leastSide, firstScale}
@@ -24,7 +24,7 @@ scaleAt s (suc k) = scaleAt (belowOf s) k
 
 -- no sample of either plane is above the scale's largest
 abbrev Small : Scale → Type 0
-Small s = Bounded (s .max) (s .width) (s .height) (s .a) × Bounded (s .max) (s .width) (s .height) (s .b)
+Small s = BoundedView (s .max) (s .width) (s .height) (s .a) × BoundedView (s .max) (s .width) (s .height) (s .b)
 
 scale-small : (k : ℕ) (s : Scale) → Small s → Small (scaleAt s k)
 unfolding scaleAt
@@ -71,8 +71,8 @@ module _ (p : Planes) (k : ℕ) (c : AcceptedPair p leastSide) where
       scale-sides k (firstScale p) (le-trans reach (c .sized .width-reaches)) (le-trans reach (c .sized .height-reaches))
 
   -- no sample is above sample_max × 4^k
-  pub samples-stay : (Bounded (scaleMax depth k) (at-scale .width) (at-scale .height) (at-scale .a))
-      × (Bounded (scaleMax depth k) (at-scale .width) (at-scale .height) (at-scale .b))
+  pub samples-stay : (BoundedView (scaleMax depth k) (at-scale .width) (at-scale .height) (at-scale .a))
+      × (BoundedView (scaleMax depth k) (at-scale .width) (at-scale .height) (at-scale .b))
   unfolding scaleMax
   samples-stay =
       let first = firstScale p in

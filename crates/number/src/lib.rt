@@ -5,7 +5,7 @@ ghost use mathlib.Core.Bool.{false};
 ghost use lib.Ieee.{binary64, units};
 ghost use lib.Ieee.Scale as Scale;
 ghost use Rattle.number.specs.Limits.{exactLimit};
-ghost use Rattle.number.specs.Steps.{double};
+ghost use Rattle.number.specs.Steps as Steps;
 ghost use Rattle.number.specs.Root.{nearestRoot, rootOf};
 
 mod near;
@@ -63,9 +63,20 @@ fn scaled_root(m: u64, w: u64) -> f64
 // The double that equals n, by one machine conversion.
 pub fn exact(n: u64) -> f64
     requires { ⌜ n ≤ exactLimit ⌝ }
-    ensures { λ r. ⌜ r ≡ double n ⌝ }
+    ensures { λ r. ⌜ r ≡ Steps.double n ⌝ }
 {
     (n as i64) as f64
+}
+
+// The double nearest n, ties to even. Most numbers are exact, which is one conversion of the machine's.
+pub fn double(n: u64) -> f64
+    ensures { λ r. ⌜ r ≡ Steps.double n ⌝ }
+{
+    if n <= EXACT_LIMIT {
+        exact(n)
+    } else {
+        std::num::nearest_u64_to_f64(n)
+    }
 }
 
 // Neither infinite nor not a number.

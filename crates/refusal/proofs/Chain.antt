@@ -54,6 +54,12 @@ head [] more h = absurd (h refl)
 head ((n, true) ∷ later) more h = head later more h
 head ((n, false) ∷ later) more h = refl
 
+-- neither list has a broken test where the two together have none
+pub halves : (ts more : List (ℕ × Bool)) → Named ts → firstBroken (ts ++ more) ≡ 0 → (firstBroken ts ≡ 0) × (firstBroken more ≡ 0)
+halves [] more named e = (refl, e)
+halves ((n, true) ∷ later) more named e = halves later more (named .1) e
+halves ((n, false) ∷ later) more named e = absurd (omega (arith, named .0, e))
+
 -- it refused: that is the answer
 pub stop : {n : ℕ} (ts more : List (ℕ × Bool)) → n ≡ firstBroken ts → (n ≡ 0 → ⊥) → n ≡ firstBroken (ts ++ more)
 stop ts more e h = e ∙ head ts more (λ z. h (e ∙ z))

@@ -1,7 +1,7 @@
 -- What holds where no test of SSIM refuses, and what the answer is where one does. Assumes nothing.
-use mathlib.Core.Path.{_≡_, refl, sym, _∙_}
+use mathlib.Core.Path.{_≡_, sym, _∙_}
 use mathlib.Core.Bool.{Bool, true, false}
-use mathlib.Core.List.{List, [], _∷_, _++_}
+use mathlib.Core.List.{List}
 use Prim.Native.Nat.{ℕ, _+_, _*_, _/_, _≤_, _<_}
 use native.Mathlib.Nat.{mul-le-mul-left, mul-add, mul-comm, mul-assoc}
 use native.Mathlib.Omega.{arith}
@@ -9,8 +9,7 @@ use borrow.Author.Tests.{leb-true, le-leb, lt-leb}
 use lib.Dec.{lit≤}
 use lib.ListN.{length}
 use Rattle.refusal.specs.Numbers.{kernelNo, scratchNo}
-use Rattle.refusal.specs.First.{firstBroken}
-use Rattle.refusal.proofs.Chain.{Named, passed}
+use Rattle.refusal.proofs.Chain.{halves, passed}
 use Rattle.plane.specs.Plane.{Planes, both}
 use Rattle.plane.specs.Tests.{pairTests, pairRefusal}
 use Rattle.plane.proofs.Accept.{accepted, plane-named}
@@ -53,12 +52,6 @@ module _ (p : Planes) (ker : List ℕ) (lent : ℕ) {n : ℕ} (e : n ≡ pairRef
   none-refuses z f l = planes-pass (p .size) (both p) 0 e own z (rw (f, le-leb _ _ l))
 
 -- ---- none of them refuses
-
--- none of two lists of tests refuses, so neither does
-pub halves : (ts more : List (ℕ × Bool)) → Named ts → firstBroken (ts ++ more) ≡ 0 → (firstBroken ts ≡ 0) × (firstBroken more ≡ 0)
-halves [] more named e = (refl, e)
-halves ((n, true) ∷ later) more named e = halves later more (named .1) e
-halves ((n, false) ∷ later) more named e = absurd (omega (arith, named .0, e))
 
 -- the columns and their margins, five places each: width + 2 off is at most width × (2 off + 1), so at most width × L
 room : (width : ℕ) (ker : List ℕ) → 1 ≤ width → length ker ≡ 2 * (length ker / 2) + 1 → 5 * columnsOf ker width ≤ scratchPlaces width (length ker)

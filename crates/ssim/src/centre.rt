@@ -12,37 +12,23 @@ const SSIM_K1: f64 = 0.01 * 0.01;
 
 const SSIM_K2: f64 = 0.03 * 0.03;
 
-// Up to here a double leaves out no whole number.
-const EXACT: u64 = 0x20_0000_0000_0000;
-
-// The double nearest n, ties to even. Most numbers are exact, which is one conversion of the machine's.
-fn double(n: u64) -> f64
-    ensures { λ r. ⌜ r ≡ Steps.double n ⌝ }
-{
-    if n <= EXACT {
-        number::exact(n)
-    } else {
-        std::num::nearest_u64_to_f64(n)
-    }
-}
-
 // max² as a double.
 pub fn squared(max: u32) -> f64
     ensures { λ r. ⌜ r ≡ Steps.double (max * max) ⌝ }
 {
-    double((max as u64) * (max as u64))
+    number::double((max as u64) * (max as u64))
 }
 
 // One centre more. `max2` is the square of the largest sample.
 pub fn step(max2: f64, t: Totals, moments: Moments) -> Totals
     ensures { λ r. ⌜ r ≡ withCentre max2 t moments ⌝ }
 {
-    let w = double(moments.w);
-    let mux = double(moments.mux);
-    let muy = double(moments.muy);
-    let x2 = double(moments.x2);
-    let xy = double(moments.xy);
-    let y2 = double(moments.y2);
+    let w = number::double(moments.w);
+    let mux = number::double(moments.mux);
+    let muy = number::double(moments.muy);
+    let x2 = number::double(moments.x2);
+    let xy = number::double(moments.xy);
+    let y2 = number::double(moments.y2);
     let c1 = max2 * SSIM_K1 * (w * w);
     let c2 = max2 * SSIM_K2 * (w * w);
     let mx2 = mux * mux;

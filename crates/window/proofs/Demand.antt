@@ -24,8 +24,8 @@ use Rattle.window.proofs.Centre.Places.{moment-le, weight-some, moment-
 -- ---- the laws
 
 -- no sample of a view is above B, at the places inside the plane
-abbrev pub Bounded : ℕ → ℕ → ℕ → (ℕ → ℕ → ℕ) → Type 0
-Bounded B width height v = (r c : ℕ) → r < height → c < width → v r c ≤ B
+abbrev pub BoundedView : ℕ → ℕ → ℕ → (ℕ → ℕ → ℕ) → Type 0
+BoundedView B width height v = (r c : ℕ) → r < height → c < width → v r c ≤ B
 
 module _ (ker : List ℕ) (width height : ℕ) (a b : ℕ → ℕ → ℕ) (x y : ℕ) where
   abbrev mux : ℕ
@@ -63,7 +63,7 @@ module _ (ker : List ℕ) (width height : ℕ) (a b : ℕ → ℕ → ℕ) (x y 
     pub y2-most : y2 ≤ total * total * (B * B)
     pub w-most : w ≤ total * total
 
-  pub sums-most : (total B : ℕ) → lawful total ker ≡ true → Bounded B width height a → Bounded B width height b → Most total B
+  pub sums-most : (total B : ℕ) → lawful total ker ≡ true → BoundedView B width height a → BoundedView B width height b → Most total B
   sums-most total B ok h k =
       record {
         mux-most = most a B h;
@@ -74,7 +74,7 @@ module _ (ker : List ℕ) (width height : ℕ) (a b : ℕ → ℕ → ℕ) (x y 
         w-most = rw mul-one at (most (λ (r c : ℕ). 1) 1 (λ r c l m. le-refl 1));
       }
     where
-      most : (v : ℕ → ℕ → ℕ) (C : ℕ) → Bounded C width height v → momentAt ker width height v x y ≤ total * total * C
+      most : (v : ℕ → ℕ → ℕ) (C : ℕ) → BoundedView C width height v → momentAt ker width height v x y ≤ total * total * C
       most v C bounded =
           rw (mul-comm (total * total) C, ← mul-assoc C total total) (rw (kernel-says total ker ok .sum) at (moment-le ker width height v C bounded x y))
 
@@ -87,7 +87,7 @@ module _ (ker : List ℕ) (width height : ℕ) (a b : ℕ → ℕ → ℕ) (x y 
     pub y2-fits : y2 < 2 ^ 63
     pub w-fits : w < 2 ^ 63
 
-  pub sums-fit : (total B : ℕ) → lawful total ker ≡ true → total ≤ fixedTotal → B ≤ mostSample → Bounded B width height a → Bounded B width height b → Fit
+  pub sums-fit : (total B : ℕ) → lawful total ker ≡ true → total ≤ fixedTotal → B ≤ mostSample → BoundedView B width height a → BoundedView B width height b → Fit
   unfolding mostSample fixedTotal
   sums-fit total B ok t s h k =
       let most = sums-most total B ok h k in
@@ -141,7 +141,7 @@ module _ (ker : List ℕ) (width height : ℕ) (a b : ℕ → ℕ → ℕ) (x y 
     pub exchanged : Exchanged
     pub schwarz : Schwarz
 
-  demanded : (total B : ℕ) → lawful total ker ≡ true → total ≤ fixedTotal → B ≤ mostSample → Bounded B width height a → Bounded B width height b
+  demanded : (total B : ℕ) → lawful total ker ≡ true → total ≤ fixedTotal → B ≤ mostSample → BoundedView B width height a → BoundedView B width height b
       → x < width → y < height → Demanded total B
   demanded total B ok t s h k l m =
       record {
@@ -190,7 +190,7 @@ lent-sums p least c ker ok x y l m =
 
 -- MS-SSIM's own, over the summed samples of each of the five scales
 pub fixed-sums : (depth k : ℕ) → depth ≤ mostDepth true → k < scales → (width height : ℕ) (a b : ℕ → ℕ → ℕ)
-    → Bounded (scaleMax depth k) width height a → Bounded (scaleMax depth k) width height b
+    → BoundedView (scaleMax depth k) width height a → BoundedView (scaleMax depth k) width height b
     → (x y : ℕ) → x < width → y < height → Demanded fixedKernel width height a b x y fixedTotal (scaleMax depth k)
 fixed-sums depth k d n width height a b h i x y l m =
     demanded fixedKernel width height a b x y fixedTotal (scaleMax depth k) fixed-lawful (le-refl fixedTotal) (scale-small depth k d n) h i l m
