@@ -7,11 +7,11 @@ use lib.Dec.{lit≤}
 use lib.IntN.{ℤ, pos, natAbs}
 use lib.ListN.{getD}
 use Rattle.plane.specs.Limits.{mostDepth}
-use Rattle.plane.specs.Plane.{maxOf}
+use Rattle.plane.specs.Plane.{maxOf, sampleLimit}
 use Rattle.plane.proofs.Depth.{max-small}
 use Rattle.dct.specs.Limits.{forwardLimit}
 use Rattle.lifting.specs.Inner.Within.{AllWithin}
-use Rattle.hvs_block.specs.Inner.Levels.{sampleLimit, Sample, Samples}
+use Rattle.hvs_block.specs.Inner.Levels.{Sample, Samples}
 
 pub limit-small : sampleLimit ≤ 2 ^ 12
 limit-small = le-of-lt (max-small true (le-refl (mostDepth true)))

@@ -10,13 +10,13 @@ use lib.IntN.{ℤ}
 use lib.ListN.{length}
 use lib.Ieee.{Float}
 use Rattle.plane.specs.declared.Size.{Size}
-use Rattle.plane.specs.Plane.{Plane, Planes}
+use Rattle.plane.specs.Plane.{Plane, Planes, sampleLimit}
 use Rattle.plane.specs.Inner.Lawful.{Bounded}
 use Rattle.number.specs.Steps.{listTo}
 use Rattle.number.proofs.Folds.{fold-more}
 use Rattle.number.proofs.Lists.{list-length}
 use Rattle.dct.specs.Limits.{blockSize}
-use Rattle.hvs_block.specs.Inner.Levels.{sampleLimit, Sample, Samples}
+use Rattle.hvs_block.specs.Inner.Levels.{Sample, Samples}
 use Rattle.psnr_hvs.specs.Score.{blockSide, blockStep, blocksPerSide, sampleIn, blockAt, withBlocks, alongRow, downRows}
 use Rattle.psnr_hvs.specs.Inner.Blocks.{BlockFits}
 

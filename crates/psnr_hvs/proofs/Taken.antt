@@ -5,11 +5,10 @@ use native.Mathlib.Nat.{mul-le-mul, le-trans, le-refl}
 use native.Mathlib.Omega.{arith}
 use lib.Dec.{lit≤}
 use Rattle.plane.specs.Limits.{sideLimit, mostDepth}
-use Rattle.plane.specs.Plane.{Planes, maxOf}
+use Rattle.plane.specs.Plane.{Planes, maxOf, sampleLimit}
 use Rattle.plane.specs.Inner.Lawful.{BoundedPair, AcceptedPair}
 use Rattle.plane.proofs.Limits.{side-small}
 use Rattle.plane.proofs.Depth.{max-grows, max-small}
-use Rattle.hvs_block.specs.Inner.Levels.{sampleLimit}
 use Rattle.psnr_hvs.specs.Score.{blocksPerSide}
 
 -- words have the largest samples

@@ -2,11 +2,11 @@
 ghost use mathlib.Core.Path.{_≡_};
 ghost use Rattle.plane.specs.Inner.Lent.{lent, planes};
 ghost use Rattle.plane.specs.Inner.Lawful.{Bounded, BoundedPair};
-ghost use Rattle.hvs_block.specs.Inner.Levels.{sampleLimit};
 ghost use Rattle.psnr_hvs.specs.Score.{blockAt, withBlocks};
 ghost use Rattle.psnr_hvs.specs.Inner.Blocks.{BlockFits};
 use plane::Layout;
 use plane::Size;
+ghost use Rattle.plane.specs.Plane.{sampleLimit};
 
 // The block whose first sample is (x, y).
 fn loaded(bytes: &[u8], words: &[u16], size: Size, stride: usize, x: usize, y: usize) -> [i32; 64]

@@ -9,7 +9,7 @@ ghost use lib.Signed.{nonNeg};
 ghost use Rattle.plane.specs.Limits.{sideLimit};
 ghost use Rattle.plane.specs.Sums.{sumTo};
 ghost use Rattle.window.specs.Kernel.{tap, fixedTotal};
-ghost use Rattle.window.specs.Inner.Parts.{Kernel, tappedOf, Room, nth, fiveOf, acrossOf, weightOf};
+ghost use Rattle.window.specs.Inner.Parts.{Kernel, tappedOf, Room, nth, fiveSumsOf, acrossOf, weightOf};
 ghost use Rattle.window.specs.Inner.Columns.{atZ, cellOf, columnsOf, ColumnSum, ColumnSums, momentsIn};
 use crate::FiveSums;
 use crate::Moments;
@@ -36,7 +36,7 @@ fn get(cols: &[i64], i: usize) -> u64
 fn cells(cols: &[i64], n: usize, c: usize) -> FiveSums
     requires { ⌜ (c < n) × (5 * n ≤ length (now cols)) ⌝ }
     requires { ⌜ ColumnSums (now cols) (5 * n) ⌝ }
-    ensures { λ r. ⌜ r ≡ fiveOf (λ (m : ℕ). cellOf (now (cols .entry)) m c) ⌝ }
+    ensures { λ r. ⌜ r ≡ fiveSumsOf (λ (m : ℕ). cellOf (now (cols .entry)) m c) ⌝ }
 {
     let at = 5 * c;
     FiveSums {
@@ -52,7 +52,7 @@ fn cells(cols: &[i64], n: usize, c: usize) -> FiveSums
 fn pair(cols: &[i64], n: usize, i: usize, j: usize) -> FiveSums
     requires { ⌜ (i < n) × (j < n) × (5 * n ≤ length (now cols)) ⌝ }
     requires { ⌜ ColumnSums (now cols) (5 * n) ⌝ }
-    ensures { λ r. ⌜ r ≡ fiveOf (λ (m : ℕ). cellOf (now (cols .entry)) m i + cellOf (now (cols .entry)) m j) ⌝ }
+    ensures { λ r. ⌜ r ≡ fiveSumsOf (λ (m : ℕ). cellOf (now (cols .entry)) m i + cellOf (now (cols .entry)) m j) ⌝ }
 {
     let s = cells(cols, n, i);
     let u = cells(cols, n, j);
@@ -92,7 +92,7 @@ fn tapped(t: FiveSums, tap: u16, s: FiveSums) -> FiveSums
 
 // No tap yet.
 fn none() -> FiveSums
-    ensures { λ r. ⌜ r ≡ fiveOf (λ (m : ℕ). 0) ⌝ }
+    ensures { λ r. ⌜ r ≡ fiveSumsOf (λ (m : ℕ). 0) ⌝ }
 {
     FiveSums {
         mux: 0,
@@ -109,7 +109,7 @@ fn along(cols: &[i64], n: usize, kernel: &[u16], x: usize) -> FiveSums
     requires { ⌜ (x + 2 * (length (now kernel) / 2) < n) × (5 * n ≤ length (now cols)) ⌝ }
     requires { ⌜ Kernel (now kernel) ⌝ }
     requires { ⌜ ColumnSums (now cols) (5 * n) ⌝ }
-    ensures { λ r. ⌜ r ≡ fiveOf (λ (m : ℕ). acrossOf (now (kernel .entry)) (cellOf (now (cols .entry)) m) x) ⌝ }
+    ensures { λ r. ⌜ r ≡ fiveSumsOf (λ (m : ℕ). acrossOf (now (kernel .entry)) (cellOf (now (cols .entry)) m) x) ⌝ }
 {
     let off = kernel.len() / 2;
     let mut t = tapped(none(), kernel[off], cells(cols, n, x + off));

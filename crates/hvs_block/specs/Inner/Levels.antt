@@ -1,18 +1,12 @@
 -- What the functions that work out variances by whole numbers promise each other. Definitions only.
-use mathlib.Core.Bool.{true}
 use mathlib.Core.List.{List, [], _∷_}
 use Prim.Native.Nat.{ℕ, _+_, _*_, _/_, _%_, _≤_}
 use lib.Dec.{T}
 use lib.IntN.{ℤ, natAbs}
 use lib.Signed.{nonNeg}
-use Rattle.plane.specs.Limits.{mostDepth}
-use Rattle.plane.specs.Plane.{maxOf}
+use Rattle.plane.specs.Plane.{sampleLimit}
 use Rattle.plane.specs.Sums.{sumTo}
 use Rattle.hvs_block.specs.Block.{cell}
-
--- the largest sample of any plane
-abbrev pub sampleLimit : ℕ
-sampleLimit = maxOf (mostDepth true)
 
 -- a number of a block of samples
 pub record Sample (z : ℤ) : Type 0 where

@@ -6,14 +6,14 @@ use native.Mathlib.Omega.{arith}
 use lib.ListN.{length}
 use Rattle.window.specs.Kernel.{tap}
 use Rattle.window.specs.Moments.{mostSample}
-use Rattle.window.specs.Inner.Parts.{Kernel, quantOf, fiveOf, tappedOf, Room}
+use Rattle.window.specs.Inner.Parts.{Kernel, quantOf, fiveSumsOf, tappedOf, Room}
 use Rattle.window.specs.Inner.Columns.{columnTo, Fits}
 use Rattle.window.specs.declared.FiveSums.{FiveSums}
 use Rattle.window.proofs.Sums.Five.{quant-le, quant-small, parts-more, parts-first, parts-last, parts-room, parts-low}
 
 module _ (ker : List ℕ) (height : ℕ) (a b : ℕ → ℕ → ℕ) (x y k : ℕ) where
   -- no tap before the first inside counts
-  pub column-none : k ≤ length ker / 2 - y → fiveOf (λ (m : ℕ). 0) ≡ columnTo ker height a b x y k
+  pub column-none : k ≤ length ker / 2 - y → fiveSumsOf (λ (m : ℕ). 0) ≡ columnTo ker height a b x y k
   unfolding columnTo
   column-none l = sym (parts-first ker height _ y k l)
 

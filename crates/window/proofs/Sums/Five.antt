@@ -8,18 +8,18 @@ use lib.Dec.{lit<, lit≤}
 use lib.IntN.{ℤ}
 use lib.ListN.{length}
 use Rattle.window.specs.Kernel.{tap, fixedTotal}
-use Rattle.window.specs.Inner.Parts.{partOf, Kernel, quantOf, fiveOf, nth, tappedOf, Room, partsOf}
+use Rattle.window.specs.Inner.Parts.{partOf, Kernel, quantOf, fiveSumsOf, nth, tappedOf, Room, partsOf}
 use Rattle.window.specs.Inner.Columns.{Fits, cellOf, ColumnSums}
 use Rattle.window.specs.Moments.{mostSample}
 use Rattle.window.specs.declared.FiveSums.{FiveSums}
 use Rattle.window.proofs.Sums.Windows.{part-more, part-first, part-last, part-room, part-le}
 
 -- g and h agree
-pub five-ext : (g h : ℕ → ℕ) → ((m : ℕ) → g m ≡ h m) → fiveOf g ≡ fiveOf h
+pub five-ext : (g h : ℕ → ℕ) → ((m : ℕ) → g m ≡ h m) → fiveSumsOf g ≡ fiveSumsOf h
 five-ext g h e = simp (e 0, e 1, e 2, e 3, e 4)
 
 -- number m of five is what stands there
-pub nth-of : (P : ℕ → ℕ → Type 0) (g : ℕ → ℕ) → ((m : ℕ) → m < 5 → P m (g m)) → (m : ℕ) → m < 5 → P m (nth (fiveOf g) m)
+pub nth-of : (P : ℕ → ℕ → Type 0) (g : ℕ → ℕ) → ((m : ℕ) → m < 5 → P m (g m)) → (m : ℕ) → m < 5 → P m (nth (fiveSumsOf g) m)
 nth-of P g h zero l = h 0 l
 nth-of P g h (suc zero) l = h 1 l
 nth-of P g h (suc (suc zero)) l = h 2 l
@@ -27,11 +27,11 @@ nth-of P g h (suc (suc (suc zero))) l = h 3 l
 nth-of P g h (suc (suc (suc (suc zero)))) l = h 4 l
 nth-of P g h (suc (suc (suc (suc (suc m))))) l = let z : ⊥ = omega arith in absurd z
 
-pub nth-five : (g : ℕ → ℕ) (m : ℕ) → m < 5 → nth (fiveOf g) m ≡ g m
+pub nth-five : (g : ℕ → ℕ) (m : ℕ) → m < 5 → nth (fiveSumsOf g) m ≡ g m
 nth-five g = nth-of (λ (i v : ℕ). v ≡ g i) g (λ i l. refl)
 
 -- what holds at each of the five holds of any number of them
-nth-all : (P : ℕ → Type 0) (g : ℕ → ℕ) → ((m : ℕ) → P (g m)) → (m : ℕ) → P (nth (fiveOf g) m)
+nth-all : (P : ℕ → Type 0) (g : ℕ → ℕ) → ((m : ℕ) → P (g m)) → (m : ℕ) → P (nth (fiveSumsOf g) m)
 nth-all P g h zero = h 0
 nth-all P g h (suc zero) = h 1
 nth-all P g h (suc (suc zero)) = h 2
@@ -67,7 +67,7 @@ module _ (ker : List ℕ) (side : ℕ) (f : ℕ → ℕ → ℕ) (x : ℕ) where
   parts-more k l n =
       five-ext _ (λ (m : ℕ). partOf ker side (f m) x k + tap ker k * f m (x + k - length ker / 2)) (λ m. part-more ker side (f m) x k l n)
 
-  pub parts-first : (k : ℕ) → k ≤ length ker / 2 - x → partsOf ker side f x k ≡ fiveOf (λ (m : ℕ). 0)
+  pub parts-first : (k : ℕ) → k ≤ length ker / 2 - x → partsOf ker side f x k ≡ fiveSumsOf (λ (m : ℕ). 0)
   unfolding partsOf
   parts-first k l = five-ext _ _ (λ m. part-first ker side (f m) x k l)
 
@@ -99,7 +99,7 @@ module _ (ker : List ℕ) (side : ℕ) (f : ℕ → ℕ → ℕ) (x : ℕ) where
       (λ m. lt-of-le-of-lt (le-trans (part-le ker side (f m) x (2 ^ 40) r (h m) _ (le-refl _)) column-room) (lit< tt)))
 
 -- what was read from scratch is small
-pub cells-low : (s : List ℤ) (n c : ℕ) (t : FiveSums) → t ≡ fiveOf (λ (m : ℕ). cellOf s m c) → ColumnSums s (5 * n) → c < n
+pub cells-low : (s : List ℤ) (n c : ℕ) (t : FiveSums) → t ≡ fiveSumsOf (λ (m : ℕ). cellOf s m c) → ColumnSums s (5 * n) → c < n
     → (m : ℕ) → m < 5 → nth t m ≤ 2 ^ 50
 cells-low s n c t e small l =
     rw e (nth-of (λ (m v : ℕ). v ≤ 2 ^ 50) (λ (m : ℕ). cellOf s m c) (λ m q. small (5 * c + m) (omega arith) .low))

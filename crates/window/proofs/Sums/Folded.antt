@@ -9,7 +9,7 @@ use lib.ListN.{length}
 use Rattle.plane.specs.Sums.{sumTo}
 use Rattle.plane.proofs.Sums.{sum-none, sum-more, sum-mono, sum-mul, sum-le, sum-ext, sum-fold}
 use Rattle.window.specs.Kernel.{tap, fixedTotal}
-use Rattle.window.specs.Inner.Parts.{Kernel, acrossOf, foldedOf, foldsOf, fiveOf, tappedOf, Room}
+use Rattle.window.specs.Inner.Parts.{Kernel, acrossOf, foldedOf, foldsOf, fiveSumsOf, tappedOf, Room}
 use Rattle.window.specs.declared.FiveSums.{FiveSums}
 use Rattle.window.proofs.Sums.Five.{five-ext, nth-of, row-room}
 
@@ -62,7 +62,7 @@ module _ (ker : List ℕ) (g : ℕ → ℕ) (x : ℕ) where
 
 -- five at once, over values of at most 2 ^ 50
 module _ (ker : List ℕ) (g : ℕ → ℕ → ℕ) (x : ℕ) where
-  pub folds-none : foldsOf ker g x 0 ≡ tappedOf (fiveOf (λ (m : ℕ). 0)) (tap ker (length ker / 2)) (λ (m : ℕ). g m (x + length ker / 2))
+  pub folds-none : foldsOf ker g x 0 ≡ tappedOf (fiveSumsOf (λ (m : ℕ). 0)) (tap ker (length ker / 2)) (λ (m : ℕ). g m (x + length ker / 2))
   unfolding foldsOf
   folds-none = five-ext _ (λ (m : ℕ). 0 + tap ker (length ker / 2) * g m (x + length ker / 2)) (λ m. folded-none ker (g m) x)
 
@@ -73,7 +73,7 @@ module _ (ker : List ℕ) (g : ℕ → ℕ → ℕ) (x : ℕ) where
       five-ext _ (λ (m : ℕ). foldedOf ker (g m) x k + tap ker k * (g m (x + k) + g m (x + 2 * (length ker / 2) - k)))
       (λ m. folded-more ker (g m) x k)
 
-  pub folds-all : Kernel ker → foldsOf ker g x (length ker / 2) ≡ fiveOf (λ (m : ℕ). acrossOf ker (g m) x)
+  pub folds-all : Kernel ker → foldsOf ker g x (length ker / 2) ≡ fiveSumsOf (λ (m : ℕ). acrossOf ker (g m) x)
   unfolding foldsOf
   folds-all r = five-ext _ _ (λ m. folded-all ker (g m) x r)
 
@@ -81,7 +81,7 @@ module _ (ker : List ℕ) (g : ℕ → ℕ → ℕ) (x : ℕ) where
     low : {v : ℕ} → v ≤ (2 ^ 50) * fixedTotal → v < 2 ^ 64
     low l = omega (arith, row-room)
 
-    pub middle-room : Room (fiveOf (λ (m : ℕ). 0)) (tap ker (length ker / 2)) (λ (m : ℕ). g m (x + length ker / 2))
+    pub middle-room : Room (fiveSumsOf (λ (m : ℕ). 0)) (tap ker (length ker / 2)) (λ (m : ℕ). g m (x + length ker / 2))
     middle-room =
         nth-of (λ (m v : ℕ). v + tap ker (length ker / 2) * g m (x + length ker / 2) < 2 ^ 64) (λ (m : ℕ). 0)
         (λ m l. low (rw (folded-none ker (g m) x) at (folded-le ker (g m) x (2 ^ 50) 0 r (small m l) (omega arith))))

@@ -51,8 +51,8 @@ quantOf (suc (suc (suc zero))) a b = a * b
 quantOf (suc (suc (suc (suc m)))) a b = b * b
 
 -- the five numbers that g gives at 0 to 4
-abbrev pub fiveOf : (ℕ → ℕ) → FiveSums
-fiveOf g = record { mux = g 0; muy = g 1; x2 = g 2; xy = g 3; y2 = g 4 }
+abbrev pub fiveSumsOf : (ℕ → ℕ) → FiveSums
+fiveSumsOf g = record { mux = g 0; muy = g 1; x2 = g 2; xy = g 3; y2 = g 4 }
 
 -- number m of five
 abbrev pub nth : FiveSums → ℕ → ℕ
@@ -64,7 +64,7 @@ nth t (suc (suc (suc (suc m)))) = t .y2
 
 -- one tap more of each
 abbrev pub tappedOf : FiveSums → ℕ → (ℕ → ℕ) → FiveSums
-tappedOf t k g = fiveOf (λ (m : ℕ). nth t m + k * g m)
+tappedOf t k g = fiveSumsOf (λ (m : ℕ). nth t m + k * g m)
 
 -- and there is room for it
 abbrev pub Room : FiveSums → ℕ → (ℕ → ℕ) → Type 0
@@ -72,8 +72,8 @@ Room t k g = (m : ℕ) → m < 5 → nth t m + k * g m < 2 ^ 64
 
 -- the first n taps over five functions
 unfoldable pub partsOf : List ℕ → ℕ → (ℕ → ℕ → ℕ) → ℕ → ℕ → FiveSums
-partsOf ker side f x n = fiveOf (λ (m : ℕ). partOf ker side (f m) x n)
+partsOf ker side f x n = fiveSumsOf (λ (m : ℕ). partOf ker side (f m) x n)
 
 -- five folded sums
 unfoldable pub foldsOf : List ℕ → (ℕ → ℕ → ℕ) → ℕ → ℕ → FiveSums
-foldsOf ker g x n = fiveOf (λ (m : ℕ). foldedOf ker (g m) x n)
+foldsOf ker g x n = fiveSumsOf (λ (m : ℕ). foldedOf ker (g m) x n)
