@@ -1,5 +1,5 @@
 -- What combining answers case by case, and the laws of its figures.
-pub mod Answers
+mod Answers
 pub mod Overflow
 pub mod Swap
 pub mod Weight

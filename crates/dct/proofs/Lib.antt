@@ -1,5 +1,5 @@
 pub mod Blocks
 pub mod Round
 pub mod Bound
-pub mod Range
+mod Range
 pub mod Calls

@@ -1,21 +1,14 @@
 -- Laws of the lent 32-bit places: one store more in a row, and one row more. Assumes nothing.
 use mathlib.Core.Path.{_≡_, refl, _∙_}
 use mathlib.Core.List.{List}
-use Prim.Native.Nat.{ℕ, _+_, _*_, _≤_, _<_, _^_}
-use native.Mathlib.Nat.{ne-of-lt, add-mul, one-mul, mul-le-mul, mul-le-mul-right, lt-of-le-of-lt}
+use Prim.Native.Nat.{ℕ, _+_, _*_, _<_}
+use native.Mathlib.Nat.{ne-of-lt, add-mul, one-mul, mul-le-mul-right}
 use native.Mathlib.Omega.{arith}
 use borrow.Author.Count.{below-more, below-none}
-use lib.Dec.{lit<}
 use lib.ListN.{length, set}
 use lib.Seq.{getD-set-same, getD-set-other}
-use Rattle.plane.specs.Limits.{sideLimit}
 use Rattle.plane.specs.Plane.{at}
 use Rattle.downscale.specs.Inner.Longs.{Put, Filled}
-
--- the samples of a plane can be counted
-pub area-fits : {width height : ℕ} → width ≤ sideLimit → height ≤ sideLimit → width * height < 2 ^ 64
-unfolding sideLimit
-area-fits w h = lt-of-le-of-lt (mul-le-mul w h) (lit< tt)
 
 -- ---- a row
 pub put-none : (l : List ℕ) (from : ℕ) (g : ℕ → ℕ) → Put l l from 0 g

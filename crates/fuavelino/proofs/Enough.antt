@@ -14,7 +14,7 @@ use Rattle.plane.specs.Limits.{sideLimit}
 use Rattle.plane.specs.Plane.{Planes, both}
 use Rattle.plane.specs.Tests.{sizeTests, layoutTests, pairTests}
 use Rattle.plane.proofs.Accept.{accepted}
-use Rattle.window.specs.Kernel.{mostTaps, lentTotal, lawful}
+use Rattle.kernel.specs.Kernel.{mostTaps, lentTotal, lawful}
 use Rattle.ssim.specs.Scratch.{scratchPlaces}
 use Rattle.ssim.specs.Answer.{lentTests, ssimRefusal}
 use Rattle.ssim.proofs.Accept.{taps-count}

@@ -3,7 +3,7 @@ use mathlib.Core.Bool.{Bool, cond, _&&_}
 use Prim.Native.Nat.{ℕ}
 use lib.Dec.{leb}
 use Rattle.plane.specs.Limits.{sideLimit}
-use Rattle.window.specs.Kernel.{mostTaps}
+use Rattle.kernel.specs.Kernel.{mostTaps}
 use Rattle.ssim.specs.Scratch as ssim
 use Rattle.msssim.specs.Scratch.{placesNeeded, samplesNeeded}
 use Rattle.msssim.specs.Answer.{leastSide}

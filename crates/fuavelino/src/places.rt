@@ -14,7 +14,7 @@ fn is_within(least: usize, most: usize, n: usize) -> bool
 pub extern "C" fn fuavelino_ssim_places(width: usize, taps: usize) -> usize
     ensures { λ r. ⌜ r ≡ ssimPlaces width taps ⌝ }
 {
-    if is_within(1, plane::SIDE_LIMIT, width) & is_within(1, window::MOST_TAPS, taps) {
+    if is_within(1, plane::SIDE_LIMIT, width) & is_within(1, kernel::MOST_TAPS, taps) {
         ssim::scratch_places(width, taps)
     } else {
         0

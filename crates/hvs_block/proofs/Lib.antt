@@ -1,7 +1,7 @@
-pub mod Folds
+mod Folds
 pub mod Numbers
-pub mod Sizes
-pub mod Walks
+mod Sizes
+mod Walks
 pub mod WholeVariance
-pub mod Quarters
+mod Quarters
 pub mod Levels

@@ -1,4 +1,4 @@
 pub mod Size
-pub mod Ring
+mod Ring
 pub mod Forms
 pub mod Trip

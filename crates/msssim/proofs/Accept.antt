@@ -3,7 +3,6 @@ use mathlib.Core.Path.{_≡_, sym, _∙_}
 use mathlib.Core.Bool.{Bool, true, false}
 use mathlib.Core.List.{List, [], _∷_}
 use Prim.Native.Nat.{ℕ, _*_, _≤_, _^_}
-use native.Mathlib.Nat.{le-trans}
 use native.Mathlib.Omega.{arith}
 use borrow.Author.Tests.{leb-true}
 use lib.Dec.{leb, lit<, lit≤}
@@ -16,7 +15,7 @@ use Rattle.plane.specs.Tests.{pairTests, pairRefusal}
 use Rattle.plane.proofs.Accept.{accepted, plane-named}
 use Rattle.plane.proofs.Several.{planes-pass}
 use Rattle.window.specs.Moments.{mostSample}
-use Rattle.window.proofs.Demand.{scales, scaleMax, scale-small}
+use Rattle.msssim.proofs.Demand.{scaleMax, scale-fits}
 use Rattle.msssim.specs.Scale.{scaleCount}
 use Rattle.msssim.specs.Scratch.{Scratch, placesNeeded, samplesNeeded, scratchSuits}
 use Rattle.msssim.specs.Answer.{leastSide, msssimRefusal}
@@ -47,9 +46,5 @@ sound p s e z =
 
 -- ---- the samples of five scales fit
 pub first-fits : (wide : Bool) (depth : ℕ) → depth ≤ mostDepth wide → maxOf depth * 4 ^ scaleCount ≤ 4 * mostSample
-unfolding scaleMax scales scaleCount mostDepth
-first-fits wide depth d = omega (arith, scale-small depth 4 (le-trans d (least wide)) (lit< tt))
-  where
-    least : (wide : Bool) → mostDepth wide ≤ mostDepth true
-    least true = lit≤ tt
-    least false = lit≤ tt
+unfolding scaleMax scaleCount
+first-fits wide depth d = omega (arith, scale-fits wide depth 4 d (lit< tt))

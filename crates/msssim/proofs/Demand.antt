@@ -1,21 +1,37 @@
 -- The third demand at the five scales: no scale of accepted planes is empty, and the samples k scales below the first are at most
 -- sample_max × 4^k, so the laws of the window's sums hold at every centre of every scale. Assumes nothing.
 use mathlib.Core.Path.{_≡_, refl, sym, _∙_}
-use mathlib.Core.Bool.{Bool, true, false}
-use Prim.Native.Nat.{ℕ, zero, suc, _+_, _*_, _/_, _^_, _≤_, _<_}
-use native.Mathlib.Nat.{le-trans, pow-suc, mul-one, pow-le-pow-right}
+use mathlib.Core.Bool.{Bool, true}
+use Prim.Native.Nat.{ℕ, zero, suc, _+_, _*_, _^_, _≤_, _<_}
+use native.Mathlib.Nat.{le-trans, pow-suc, mul-one, pow-le-pow-right, le-refl, mul-le-mul}
 use native.Mathlib.Omega.{arith}
 use lib.Dec.{lit≤, lit<}
 use lib.Ieee.{nan}
 use lib.ListN.{getD}
 use Rattle.plane.specs.Limits.{mostDepth}
-use Rattle.plane.specs.Plane.{Planes}
+use Rattle.plane.specs.Plane.{Planes, maxOf}
 use Rattle.plane.specs.Inner.Lawful.{AcceptedPair}
-use Rattle.window.specs.Kernel.{fixedKernel, fixedTotal}
-use Rattle.window.proofs.Demand.{BoundedView, Demanded, scales, scaleMax, fixed-sums}
+use Rattle.plane.proofs.Limits.{deepest}
+use Rattle.plane.proofs.Depth.{max-grows}
+use Rattle.kernel.specs.Kernel.{fixedKernel, fixedTotal}
+use Rattle.kernel.proofs.Says.{fixed-lawful}
+use Rattle.window.specs.Moments.{mostSample}
+use Rattle.window.proofs.Demand.{BoundedView, Demanded, demanded}
 use Rattle.downscale.proofs.Summed.{summed-most}
 use Rattle.msssim.specs.Scale.{Scale, scaleCount, belowOf, scaleTotals, meanSsim, meanCs, pairsFrom}
 use Rattle.msssim.specs.Answer.{leastSide, firstScale}
+
+-- ---- how large samples grow
+-- the largest sample k scales below the first: each is made by summing 2×2 samples
+unfoldable pub scaleMax : ℕ → ℕ → ℕ
+scaleMax depth k = maxOf depth * 4 ^ k
+
+pub scale-fits : (wide : Bool) (depth k : ℕ) → depth ≤ mostDepth wide → k < scaleCount → scaleMax depth k ≤ mostSample
+unfolding scaleMax scaleCount mostSample mostDepth maxOf
+scale-fits wide depth k d l =
+    let few : k ≤ 4 = omega arith in
+    let most : depth ≤ mostDepth true = le-trans d (deepest wide) in
+    le-trans (mul-le-mul (max-grows most) (pow-le-pow-right {n = 4} (lit< tt) few)) (lit≤ tt)
 
 -- ---- k scales below a scale
 unfoldable pub scaleAt : Scale → ℕ → Scale
@@ -26,10 +42,10 @@ scaleAt s (suc k) = scaleAt (belowOf s) k
 abbrev Small : Scale → Type 0
 Small s = BoundedView (s .max) (s .width) (s .height) (s .a) × BoundedView (s .max) (s .width) (s .height) (s .b)
 
-scale-small : (k : ℕ) (s : Scale) → Small s → Small (scaleAt s k)
+below-small : (k : ℕ) (s : Scale) → Small s → Small (scaleAt s k)
 unfolding scaleAt
-scale-small zero s h = h
-scale-small (suc k) s h = scale-small k (belowOf s) (summed-most _ _ _ (s .a) (h .0), summed-most _ _ _ (s .b) (h .1))
+below-small zero s h = h
+below-small (suc k) s h = below-small k (belowOf s) (summed-most _ _ _ (s .a) (h .0), summed-most _ _ _ (s .b) (h .1))
 
 scale-max : (k : ℕ) (s : Scale) → scaleAt s k .max ≡ s .max * 4 ^ k
 unfolding scaleAt
@@ -76,15 +92,10 @@ module _ (p : Planes) (k : ℕ) (c : AcceptedPair p leastSide) where
   unfolding scaleMax
   samples-stay =
       let first = firstScale p in
-      rw (scale-max k first) at (scale-small k first (c .each .0 .bounded .small, c .each .1 .0 .bounded .small))
+      rw (scale-max k first) at (below-small k first (c .each .0 .bounded .small, c .each .1 .0 .bounded .small))
 
   pub scale-sums : k < scaleCount → (x y : ℕ) → x < at-scale .width → y < at-scale .height
       → Demanded fixedKernel (at-scale .width) (at-scale .height) (at-scale .a) (at-scale .b) x y fixedTotal (scaleMax depth k)
-  unfolding scaleCount scales mostDepth
   scale-sums n x y l m =
-      fixed-sums depth k (le-trans (c .sized .depth-most) (least (p .size .wide))) n (at-scale .width) (at-scale .height) (at-scale .a) (at-scale .b) (samples-stay .0)
-      (samples-stay .1) x y l m
-    where
-      least : (w : Bool) → mostDepth w ≤ mostDepth true
-      least true = lit≤ tt
-      least false = lit≤ tt
+      demanded fixedKernel (at-scale .width) (at-scale .height) (at-scale .a) (at-scale .b) x y fixedTotal (scaleMax depth k) fixed-lawful (le-refl fixedTotal)
+      (scale-fits (p .size .wide) depth k (c .sized .depth-most) n) (samples-stay .0) (samples-stay .1) l m

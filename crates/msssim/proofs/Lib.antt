@@ -1,5 +1,5 @@
-pub mod ScalePairs
+mod ScalePairs
 pub mod Scratch
-pub mod Accept
+mod Accept
 pub mod Visible
 pub mod Demand

@@ -53,7 +53,7 @@ left-fits (suc n) max l h =
     (omega (arith, e, some), rw (sub-one (suc n)) (omega (arith, e)))
 
 -- ---- the pairs of the scales that are left
-pub pairs-more : (left : ℕ) (s : Scale) → 0 < left → pairsFrom left s ≡ meanSsim (scaleTotals s) ∷ meanCs (scaleTotals s) ∷ pairsFrom (left - 1) (belowOf s)
+pairs-more : (left : ℕ) (s : Scale) → 0 < left → pairsFrom left s ≡ meanSsim (scaleTotals s) ∷ meanCs (scaleTotals s) ∷ pairsFrom (left - 1) (belowOf s)
 unfolding pairsFrom
 pairs-more zero s l = absurd (omega arith)
 pairs-more (suc n) s l = rw (sub-one (suc n))

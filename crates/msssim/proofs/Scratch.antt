@@ -4,7 +4,7 @@ use Prim.Native.Nat.{ℕ, _*_, _≤_}
 use native.Mathlib.Omega.{arith}
 use lib.ListN.{length}
 use Rattle.number.specs.Steps.{foldTo}
-use Rattle.window.specs.Kernel.{fixedKernel}
+use Rattle.kernel.specs.Kernel.{fixedKernel}
 use Rattle.window.specs.Inner.Columns.{columnsOf}
 use Rattle.ssim.specs.Scratch.{doubledBelow, nextPower}
 use Rattle.msssim.specs.Scratch.{placesNeeded}

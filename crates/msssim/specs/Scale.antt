@@ -4,7 +4,7 @@ use mathlib.Core.List.{List, [], _∷_}
 use Prim.Native.Nat.{ℕ, zero, suc, _*_, _/_}
 use lib.Ieee.{Float}
 use Rattle.number.specs.Steps.{_⊘_, double}
-use Rattle.window.specs.Kernel.{fixedKernel}
+use Rattle.kernel.specs.Kernel.{fixedKernel}
 use Rattle.downscale.specs.Summed.{summedOf}
 use Rattle.ssim.specs.Score.{totalsOf}
 use Rattle.ssim.specs.declared.Totals.{Totals}

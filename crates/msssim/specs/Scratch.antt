@@ -7,7 +7,7 @@ use lib.Dec.{leb}
 use lib.IntN.{ℤ, pos}
 use lib.ListN.{length}
 use Rattle.plane.specs.declared.Size.{Size}
-use Rattle.window.specs.Kernel.{fixedKernel}
+use Rattle.kernel.specs.Kernel.{fixedKernel}
 use Rattle.ssim.specs.Scratch.{scratchPlaces, cleared}
 
 -- the scratch of a call: 64-bit places for the window sums, and 32-bit places for the scales of each plane

@@ -90,7 +90,7 @@ module _ (f : ℕ → ℕ) where
   sum-split a (suc b) = rw add-suc (omega (arith, sum-split a b))
 
 -- backwards
-pub sum-back : (f : ℕ → ℕ) (n : ℕ) → sumTo f n ≡ sumTo (λ (k : ℕ). f (n - 1 - k)) n
+sum-back : (f : ℕ → ℕ) (n : ℕ) → sumTo f n ≡ sumTo (λ (k : ℕ). f (n - 1 - k)) n
 unfolding sumTo
 sum-back f zero = refl
 sum-back f (suc n) =

@@ -17,7 +17,7 @@ use Rattle.plane.proofs.Accept.{sides-say}
 use Rattle.plane.proofs.All.{none-at}
 use Rattle.plane.proofs.Rows.{inside}
 use Rattle.window.specs.Moments.{mostSample}
-use Rattle.downscale.proofs.Stored.{area-fits}
+use Rattle.plane.proofs.Limits.{area-fits}
 use Rattle.downscale.proofs.Summed.{area-needed}
 use Rattle.probe.specs.Downscale.{downscaleRefusal, Later}
 

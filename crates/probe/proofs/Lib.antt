@@ -1,1 +1,1 @@
-pub mod Accept
+mod Accept

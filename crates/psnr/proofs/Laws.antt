@@ -14,12 +14,13 @@ use Rattle.plane.specs.Sums.{sumTo}
 use Rattle.plane.specs.Inner.Lawful.{AcceptedPair, Alike, Equivalent}
 use Rattle.plane.proofs.Sums.{sum-ext, sum-zero}
 use Rattle.plane.proofs.Exchange.{refusal-exchanged, refusal-equivalent}
+use Rattle.plane.proofs.Limits.{deepest, area-le}
 use Rattle.number.specs.Limits.{exactLimit}
 use Rattle.number.specs.Steps.{double}
 use Rattle.psnr.specs.Limits.{countLimit, totalLimit}
 use Rattle.psnr.specs.Squared.{squareOf, rowError, errorTo, squaredErrorScore, recordOf, squaredErrorOf}
 use Rattle.psnr.specs.Record.{countSuits, maxSuits, errorSuits, recordSuits}
-use Rattle.psnr.proofs.Squares.{error-le, error-below, deepest, walkable, count-le}
+use Rattle.psnr.proofs.Squares.{error-le, error-below, walkable}
 use Rattle.psnr.proofs.Records.{some-true}
 use Rattle.psnr.proofs.Whole.{whole-back}
 
@@ -91,7 +92,7 @@ module _ {p : Planes} {least : ℕ} (c : AcceptedPair p least) where
   count-ok =
       rw (
         le-leb 1 count (mul-pos (c .sized .width-least) (c .sized .height-least)),
-        le-leb count countLimit (le-trans (count-le (c .sized .width-most) (c .sized .height-most)) counts-fit),
+        le-leb count countLimit (le-trans (area-le (c .sized .width-most) (c .sized .height-most)) counts-fit),
       )
 
   max-ok : maxSuits top ≡ true

@@ -1,6 +1,6 @@
 pub mod Squares
-pub mod Whole
-pub mod Records
+mod Whole
+mod Records
 pub mod Fold
 pub mod Laws
 pub mod Said

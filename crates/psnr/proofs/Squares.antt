@@ -1,17 +1,18 @@
 -- How large the squared error can be, and that planes which no test refuses can be walked. Assumes nothing.
 use mathlib.Core.Path.{_≡_, refl}
-use mathlib.Core.Bool.{Bool, true, false}
+use mathlib.Core.Bool.{true}
 use mathlib.Core.List.{List}
 use Prim.Native.Nat.{ℕ, _+_, _-_, _*_, _^_, _≤_, _<_}
 use native.Mathlib.Nat.{mul-le-mul, mul-le-mul-right, le-trans, lt-of-le-of-lt}
 use native.Mathlib.Omega.{arith}
-use lib.Dec.{lit<, lit≤}
+use lib.Dec.{lit<}
 use Rattle.plane.specs.Limits.{sideLimit, mostDepth}
 use Rattle.plane.specs.declared.Size.{Size}
 use Rattle.plane.specs.Plane.{Plane, Planes, maxOf, sampleLimit, at, sampleAt}
 use Rattle.plane.specs.Inner.Lawful.{Bounded, Lawful, AcceptedPair}
 use Rattle.plane.proofs.Depth.{max-grows}
 use Rattle.plane.proofs.Sums.{sum-none, sum-more, sum-bound}
+use Rattle.plane.proofs.Limits.{deepest}
 use Rattle.psnr.specs.Limits.{totalLimit}
 use Rattle.psnr.specs.Squared.{apart, squareOf, rowError, errorTo}
 use Rattle.psnr.specs.Inner.Walk.{Walkable, squaresFrom}
@@ -87,11 +88,6 @@ module _ {p : Planes} {y : ℕ} (w : Walkable p) (l : y ≤ p .size .height) whe
   error-room = omega (arith, error-below, total-fits)
 
 -- ---- what the walk may count on
-pub deepest : (wide : Bool) → mostDepth wide ≤ mostDepth true
-unfolding mostDepth
-deepest true = lit≤ tt
-deepest false = lit≤ tt
-
 -- no sample of a depth is above the largest of any
 below-limit : {size : Size} {p : Plane} → size .depth ≤ mostDepth true → Lawful size p → Bounded sampleLimit (size .width) (size .height) p
 below-limit d l = record { long = l .bounded .long; small = λ r c lr lc. le-trans (l .bounded .small r c lr lc) (max-grows d) }
@@ -104,11 +100,3 @@ walkable {p} c =
       height-most = c .sized .height-most;
       bounded = record { first = below-limit d (c .each .0); second = below-limit d (c .each .1 .0) };
     }
-
--- ---- how large n can be
-pub count-fits : sideLimit * sideLimit < 2 ^ 64
-unfolding sideLimit
-count-fits = lit< tt
-
-pub count-le : {width height : ℕ} → width ≤ sideLimit → height ≤ sideLimit → width * height ≤ sideLimit * sideLimit
-count-le w h = mul-le-mul w h

@@ -1,3 +1,3 @@
 pub mod Blocks
-pub mod Taken
+mod Taken
 pub mod Visible

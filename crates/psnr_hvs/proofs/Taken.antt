@@ -1,21 +1,14 @@
 -- What planes that no test refuses give the score. Assumes nothing.
-use mathlib.Core.Bool.{Bool, true, false}
+use mathlib.Core.Bool.{Bool}
 use Prim.Native.Nat.{ℕ, _-_, _*_, _≤_, _^_}
-use native.Mathlib.Nat.{mul-le-mul, le-trans, le-refl}
+use native.Mathlib.Nat.{mul-le-mul, le-trans}
 use native.Mathlib.Omega.{arith}
-use lib.Dec.{lit≤}
 use Rattle.plane.specs.Limits.{sideLimit, mostDepth}
 use Rattle.plane.specs.Plane.{Planes, maxOf, sampleLimit}
 use Rattle.plane.specs.Inner.Lawful.{BoundedPair, AcceptedPair}
-use Rattle.plane.proofs.Limits.{side-small}
+use Rattle.plane.proofs.Limits.{side-small, deepest}
 use Rattle.plane.proofs.Depth.{max-grows, max-small}
 use Rattle.psnr_hvs.specs.Score.{blocksPerSide}
-
--- words have the largest samples
-deepest : (wide : Bool) → mostDepth wide ≤ mostDepth true
-unfolding mostDepth
-deepest true = le-refl 12
-deepest false = lit≤ tt
 
 pub bounded : {p : Planes} {least : ℕ} → AcceptedPair p least → BoundedPair sampleLimit p
 bounded {p} c =

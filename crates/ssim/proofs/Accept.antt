@@ -15,11 +15,12 @@ use Rattle.plane.specs.Tests.{pairTests, pairRefusal}
 use Rattle.plane.proofs.Accept.{accepted, plane-named}
 use Rattle.plane.proofs.Depth.{depth-small}
 use Rattle.plane.proofs.Several.{planes-stop, planes-pass}
-use Rattle.window.specs.Kernel.{mostTaps, lawful, lentTotal}
+use Rattle.kernel.specs.Kernel.{mostTaps, lawful, lentTotal}
 use Rattle.window.specs.Inner.Columns.{columnsOf}
 use Rattle.window.proofs.Demand.{plane-small}
 use Rattle.window.proofs.Grids.{bounded-most}
-use Rattle.window.proofs.KernelSays.{kernel-says, kernel-serves, lent-total}
+use Rattle.kernel.proofs.Says.{kernel-says, lent-total}
+use Rattle.window.proofs.Serves.{kernel-serves}
 use Rattle.ssim.specs.Scratch.{nextPower, scratchPlaces}
 use Rattle.ssim.specs.Answer.{lentTests, ssimRefusal}
 use Rattle.ssim.specs.Inner.Sound.{Sound}

@@ -1,6 +1,6 @@
-pub mod Powers
-pub mod Zeros
-pub mod Same
+mod Powers
+mod Zeros
+mod Same
 pub mod Accept
 pub mod Worked
 pub mod Visible

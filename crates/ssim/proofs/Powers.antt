@@ -44,7 +44,7 @@ power-le n l = kept (λ (q : ℕ). q ≤ 2 * n) n (omega arith) (λ p q m. omega
 -- ---- the least power of two not below the tap count
 
 -- a power of two
-pub power-is : (n : ℕ) → (k : ℕ) × (nextPower n ≡ 2 ^ k)
+power-is : (n : ℕ) → (k : ℕ) × (nextPower n ≡ 2 ^ k)
 power-is n = kept (λ (q : ℕ). (k : ℕ) × (q ≡ 2 ^ k)) n (0, refl) (λ p q l. (suc (q .0), rw (q .1, pow-succ' 2 (q .0))))
 
 -- not below the count
@@ -57,7 +57,7 @@ power-reach n = omega (arith, far n)
     far (suc i) = let q = far i in doubled-all (λ (p : ℕ). min n (suc i + 1) ≤ p) n _ (λ l. omega arith) (λ l. omega arith)
 
 -- and no other such power is below it
-pub power-least : (n k : ℕ) → n ≤ 2 ^ k → nextPower n ≤ 2 ^ k
+power-least : (n k : ℕ) → n ≤ 2 ^ k → nextPower n ≤ 2 ^ k
 power-least n k l =
     kept (λ (q : ℕ). ((j : ℕ) × (q ≡ 2 ^ j)) × (q ≤ 2 ^ k)) n ((0, refl), pow-pos k)
     (λ p q m. ((suc (q .0 .0), rw (q .0 .1, pow-succ' 2 (q .0 .0))), twice p (q .0 .0) (q .0 .1) (omega arith) (decLt (q .0 .0) k))) .1

@@ -12,7 +12,7 @@ use Rattle.refusal.specs.First.{firstBroken, byRefusal}
 use Rattle.number.specs.Steps.{_⊘_, double}
 use Rattle.plane.specs.Plane.{Planes, maxOf}
 use Rattle.plane.specs.Tests.{pairTests}
-use Rattle.window.specs.Kernel.{lawful, lentTotal}
+use Rattle.kernel.specs.Kernel.{lawful, lentTotal}
 use Rattle.ssim.specs.Score.{totalsIn}
 use Rattle.ssim.specs.Scratch.{scratchPlaces, cleared}
 use Rattle.ssim.specs.declared.Ssim.{Ssim}

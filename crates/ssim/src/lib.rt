@@ -8,7 +8,7 @@ ghost use lib.ListN.{length};
 ghost use Rattle.plane.specs.Limits.{sideLimit};
 ghost use Rattle.plane.specs.Plane.{called};
 ghost use Rattle.plane.specs.Inner.Lent.{planes};
-ghost use Rattle.window.specs.Kernel.{mostTaps};
+ghost use Rattle.kernel.specs.Kernel.{mostTaps};
 ghost use Rattle.ssim.specs.Scratch.{doubledBelow, nextPower, scratchPlaces, cleared};
 ghost use Rattle.ssim.specs.Answer.{ssimRefusal, ssimScore, ssimOf, scratchAfter};
 ghost use Rattle.ssim.specs.Inner.Sound.{Sound};
@@ -76,7 +76,7 @@ fn refusal(
     if no != 0 {
         return no;
     }
-    if !window::kernel_lawful(kernel) {
+    if !kernel::is_lawful(kernel) {
         return refusal::KERNEL;
     }
     if lent < scratch_places(layout.size.width, kernel.len()) {
@@ -112,7 +112,7 @@ fn score(
         &[0u32; 0],
         grid,
         kernel,
-        window::LENT_TOTAL,
+        kernel::LENT_TOTAL,
         max2,
         &mut scratch[..need],
     );

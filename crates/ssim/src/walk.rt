@@ -5,7 +5,7 @@ ghost use lib.IntN.{pos};
 ghost use lib.ListN.{length, replicate};
 ghost use Rattle.plane.specs.Limits.{sideLimit};
 ghost use Rattle.plane.specs.Sums.{sumTo};
-ghost use Rattle.window.specs.Kernel.{tap, fixedTotal};
+ghost use Rattle.kernel.specs.Kernel.{tap, fixedTotal};
 ghost use Rattle.window.specs.Inner.Parts.{Kernel};
 ghost use Rattle.window.specs.Inner.Columns.{onGrid, Summable, columnsOf, Margins, ColumnSums, momentsIn};
 ghost use Rattle.ssim.specs.Score.{rowOf};

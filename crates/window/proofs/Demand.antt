@@ -1,10 +1,10 @@
 -- Demand 3: laws of the sums of Moments, for every lawful kernel, every pair of views and every centre. The kernel's total is a
--- parameter, so that they speak of lent kernels and of the fixed one alike; `lent-sums` and `fixed-sums` are these two. Assumes nothing.
+-- parameter, so that they speak of lent kernels (`lent-sums`) and of the fixed one (`scale-sums` of `msssim`) alike. Assumes nothing.
 use mathlib.Core.Path.{_≡_, refl}
 use mathlib.Core.Bool.{Bool, true, false}
 use mathlib.Core.List.{List}
 use Prim.Native.Nat.{ℕ, _*_, _/_, _^_, _≤_, _<_}
-use native.Mathlib.Nat.{mul-comm, mul-assoc, mul-one, mul-le-mul, le-trans, le-refl, lt-of-le-of-lt, pow-le-pow-right, one-le-mul}
+use native.Mathlib.Nat.{mul-comm, mul-assoc, mul-one, mul-le-mul, le-trans, le-refl, lt-of-le-of-lt, one-le-mul}
 use native.Mathlib.Omega.{arith}
 use lib.Dec.{lit<, lit≤}
 use lib.IntN.{pos, _-ℤ_, _*ℤ_}
@@ -14,9 +14,9 @@ use Rattle.plane.specs.Limits.{mostDepth}
 use Rattle.plane.specs.Plane.{Planes, maxOf, sampleAt}
 use Rattle.plane.specs.Inner.Lawful.{AcceptedPair}
 use Rattle.plane.proofs.Depth.{max-grows}
-use Rattle.window.specs.Kernel.{lentTotal, fixedKernel, fixedTotal, lawful}
+use Rattle.kernel.specs.Kernel.{lentTotal, fixedTotal, lawful}
 use Rattle.window.specs.Moments.{momentAt, muxAt, muyAt, x2At, xyAt, y2At, wAt, mostSample}
-use Rattle.window.proofs.KernelSays.{kernel-says, lent-total, fixed-lawful}
+use Rattle.kernel.proofs.Says.{kernel-says, lent-total}
 use Rattle.window.proofs.Centre.Separable.{weights}
 use Rattle.window.proofs.Centre.Cauchy.{first-le, second-le, signed-le}
 use Rattle.window.proofs.Centre.Places.{moment-le, weight-some, moment-gram}
@@ -141,7 +141,7 @@ module _ (ker : List ℕ) (width height : ℕ) (a b : ℕ → ℕ → ℕ) (x y 
     pub exchanged : Exchanged
     pub schwarz : Schwarz
 
-  demanded : (total B : ℕ) → lawful total ker ≡ true → total ≤ fixedTotal → B ≤ mostSample → BoundedView B width height a → BoundedView B width height b
+  pub demanded : (total B : ℕ) → lawful total ker ≡ true → total ≤ fixedTotal → B ≤ mostSample → BoundedView B width height a → BoundedView B width height b
       → x < width → y < height → Demanded total B
   demanded total B ok t s h k l m =
       record {
@@ -152,28 +152,13 @@ module _ (ker : List ℕ) (width height : ℕ) (a b : ℕ → ℕ → ℕ) (x y 
         schwarz = cauchy-schwarz total ok l m;
       }
 
--- ---- lent kernels and the fixed one
+-- ---- lent kernels
 
--- how many scales MS-SSIM has
-unfoldable pub scales : ℕ
-scales = 5
-
--- The largest sample k scales below the first: each is made by summing 2×2 samples.
-unfoldable pub scaleMax : ℕ → ℕ → ℕ
-scaleMax depth k = maxOf depth * 4 ^ k
-
--- planes of either width stay below what fits, and so do the five scales
+-- planes of either width stay below what fits
 pub plane-small : (wide : Bool) (depth : ℕ) → depth ≤ mostDepth wide → maxOf depth ≤ mostSample
 unfolding mostDepth maxOf mostSample
 plane-small true depth l = le-trans (max-grows l) (lit≤ tt)
 plane-small false depth l = le-trans (max-grows l) (lit≤ tt)
-
-pub scale-small : (depth k : ℕ) → depth ≤ mostDepth true → k < scales → scaleMax depth k ≤ mostSample
-unfolding scaleMax scales mostSample mostDepth maxOf
-scale-small depth k d l =
-    let m : k ≤ 4 = omega arith in
-    let s : maxOf depth * 4 ^ k ≤ maxOf 12 * 4 ^ 4 = mul-le-mul (max-grows d) (pow-le-pow-right {n = 4} (lit< tt) m) in
-    le-trans s (lit≤ tt)
 
 -- a lent kernel, over two accepted planes of either width
 pub lent-sums : (p : Planes) (least : ℕ) → AcceptedPair p least
@@ -187,10 +172,3 @@ lent-sums p least c ker ok x y l m =
     (c .each .1 .0 .bounded .small)
     l
     m
-
--- MS-SSIM's own, over the summed samples of each of the five scales
-pub fixed-sums : (depth k : ℕ) → depth ≤ mostDepth true → k < scales → (width height : ℕ) (a b : ℕ → ℕ → ℕ)
-    → BoundedView (scaleMax depth k) width height a → BoundedView (scaleMax depth k) width height b
-    → (x y : ℕ) → x < width → y < height → Demanded fixedKernel width height a b x y fixedTotal (scaleMax depth k)
-fixed-sums depth k d n width height a b h i x y l m =
-    demanded fixedKernel width height a b x y fixedTotal (scaleMax depth k) fixed-lawful (le-refl fixedTotal) (scale-small depth k d n) h i l m

@@ -1,4 +1,4 @@
-pub mod KernelSays
+pub mod Serves
 pub mod Grids
 pub mod Sums
 pub mod Centre

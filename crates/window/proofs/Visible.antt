@@ -5,7 +5,7 @@ use Prim.Native.Nat.{ℕ, _+_, _-_, _*_, _/_, _≤_, _<_}
 use native.Mathlib.Omega.{arith}
 use lib.ListN.{length}
 use Rattle.plane.proofs.Sums.{sum-ext}
-use Rattle.window.specs.Kernel.{tap}
+use Rattle.kernel.specs.Kernel.{tap}
 use Rattle.window.specs.Moments.{clipped, momentAt, momentsAt}
 use Rattle.window.proofs.Sums.Windows.{clipped-both}
 

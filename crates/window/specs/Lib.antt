@@ -1,3 +1,2 @@
-pub mod Kernel
 pub mod Moments
 pub mod Inner

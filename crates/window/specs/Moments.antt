@@ -6,7 +6,7 @@ use Prim.Native.Nat.{ℕ, _+_, _-_, _*_, _/_, _^_}
 use lib.Dec.{ltb}
 use lib.ListN.{length}
 use Rattle.plane.specs.Sums.{sumTo}
-use Rattle.window.specs.Kernel.{tap}
+use Rattle.kernel.specs.Kernel.{tap}
 use Rattle.window.specs.declared.Moments.{Moments}
 
 -- the largest sample that the sums are made for: words are below it, and so are the summed samples of the five scales

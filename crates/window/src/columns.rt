@@ -7,7 +7,7 @@ ghost use lib.ListN.{length, set};
 ghost use Rattle.plane.specs.Limits.{sideLimit};
 ghost use Rattle.plane.specs.Plane.{planeOf, sampleAt};
 ghost use Rattle.plane.specs.Inner.Lawful.{Bounded};
-ghost use Rattle.window.specs.Kernel.{mostTaps};
+ghost use Rattle.kernel.specs.Kernel.{mostTaps};
 ghost use Rattle.window.specs.Moments.{mostSample};
 ghost use Rattle.window.specs.Inner.Parts.{Kernel, quantOf, tappedOf, Room};
 ghost use Rattle.window.specs.Inner.Columns.{onGrid, Summable, gridOf, samplesFor, columnTo, columnOf, HoldsRow, Fits};

@@ -8,7 +8,7 @@ ghost use lib.ListN.{length};
 ghost use lib.Signed.{nonNeg};
 ghost use Rattle.plane.specs.Limits.{sideLimit};
 ghost use Rattle.plane.specs.Sums.{sumTo};
-ghost use Rattle.window.specs.Kernel.{tap, fixedTotal};
+ghost use Rattle.kernel.specs.Kernel.{tap, fixedTotal};
 ghost use Rattle.window.specs.Inner.Parts.{Kernel, tappedOf, Room, nth, fiveSumsOf, acrossOf, weightOf};
 ghost use Rattle.window.specs.Inner.Columns.{atZ, cellOf, columnsOf, ColumnSum, ColumnSums, momentsIn};
 use crate::FiveSums;
@@ -128,7 +128,7 @@ fn taps_inside(kernel: &[u16], side: usize, x: usize) -> u64
     let n = kernel.len();
     let mut sum: u64 = 0;
     for k in columns::first(n, x)..columns::past(n, x, side) {
-        sum = sum + crate::wide(kernel[k]);
+        sum = sum + kernel::tap64(kernel[k]);
     }
     sum
 }

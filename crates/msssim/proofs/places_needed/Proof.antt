@@ -1,6 +1,6 @@
 -- `msssim::places_needed` meets its contract. Assumes nothing.
 use lib.Dec.{lit≤}
-use Rattle.window.specs.Kernel.{mostTaps}
+use Rattle.kernel.specs.Kernel.{mostTaps}
 use Rattle.msssim.proofs.places_needed.Statement.{statement}
 use Rattle.msssim.proofs.places_needed.Tie as tie
 

@@ -1,6 +1,6 @@
 -- `msssim::samples_needed` meets its contract. Assumes nothing.
 use mathlib.Core.Path.{refl}
-use Rattle.downscale.proofs.Stored.{area-fits}
+use Rattle.plane.proofs.Limits.{area-fits}
 use Rattle.msssim.proofs.samples_needed.Statement.{statement}
 use Rattle.msssim.proofs.samples_needed.Tie as tie
 

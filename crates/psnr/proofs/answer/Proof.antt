@@ -1,7 +1,7 @@
 -- `psnr::answer` meets its contract. Assumes nothing.
 use mathlib.Core.Path.{_≡_, refl, sym, _∙_}
 use Prim.Native.Nat.{ℕ, zero, suc}
-use native.Mathlib.Nat.{lt-of-le-of-lt, le-of-lt, le-refl}
+use native.Mathlib.Nat.{le-of-lt, le-refl}
 use native.Mathlib.Omega.{arith}
 use borrow.Author.Needs.{needs}
 use Rattle.refusal.proofs.Chain.{refused}
@@ -10,11 +10,12 @@ use Rattle.plane.specs.Inner.Lent.{planes}
 use Rattle.plane.specs.Inner.Lawful.{AcceptedPair}
 use Rattle.plane.proofs.Accept.{accepted}
 use Rattle.plane.proofs.Depth.{depth-small}
+use Rattle.plane.proofs.Limits.{area-fits}
 use Rattle.psnr.specs.declared.Record.{Record}
 use Rattle.psnr.specs.declared.SquaredError.the-variants.{Differs, Identical}
 use Rattle.psnr.specs.Limits.{totalLimit}
 use Rattle.psnr.specs.Squared.{errorAnswer, squaredErrorRefusal, squaredErrorOf}
-use Rattle.psnr.proofs.Squares.{walkable, error-below, count-le, count-fits}
+use Rattle.psnr.proofs.Squares.{walkable, error-below}
 use Rattle.psnr.proofs.answer.Statement.{statement}
 use Rattle.psnr.proofs.answer.Tie as tie
 
@@ -58,7 +59,7 @@ exact-requires c κs = rw (c .score .ensures) (le-of-lt (error-below (walkable (
 
 mul-t13 : tie.Need-mul-t13
 mul-t13 c =
-    let a = taken (c .before .before) .sized in record { fits = lt-of-le-of-lt (count-le (a .width-most) (a .height-most)) count-fits }
+    let a = taken (c .before .before) .sized in record { fits = area-fits (a .width-most) (a .height-most) }
 
 sample-max-requires : tie.Need-sample-max-requires
 sample-max-requires c κs =

@@ -1,7 +1,7 @@
 -- `ssim::doubled` meets its contract. Assumes nothing.
 use mathlib.Core.Path.{sym}
 use native.Mathlib.Omega.{arith}
-use Rattle.window.proofs.Sums.Windows.{taps-room}
+use Rattle.kernel.proofs.Says.{taps-room}
 use Rattle.ssim.proofs.Powers.{doubled-below, doubled-there}
 use Rattle.ssim.proofs.doubled.Statement.{statement}
 use Rattle.ssim.proofs.doubled.Tie as tie

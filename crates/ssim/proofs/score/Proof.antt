@@ -6,7 +6,7 @@ use denote.Ref.{now}
 use lib.Seq.{length-take-le}
 use Rattle.number.specs.Steps.{double}
 use Rattle.plane.specs.Plane.{maxOf}
-use Rattle.window.specs.Kernel.{lentTotal}
+use Rattle.kernel.specs.Kernel.{lentTotal}
 use Rattle.window.specs.Inner.Columns.{OnGrid, Summable}
 use Rattle.window.proofs.Grids.{grid-same}
 use Rattle.ssim.specs.Answer.{pairOf}

@@ -4,7 +4,7 @@ use native.Mathlib.Omega.{arith}
 use borrow.Author.Needs.{needs}
 use Prim.Native.Nat.{_≤_, _*_, _^_}
 use Rattle.plane.proofs.Limits.{side-small}
-use Rattle.window.proofs.Sums.Windows.{taps-room}
+use Rattle.kernel.proofs.Says.{taps-room}
 use Rattle.ssim.proofs.Powers.{power-le}
 use Rattle.ssim.proofs.scratch_places.Statement.{statement}
 use Rattle.ssim.proofs.scratch_places.Tie as tie

@@ -7,7 +7,7 @@ use lib.ListN.{length}
 use Rattle.plane.specs.Limits.{sideLimit}
 use Rattle.plane.specs.Plane.{Planes}
 use Rattle.plane.specs.Sums.{sumTo}
-use Rattle.window.specs.Kernel.{tap, mostTaps, lentTotal}
+use Rattle.kernel.specs.Kernel.{tap, mostTaps, lentTotal}
 use Rattle.window.specs.Inner.Parts.{Kernel}
 use Rattle.window.specs.Inner.Columns.{gridded, Summable, columnsOf}
 use Rattle.ssim.specs.Scratch.{scratchPlaces}

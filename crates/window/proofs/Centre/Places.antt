@@ -9,7 +9,7 @@ use native.Mathlib.Omega.{arith}
 use lib.ListN.{length}
 use Rattle.plane.specs.Sums.{sumTo}
 use Rattle.plane.proofs.Sums.{sum-term}
-use Rattle.window.specs.Kernel.{tap}
+use Rattle.kernel.specs.Kernel.{tap}
 use Rattle.window.specs.Moments.{clipped, seenAt, momentAt}
 use Rattle.window.specs.Inner.Parts.{partOf, weightOf}
 use Rattle.window.proofs.Sums.Windows.{clipped-in, clipped-below, clipped-above, part-below}

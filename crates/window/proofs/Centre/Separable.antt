@@ -8,7 +8,7 @@ use native.Mathlib.Omega.{arith}
 use lib.ListN.{length}
 use Rattle.plane.specs.Sums.{sumTo}
 use Rattle.plane.proofs.Sums.{sum-ext, sum-mul, sum-zero, sum-swap}
-use Rattle.window.specs.Kernel.{tap}
+use Rattle.kernel.specs.Kernel.{tap}
 use Rattle.window.specs.Moments.{clipped, momentAt, wAt}
 use Rattle.window.specs.Inner.Parts.{partOf, windowOf, weightOf}
 use Rattle.window.proofs.Sums.Windows.{clipped-in, clipped-below, clipped-above, clipped-both, window-same}

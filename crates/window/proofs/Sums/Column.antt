@@ -4,7 +4,7 @@ use mathlib.Core.List.{List}
 use Prim.Native.Nat.{ℕ, _+_, _-_, _/_, _≤_, _<_}
 use native.Mathlib.Omega.{arith}
 use lib.ListN.{length}
-use Rattle.window.specs.Kernel.{tap}
+use Rattle.kernel.specs.Kernel.{tap}
 use Rattle.window.specs.Moments.{mostSample}
 use Rattle.window.specs.Inner.Parts.{Kernel, quantOf, fiveSumsOf, tappedOf, Room}
 use Rattle.window.specs.Inner.Columns.{columnTo, Fits}

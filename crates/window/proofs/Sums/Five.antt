@@ -7,7 +7,7 @@ use native.Mathlib.Omega.{arith}
 use lib.Dec.{lit<, lit≤}
 use lib.IntN.{ℤ}
 use lib.ListN.{length}
-use Rattle.window.specs.Kernel.{tap, fixedTotal}
+use Rattle.kernel.specs.Kernel.{tap, fixedTotal}
 use Rattle.window.specs.Inner.Parts.{partOf, Kernel, quantOf, fiveSumsOf, nth, tappedOf, Room, partsOf}
 use Rattle.window.specs.Inner.Columns.{Fits, cellOf, ColumnSums}
 use Rattle.window.specs.Moments.{mostSample}

@@ -8,7 +8,7 @@ use native.Mathlib.Omega.{arith}
 use lib.ListN.{length}
 use Rattle.plane.specs.Sums.{sumTo}
 use Rattle.plane.proofs.Sums.{sum-none, sum-more, sum-mono, sum-mul, sum-le, sum-ext, sum-fold}
-use Rattle.window.specs.Kernel.{tap, fixedTotal}
+use Rattle.kernel.specs.Kernel.{tap, fixedTotal}
 use Rattle.window.specs.Inner.Parts.{Kernel, acrossOf, foldedOf, foldsOf, fiveSumsOf, tappedOf, Room}
 use Rattle.window.specs.declared.FiveSums.{FiveSums}
 use Rattle.window.proofs.Sums.Five.{five-ext, nth-of, row-room}

@@ -12,7 +12,7 @@ use lib.IntN.{ℤ, pos, natAbs}
 use lib.ListN.{length, set, take, drop, replicate, length-set, length-drop, length-replicate, getD-replicate, List·getD-eq-default, List·getD-append}
 use lib.Seq.{getD-set-same, getD-set-other, getD-append-add, getD-take, getD-drop, length-take-le}
 use Rattle.plane.proofs.Sums.{sum-ext}
-use Rattle.window.specs.Kernel.{tap}
+use Rattle.kernel.specs.Kernel.{tap}
 use Rattle.window.specs.Moments.{clipped, momentAt, momentsAt, mostSample}
 use Rattle.window.specs.Inner.Parts.{partOf, partsOf, windowOf, weightOf, acrossOf, Kernel, quantOf, nth}
 use Rattle.window.specs.Inner.Columns.{atZ, cellOf, columnTo, columnAt, columnsOf, Holds, Margins, ColumnSum, ColumnSums, momentsIn}

@@ -1,16 +1,15 @@
 -- Laws of `inside` and of a window along one side. Assumes nothing.
 use mathlib.Core.Path.{_≡_, sym, _∙_}
 use mathlib.Core.List.{List}
-use Prim.Native.Nat.{ℕ, _+_, _-_, _*_, _≤_, _<_, _/_, _^_}
+use Prim.Native.Nat.{ℕ, _+_, _-_, _*_, _≤_, _<_, _/_}
 use native.Mathlib.Nat.{mul-zero, mul-one, mul-le-mul-left, mul-comm, le-trans, le-refl}
 use native.Mathlib.Decide.{decLt}
 use native.Mathlib.Omega.{arith}
 use borrow.Author.Tests.{lt-ltb, le-ltb}
-use lib.Dec.{lit≤}
 use lib.ListN.{length}
 use Rattle.plane.specs.Sums.{sumTo}
 use Rattle.plane.proofs.Sums.{sum-more, sum-tail, sum-zero, sum-mono, sum-mul, sum-le, sum-ext}
-use Rattle.window.specs.Kernel.{tap, fixedTotal, mostTaps}
+use Rattle.kernel.specs.Kernel.{tap, fixedTotal}
 use Rattle.window.specs.Moments.{clipped}
 use Rattle.window.specs.Inner.Parts.{partOf, windowOf, weightOf, Kernel}
 
@@ -29,7 +28,7 @@ module _ (off side : ℕ) (f : ℕ → ℕ) (j : ℕ) where
   clipped-above l = let m : off ≤ j = omega arith in simp (le-ltb _ _ m, le-ltb _ _ l)
 
 -- what holds of 0, and of f where it counts, holds of what is seen
-pub clipped-all : (P : ℕ → Type 0) (off side : ℕ) (f : ℕ → ℕ) (j : ℕ) → P 0 → (off ≤ j → j < off + side → P (f (j - off)))
+clipped-all : (P : ℕ → Type 0) (off side : ℕ) (f : ℕ → ℕ) (j : ℕ) → P 0 → (off ≤ j → j < off + side → P (f (j - off)))
     → P (clipped off side f j)
 clipped-all P off side f j z h = go (decLt j off) (decLt j (off + side))
   where
@@ -115,12 +114,3 @@ module _ (ker : List ℕ) (side x : ℕ) where
 
   pub weight-le : Kernel ker → weightOf ker side x ≤ fixedTotal
   weight-le r = omega (arith, part-le ker side (λ (i : ℕ). 1) x 1 r (λ k a b d. le-refl 1) (length ker) (le-refl _))
-
--- ---- the limits, as later sums need them
-pub taps-room : mostTaps ≤ 2 ^ 32
-unfolding mostTaps
-taps-room = lit≤ tt
-
-pub total-room : fixedTotal ≤ 2 ^ 16
-unfolding fixedTotal
-total-room = lit≤ tt

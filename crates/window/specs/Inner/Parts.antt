@@ -5,7 +5,7 @@ use mathlib.Core.Path.{_≡_}
 use Prim.Native.Nat.{ℕ, zero, suc, _+_, _-_, _*_, _/_, _≤_, _<_, _^_}
 use lib.ListN.{length}
 use Rattle.plane.specs.Sums.{sumTo}
-use Rattle.window.specs.Kernel.{tap, mostTaps, fixedTotal}
+use Rattle.kernel.specs.Kernel.{tap, mostTaps, fixedTotal}
 use Rattle.window.specs.Moments.{clipped}
 use Rattle.window.specs.declared.FiveSums.{FiveSums}
 

@@ -2,7 +2,7 @@
 use mathlib.Core.Path.{_∙_}
 use borrow.Author.Needs.{needs}
 use Rattle.plane.specs.Limits.{sideLimit}
-use Rattle.window.specs.Kernel.{mostTaps}
+use Rattle.kernel.specs.Kernel.{mostTaps}
 use Rattle.fuavelino.specs.Places.{ssimPlaces}
 use Rattle.fuavelino.proofs.Counts.{both-say, tested, given, not-given}
 use Rattle.fuavelino.proofs.places.fuavelino_ssim_places.Statement.{statement}

@@ -7,8 +7,9 @@ use borrow.Author.Needs.{needs}
 use denote.Ref.{now}
 use lib.ListN.{length, take}
 use lib.Seq.{length-take-le}
-use Rattle.window.specs.Kernel.{fixedKernel, fixedTotal}
-use Rattle.window.proofs.KernelSays.{kernel-says, kernel-serves, fixed-lawful}
+use Rattle.kernel.specs.Kernel.{fixedKernel, fixedTotal}
+use Rattle.kernel.proofs.Says.{kernel-says, fixed-lawful}
+use Rattle.window.proofs.Serves.{kernel-serves}
 use Rattle.downscale.proofs.Summed.{bounded-le}
 use Rattle.msssim.proofs.scale.totals.Statement.{statement}
 use Rattle.msssim.proofs.scale.totals.Tie as tie

@@ -9,7 +9,8 @@ use lib.ListN.{length}
 use Rattle.plane.specs.Plane.{sampleAt}
 use Rattle.plane.proofs.Limits.{side-small}
 use Rattle.window.specs.Inner.Columns.{OnGrid, onGrid, onGridIn, Margins}
-use Rattle.window.proofs.Sums.Windows.{weight-le, taps-room}
+use Rattle.kernel.proofs.Says.{taps-room}
+use Rattle.window.proofs.Sums.Windows.{weight-le}
 use Rattle.window.proofs.Sums.Held.{part-length, all-sums, margins-kept}
 use Rattle.ssim.specs.Inner.Walk.{totalsOn}
 use Rattle.ssim.proofs.Same.{totals-none, totals-more}

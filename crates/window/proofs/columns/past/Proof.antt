@@ -2,7 +2,7 @@
 use native.Mathlib.Omega.{arith}
 use borrow.Author.Needs.{needs}
 use Rattle.plane.proofs.Limits.{side-small}
-use Rattle.window.proofs.Sums.Windows.{taps-room}
+use Rattle.kernel.proofs.Says.{taps-room}
 use Rattle.window.proofs.columns.past.Statement.{statement}
 use Rattle.window.proofs.columns.past.Tie as tie
 

@@ -4,7 +4,8 @@ use native.Mathlib.Omega.{arith}
 use borrow.Author.Needs.{needs}
 use denote.Ref.{now}
 use Rattle.window.specs.Inner.Columns.{momentsIn}
-use Rattle.window.proofs.Sums.Windows.{weight-le, total-room}
+use Rattle.kernel.proofs.Says.{total-room}
+use Rattle.window.proofs.Sums.Windows.{weight-le}
 use Rattle.window.proofs.row.moments_at.Statement.{statement}
 use Rattle.window.proofs.row.moments_at.Tie as tie
 

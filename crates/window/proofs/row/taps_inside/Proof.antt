@@ -5,7 +5,8 @@ use native.Mathlib.Omega.{arith}
 use borrow.Author.Needs.{needs}
 use native.Mathlib.Nat.{mul-one, le-refl}
 use Rattle.window.specs.Inner.Parts.{partOf}
-use Rattle.window.proofs.Sums.Windows.{part-more, part-first, part-last, part-room, total-room}
+use Rattle.kernel.proofs.Says.{total-room}
+use Rattle.window.proofs.Sums.Windows.{part-more, part-first, part-last, part-room}
 use Rattle.window.proofs.row.taps_inside.Statement.{statement}
 use Rattle.window.proofs.row.taps_inside.Tie as tie
 
@@ -24,14 +25,14 @@ past-requires c κs = omega arith
 loop-holds : tie.Need-loop-holds Inv-loop μ-loop
 loop-holds c = (omega arith, omega arith, sym (part-first _ _ _ _ _ (omega arith)))
 
-mul-wide : tie.Need-mul-wide Inv-loop μ-loop
-mul-wide c = search needs
+mul-tap64 : tie.Need-mul-tap64 Inv-loop μ-loop
+mul-tap64 c = search needs
 
-shared-slice-read-wide : tie.Need-shared-slice-read-wide Inv-loop μ-loop
-shared-slice-read-wide c = search needs
+shared-slice-read-tap64 : tie.Need-shared-slice-read-tap64 Inv-loop μ-loop
+shared-slice-read-tap64 c = search needs
 
-wide-requires : tie.Need-wide-requires Inv-loop μ-loop
-wide-requires c κs = search needs
+tap64-requires : tie.Need-tap64-requires Inv-loop μ-loop
+tap64-requires c κs = search needs
 
 add-sum : tie.Need-add-sum Inv-loop μ-loop
 add-sum c =
@@ -50,7 +51,7 @@ loop-again : tie.Need-loop-again Inv-loop μ-loop
 loop-again c = (
   omega arith,
   omega arith,
-  rw (c .wide .ensures, c .before .before .before .loop .inv .2) (sym (part-more _ _ _ _ _ (omega arith) (omega arith) ∙ rw mul-one)),
+  rw (c .tap64 .ensures, c .before .before .before .loop .inv .2) (sym (part-more _ _ _ _ _ (omega arith) (omega arith) ∙ rw mul-one)),
 )
 
 returns : tie.Need-returns Inv-loop μ-loop
@@ -65,9 +66,9 @@ taps-inside-spec =
     first-requires
     past-requires
     loop-holds
-    mul-wide
-    shared-slice-read-wide
-    wide-requires
+    mul-tap64
+    shared-slice-read-tap64
+    tap64-requires
     add-sum
     add-k
     loop-less

@@ -9,7 +9,8 @@ use borrow.Author.Needs.{needs}
 use borrow.Author.Tests.{leb-true, ltb-true}
 use Rattle.refusal.proofs.Chain.{and-left, and-right}
 use Rattle.plane.proofs.Limits.{side-small}
-use Rattle.window.proofs.Sums.Windows.{weight-whole, taps-room}
+use Rattle.kernel.proofs.Says.{taps-room}
+use Rattle.window.proofs.Sums.Windows.{weight-whole}
 use Rattle.window.proofs.row.weight.Statement.{statement}
 use Rattle.window.proofs.row.weight.Tie as tie
 

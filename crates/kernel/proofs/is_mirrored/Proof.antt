@@ -1,4 +1,4 @@
--- `window::is_mirrored` meets its contract. Assumes nothing.
+-- `kernel::is_mirrored` meets its contract. Assumes nothing.
 use mathlib.Core.Path.{_≡_, sym}
 use Prim.Native.Nat.{ℕ, _≤_, _-_}
 use native.Mathlib.Omega.{arith}
@@ -8,9 +8,9 @@ use lib.Dec.{eqb}
 use lib.ListN.{length}
 use Rattle.plane.specs.Plane.{allTo}
 use Rattle.plane.proofs.All.{all-none, all-more}
-use Rattle.window.specs.Kernel.{tap, mirrored}
-use Rattle.window.proofs.is_mirrored.Statement.{statement}
-use Rattle.window.proofs.is_mirrored.Tie as tie
+use Rattle.kernel.specs.Kernel.{tap, mirrored}
+use Rattle.kernel.proofs.is_mirrored.Statement.{statement}
+use Rattle.kernel.proofs.is_mirrored.Tie as tie
 
 abbrev Inv-loop : tie.InvT-loop
 Inv-loop taps n ok₀ k₀ ok k = (k ≤ length taps) × (ok ≡ allTo (λ (i : ℕ). eqb (tap taps i) (tap taps (length taps - 1 - i))) k)

@@ -1,11 +1,11 @@
--- `window::kernel_lawful` meets its contract: each way out is one part that fails, or the last. Assumes nothing.
+-- `kernel::is_lawful` meets its contract: each way out is one part that fails, or the last. Assumes nothing.
 use mathlib.Core.Path.{sym, _∙_}
 use native.Mathlib.Omega.{arith}
 use borrow.Author.Needs.{needs}
-use Rattle.window.specs.Kernel.{lawful, lentTotal}
-use Rattle.window.proofs.KernelSays.{odd-says}
-use Rattle.window.proofs.kernel_lawful.Statement.{statement}
-use Rattle.window.proofs.kernel_lawful.Tie as tie
+use Rattle.kernel.specs.Kernel.{lawful, lentTotal}
+use Rattle.kernel.proofs.Says.{odd-says}
+use Rattle.kernel.proofs.is_lawful.Statement.{statement}
+use Rattle.kernel.proofs.is_lawful.Tie as tie
 
 odd-count-requires : tie.Need-odd-count-requires
 odd-count-requires c κs = search needs
@@ -58,8 +58,8 @@ returns-5 : tie.Need-returns-5
 unfolding lawful lentTotal
 returns-5 c = rw (← (c .before .odd-count .ensures), c .if1 .left)
 
-pub kernel-lawful-spec : {M : Type 1} → statement M
-kernel-lawful-spec =
+pub is-lawful-spec : {M : Type 1} → statement M
+is-lawful-spec =
     tie.close
     (tie.spec
     odd-count-requires

@@ -1,8 +1,8 @@
--- What a lawful kernel is like, as facts: what the sums need of it, and what its taps are. Assumes nothing.
+-- What a lawful kernel is like, as facts, and what its limits leave room for. Assumes nothing.
 use mathlib.Core.Path.{_≡_, refl}
 use mathlib.Core.Bool.{true}
 use mathlib.Core.List.{List}
-use Prim.Native.Nat.{ℕ, _+_, _-_, _*_, _/_, _%_, _≤_, _<_}
+use Prim.Native.Nat.{ℕ, _+_, _-_, _*_, _/_, _%_, _≤_, _<_, _^_}
 use native.Mathlib.Omega.{arith}
 use borrow.Author.Tests.{leb-true, eqb-true}
 use lib.Dec.{eqb, lit≤}
@@ -11,8 +11,7 @@ use Rattle.refusal.proofs.Chain.{and-left, and-right}
 use Rattle.plane.specs.Plane.{allTo}
 use Rattle.plane.specs.Sums.{sumTo}
 use Rattle.plane.proofs.All.{all-at}
-use Rattle.window.specs.Kernel.{tap, mostTaps, lentTotal, fixedTotal, fixedKernel, oddCount, tapsSuit, sumsTo, mirrored, middled, lawful}
-use Rattle.window.specs.Inner.Parts.{Kernel}
+use Rattle.kernel.specs.Kernel.{tap, mostTaps, lentTotal, fixedTotal, fixedKernel, oddCount, tapsSuit, sumsTo, mirrored, middled, lawful}
 
 -- each part of the test, where it passes
 pub odd-says : (ker : List ℕ) → oddCount ker ≡ true → (length ker ≡ 2 * (length ker / 2) + 1) × (length ker ≤ mostTaps)
@@ -21,19 +20,19 @@ odd-says ker e =
     let odd : length ker % 2 ≡ 1 = eqb-true (length ker % 2) 1 (and-left (eqb (length ker % 2) 1) _ e) in
     (omega arith, leb-true _ _ (and-right (eqb (length ker % 2) 1) _ e))
 
-pub taps-say : (total : ℕ) (ker : List ℕ) → tapsSuit total ker ≡ true → (k : ℕ) → k < length ker → tap ker k ≤ total
+taps-say : (total : ℕ) (ker : List ℕ) → tapsSuit total ker ≡ true → (k : ℕ) → k < length ker → tap ker k ≤ total
 unfolding tapsSuit
 taps-say total ker e k l = leb-true _ _ (all-at _ (length ker) e k l)
 
-pub sums-say : (total : ℕ) (ker : List ℕ) → sumsTo total ker ≡ true → sumTo (tap ker) (length ker) ≡ total
+sums-say : (total : ℕ) (ker : List ℕ) → sumsTo total ker ≡ true → sumTo (tap ker) (length ker) ≡ total
 unfolding sumsTo
 sums-say total ker e = eqb-true _ _ e
 
-pub mirror-says : (ker : List ℕ) → mirrored ker ≡ true → (k : ℕ) → k < length ker → tap ker k ≡ tap ker (length ker - 1 - k)
+mirror-says : (ker : List ℕ) → mirrored ker ≡ true → (k : ℕ) → k < length ker → tap ker k ≡ tap ker (length ker - 1 - k)
 unfolding mirrored
 mirror-says ker e k l = eqb-true _ _ (all-at _ (length ker) e k l)
 
-pub middle-says : (ker : List ℕ) → middled ker ≡ true → 1 ≤ tap ker (length ker / 2)
+middle-says : (ker : List ℕ) → middled ker ≡ true → 1 ≤ tap ker (length ker / 2)
 unfolding middled
 middle-says ker e = leb-true _ _ e
 
@@ -62,17 +61,6 @@ kernel-says total ker e =
       middle = middle-says ker (and-right (mirrored ker) _ e3);
     }
 
--- so the sums can be made with any lawful kernel, up to the fixed one's total
-pub kernel-serves : (total : ℕ) (ker : List ℕ) → total ≤ fixedTotal → lawful total ker ≡ true → Kernel ker
-kernel-serves total ker l e =
-    let s = kernel-says total ker e in
-    record {
-      odd = s .odd;
-      short = s .short;
-      light = omega (arith, s .sum);
-      mirror = s .mirror;
-    }
-
 pub lent-total : lentTotal ≤ fixedTotal
 unfolding lentTotal fixedTotal
 lent-total = lit≤ tt
@@ -81,3 +69,12 @@ lent-total = lit≤ tt
 pub fixed-lawful : lawful fixedTotal fixedKernel ≡ true
 unfolding lawful oddCount tapsSuit sumsTo mirrored middled mostTaps fixedTotal allTo sumTo
 fixed-lawful = refl
+
+-- the limits, as sizes of words
+pub taps-room : mostTaps ≤ 2 ^ 32
+unfolding mostTaps
+taps-room = lit≤ tt
+
+pub total-room : fixedTotal ≤ 2 ^ 16
+unfolding fixedTotal
+total-room = lit≤ tt

@@ -1,9 +1,9 @@
--- `window::is_middled` meets its contract. Assumes nothing.
+-- `kernel::is_middled` meets its contract. Assumes nothing.
 use borrow.Author.Needs.{needs}
 use mathlib.Core.Path.{refl}
-use Rattle.window.specs.Kernel.{middled}
-use Rattle.window.proofs.is_middled.Statement.{statement}
-use Rattle.window.proofs.is_middled.Tie as tie
+use Rattle.kernel.specs.Kernel.{middled}
+use Rattle.kernel.proofs.is_middled.Statement.{statement}
+use Rattle.kernel.proofs.is_middled.Tie as tie
 
 mul-result : tie.Need-mul-result
 mul-result c = search needs

@@ -1,4 +1,4 @@
--- `window::sums_to` meets its contract. Assumes nothing.
+-- `kernel::sums_to` meets its contract. Assumes nothing.
 use mathlib.Core.Path.{_≡_, sym}
 use Prim.Native.Nat.{ℕ, _≤_, _<_, _-_}
 use native.Mathlib.Omega.{arith}
@@ -7,10 +7,10 @@ use denote.Ref.{now}
 use lib.ListN.{length}
 use Rattle.plane.specs.Sums.{sumTo}
 use Rattle.plane.proofs.Sums.{sum-none, sum-more, sum-bound}
-use Rattle.window.proofs.Sums.Windows.{taps-room}
-use Rattle.window.specs.Kernel.{tap, sumsTo}
-use Rattle.window.proofs.sums_to.Statement.{statement}
-use Rattle.window.proofs.sums_to.Tie as tie
+use Rattle.kernel.proofs.Says.{taps-room}
+use Rattle.kernel.specs.Kernel.{tap, sumsTo}
+use Rattle.kernel.proofs.sums_to.Statement.{statement}
+use Rattle.kernel.proofs.sums_to.Tie as tie
 
 abbrev Inv-loop : tie.InvT-loop
 Inv-loop taps total sum₀ k₀ k-end sum k = (k ≤ length taps) × (sum ≡ sumTo (tap taps) k)
@@ -21,14 +21,14 @@ abbrev μ-loop : tie.MeasureT-loop
 loop-holds : tie.Need-loop-holds Inv-loop μ-loop
 loop-holds c = (search needs, sym (sum-none _))
 
-mul-wide : tie.Need-mul-wide Inv-loop μ-loop
-mul-wide c = search needs
+mul-tap64 : tie.Need-mul-tap64 Inv-loop μ-loop
+mul-tap64 c = search needs
 
-shared-slice-read-wide : tie.Need-shared-slice-read-wide Inv-loop μ-loop
-shared-slice-read-wide c = search needs
+shared-slice-read-tap64 : tie.Need-shared-slice-read-tap64 Inv-loop μ-loop
+shared-slice-read-tap64 c = search needs
 
-wide-requires : tie.Need-wide-requires Inv-loop μ-loop
-wide-requires c κs = search needs
+tap64-requires : tie.Need-tap64-requires Inv-loop μ-loop
+tap64-requires c κs = search needs
 
 add-sum : tie.Need-add-sum Inv-loop μ-loop
 add-sum c =
@@ -44,7 +44,7 @@ loop-less : tie.Need-loop-less Inv-loop μ-loop
 loop-less c = search needs
 
 loop-again : tie.Need-loop-again Inv-loop μ-loop
-loop-again c = (search needs, rw (sum-more, ← (c .before .before .before .loop .inv .1), ← (c .wide .ensures)))
+loop-again c = (search needs, rw (sum-more, ← (c .before .before .before .loop .inv .1), ← (c .tap64 .ensures)))
 
 returns : tie.Need-returns Inv-loop μ-loop
 unfolding sumsTo
@@ -59,9 +59,9 @@ sums-to-spec =
     Inv-loop
     μ-loop
     loop-holds
-    mul-wide
-    shared-slice-read-wide
-    wide-requires
+    mul-tap64
+    shared-slice-read-tap64
+    tap64-requires
     add-sum
     add-k
     loop-less

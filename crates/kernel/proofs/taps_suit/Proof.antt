@@ -1,4 +1,4 @@
--- `window::taps_suit` meets its contract. Assumes nothing.
+-- `kernel::taps_suit` meets its contract. Assumes nothing.
 use mathlib.Core.Path.{_≡_, sym}
 use Prim.Native.Nat.{ℕ, _≤_, _-_}
 use native.Mathlib.Omega.{arith}
@@ -8,9 +8,9 @@ use lib.Dec.{leb}
 use lib.ListN.{length}
 use Rattle.plane.specs.Plane.{allTo}
 use Rattle.plane.proofs.All.{all-none, all-more}
-use Rattle.window.specs.Kernel.{tap, tapsSuit}
-use Rattle.window.proofs.taps_suit.Statement.{statement}
-use Rattle.window.proofs.taps_suit.Tie as tie
+use Rattle.kernel.specs.Kernel.{tap, tapsSuit}
+use Rattle.kernel.proofs.taps_suit.Statement.{statement}
+use Rattle.kernel.proofs.taps_suit.Tie as tie
 
 abbrev Inv-loop : tie.InvT-loop
 Inv-loop taps total ok₀ k₀ k-end ok k = (k ≤ length taps) × (ok ≡ allTo (λ (i : ℕ). leb (tap taps i) total) k)
@@ -21,14 +21,14 @@ abbrev μ-loop : tie.MeasureT-loop
 loop-holds : tie.Need-loop-holds Inv-loop μ-loop
 loop-holds c = (search needs, sym (all-none _))
 
-mul-wide : tie.Need-mul-wide Inv-loop μ-loop
-mul-wide c = search needs
+mul-tap64 : tie.Need-mul-tap64 Inv-loop μ-loop
+mul-tap64 c = search needs
 
-shared-slice-read-wide : tie.Need-shared-slice-read-wide Inv-loop μ-loop
-shared-slice-read-wide c = search needs
+shared-slice-read-tap64 : tie.Need-shared-slice-read-tap64 Inv-loop μ-loop
+shared-slice-read-tap64 c = search needs
 
-wide-requires : tie.Need-wide-requires Inv-loop μ-loop
-wide-requires c κs = search needs
+tap64-requires : tie.Need-tap64-requires Inv-loop μ-loop
+tap64-requires c κs = search needs
 
 add-k : tie.Need-add-k Inv-loop μ-loop
 add-k c = search needs
@@ -37,7 +37,7 @@ loop-less : tie.Need-loop-less Inv-loop μ-loop
 loop-less c = search needs
 
 loop-again : tie.Need-loop-again Inv-loop μ-loop
-loop-again c = (search needs, rw (all-more, ← (c .before .before .before .loop .inv .1), ← (c .wide .ensures)))
+loop-again c = (search needs, rw (all-more, ← (c .before .before .before .loop .inv .1), ← (c .tap64 .ensures)))
 
 returns : tie.Need-returns Inv-loop μ-loop
 unfolding tapsSuit
@@ -52,9 +52,9 @@ taps-suit-spec =
     Inv-loop
     μ-loop
     loop-holds
-    mul-wide
-    shared-slice-read-wide
-    wide-requires
+    mul-tap64
+    shared-slice-read-tap64
+    tap64-requires
     add-k
     loop-less
     loop-again
