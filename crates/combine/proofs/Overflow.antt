@@ -9,7 +9,7 @@ use Rattle.combine.specs.declared.Planar.{Planar}
 use Rattle.combine.specs.Combine.{weightedSum, wholeWeight, visualScore}
 
 module _ (c : Float) (s : Planar) where
-  pub sum-steps : finite (weightedSum c s) ≡ true → (finite (s .u ⊕ s .v) ≡ true) × (finite (c ⊗ (s .u ⊕ s .v)) ≡ true)
+  sum-steps : finite (weightedSum c s) ≡ true → (finite (s .u ⊕ s .v) ≡ true) × (finite (c ⊗ (s .u ⊕ s .v)) ≡ true)
   unfolding weightedSum
   sum-steps e =
       let product = add-finite binary64 (s .y) (c ⊗ (s .u ⊕ s .v)) e .1 in

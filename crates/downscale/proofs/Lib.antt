@@ -1,2 +1,2 @@
-pub mod Stored
+mod Stored
 pub mod Summed

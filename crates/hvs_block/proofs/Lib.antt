@@ -4,4 +4,4 @@ mod Sizes
 mod Walks
 pub mod WholeVariance
 mod Quarters
-pub mod Levels
+mod Levels

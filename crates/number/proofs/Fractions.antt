@@ -73,7 +73,7 @@ add-at (fin false m e) (inf t) a b c v w p = absurd w
 add-at nan y a b c v w p = absurd v
 add-at (inf t) y a b c v w p = absurd v
 
-pub square-at : (x : Float) (s : Bool) (a c : ℕ) → HasValue x s a c → 0 < c → x ⊗ x ≡ frac false (a * a) (c * c)
+square-at : (x : Float) (s : Bool) (a c : ℕ) → HasValue x s a c → 0 < c → x ⊗ x ≡ frac false (a * a) (c * c)
 unfolding mul
 square-at (fin t m e) s a c v p = go t
   where

@@ -25,7 +25,7 @@ use Rattle.number.proofs.Doubles.{units-are, units-value, units-fit, sc
 
 -- ---- a double is at most 53 digits, moved up
 
-pub record Shape (n : ℕ) : Type 0 where
+record Shape (n : ℕ) : Type 0 where
   pub digits : ℕ
   pub places : ℕ
   pub few : digits < 2 ^ 53
@@ -50,7 +50,7 @@ places-of : (l m : ℕ) (e : ℤ) → down e ≤ 2 ^ l → (g : ℕ) × (m * up 
 places-of l m (pos k) h = (k + l, div-one _ ∙ mul-assoc m (2 ^ k) (2 ^ l) ∙ ap (λ (x : ℕ). m * x) (sym (pow-add 2 k l)))
 places-of l m (negsuc k) h = (l - suc k, moved-down l k m (power-le (suc k) l h))
 
-pub shape : (s : Bool) (m : ℕ) (e : ℤ) → T (fits binary64 (fin s m e)) → (d : Shape (unitsOf (fin s m e))) × (d .digits ≡ m)
+shape : (s : Bool) (m : ℕ) (e : ℤ) → T (fits binary64 (fin s m e)) → (d : Shape (unitsOf (fin s m e))) × (d .digits ≡ m)
 unfolding fits unitsOf
 shape s zero e h = (record { digits = 0; places = 0; few = omega arith; is = ap (λ (x : ℕ). x * 2 ^ low binary64 / down e) (zero-mul (up e)) ∙ ap (λ (x : ℕ). x / down e) (zero-mul (2 ^ low binary64)) ∙ zero-div (down e) }, refl)
 shape s (suc m) e h =

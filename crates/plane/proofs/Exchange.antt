@@ -10,7 +10,7 @@ use Rattle.plane.specs.Inner.Lawful.{Alike, Equivalent}
 use Rattle.plane.proofs.All.{all-ext, none-ext}
 
 -- ---- the two planes exchanged
-pub every-swap : (f : Plane → Bool) (a b : Plane) → every f (a ∷ b ∷ []) ≡ every f (b ∷ a ∷ [])
+every-swap : (f : Plane → Bool) (a b : Plane) → every f (a ∷ b ∷ []) ≡ every f (b ∷ a ∷ [])
 every-swap f a b = go (f a) (f b)
   where
     go : (p q : Bool) → (p && (q && true)) ≡ (q && (p && true))

@@ -71,7 +71,7 @@ module _ (f g : ℕ → ℕ) where
   sum-ext (suc n) h = omega (arith, sum-ext n (λ k l. h k (omega arith)), h n (omega arith))
 
   -- two sums as one
-  pub sum-add : (n : ℕ) → sumTo (λ (k : ℕ). f k + g k) n ≡ sumTo f n + sumTo g n
+  sum-add : (n : ℕ) → sumTo (λ (k : ℕ). f k + g k) n ≡ sumTo f n + sumTo g n
   unfolding sumTo
   sum-add zero = refl
   sum-add (suc n) = omega (arith, sum-add n)
@@ -84,7 +84,7 @@ sum-swap f (suc m) n = rw (sum-swap f m n) (sym (sum-add _ (f m) n))
 
 module _ (f : ℕ → ℕ) where
   -- a sum in two parts
-  pub sum-split : (a b : ℕ) → sumTo f (a + b) ≡ sumTo f a + sumTo (λ (k : ℕ). f (a + k)) b
+  sum-split : (a b : ℕ) → sumTo f (a + b) ≡ sumTo f a + sumTo (λ (k : ℕ). f (a + k)) b
   unfolding sumTo
   sum-split a zero = rw (add-zero, add-zero)
   sum-split a (suc b) = rw add-suc (omega (arith, sum-split a b))

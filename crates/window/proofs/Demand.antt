@@ -63,7 +63,7 @@ module _ (ker : List ℕ) (width height : ℕ) (a b : ℕ → ℕ → ℕ) (x y 
     pub y2-most : y2 ≤ total * total * (B * B)
     pub w-most : w ≤ total * total
 
-  pub sums-most : (total B : ℕ) → lawful total ker ≡ true → BoundedView B width height a → BoundedView B width height b → Most total B
+  sums-most : (total B : ℕ) → lawful total ker ≡ true → BoundedView B width height a → BoundedView B width height b → Most total B
   sums-most total B ok h k =
       record {
         mux-most = most a B h;

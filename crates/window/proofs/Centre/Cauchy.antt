@@ -160,7 +160,7 @@ module _ (w x y xx xy yy : ℕ) (some : 0 < w) (gram : Gram w x y xx xy yy) wher
   second-le = omega (arith, alike 0 1)
 
   -- |w xy - x y|² ≤ (w xx - x²)(w yy - y²)
-  pub both-le : let d = (w * xy - x * y) + (x * y - w * xy) in d * d ≤ (w * xx - x * x) * (w * yy - y * y)
+  both-le : let d = (w * xy - x * y) + (x * y - w * xy) in d * d ≤ (w * xx - x * x) * (w * yy - y * y)
   both-le = square-le _ _ _ (λ q r. omega (arith, opposed q r, alike q r, spread (q * r) (w * xy) (x * y), less (q * q) first-le, less (r * r) second-le))
 
   -- the same over the integers, as it is read: (w xy - x y)² ≤ (w xx - x²)(w yy - y²)

@@ -15,17 +15,17 @@ use Rattle.window.proofs.Sums.Five.{five-ext, nth-of, row-room}
 
 module _ (ker : List ℕ) (g : ℕ → ℕ) (x : ℕ) where
   -- the middle tap alone
-  pub folded-none : foldedOf ker g x 0 ≡ 0 + tap ker (length ker / 2) * g (x + length ker / 2)
+  folded-none : foldedOf ker g x 0 ≡ 0 + tap ker (length ker / 2) * g (x + length ker / 2)
   unfolding foldedOf
   folded-none = omega (arith, sum-none (λ (k : ℕ). tap ker k * (g (x + k) + g (x + 2 * (length ker / 2) - k))))
 
   -- a pair more
-  pub folded-more : (k : ℕ) → foldedOf ker g x (k + 1) ≡ foldedOf ker g x k + tap ker k * (g (x + k) + g (x + 2 * (length ker / 2) - k))
+  folded-more : (k : ℕ) → foldedOf ker g x (k + 1) ≡ foldedOf ker g x k + tap ker k * (g (x + k) + g (x + 2 * (length ker / 2) - k))
   unfolding foldedOf
   folded-more k = omega (arith, sum-more (λ (j : ℕ). tap ker j * (g (x + j) + g (x + 2 * (length ker / 2) - j))) k)
 
   -- all pairs
-  pub folded-all : Kernel ker → foldedOf ker g x (length ker / 2) ≡ acrossOf ker g x
+  folded-all : Kernel ker → foldedOf ker g x (length ker / 2) ≡ acrossOf ker g x
   unfolding foldedOf acrossOf
   folded-all r =
       let off = length ker / 2 in
@@ -45,7 +45,7 @@ module _ (ker : List ℕ) (g : ℕ → ℕ) (x : ℕ) where
           rw (place, mul-add, rw other at (r .mirror k (omega arith)))
 
   -- over values of at most B they come to at most B times what all taps sum to
-  pub across-le : (B : ℕ) → Kernel ker → ((k : ℕ) → k < length ker → g (x + k) ≤ B) → acrossOf ker g x ≤ B * fixedTotal
+  across-le : (B : ℕ) → Kernel ker → ((k : ℕ) → k < length ker → g (x + k) ≤ B) → acrossOf ker g x ≤ B * fixedTotal
   unfolding acrossOf
   across-le B r h =
       le-trans
@@ -53,7 +53,7 @@ module _ (ker : List ℕ) (g : ℕ → ℕ) (x : ℕ) where
       (rw (sum-mul (tap ker) B (length ker)) (mul-le-mul-left B (r .light)))
 
   -- and so do some of the pairs
-  pub folded-le : (B k : ℕ) → Kernel ker → ((i : ℕ) → i < length ker → g (x + i) ≤ B) → k ≤ length ker / 2 → foldedOf ker g x k ≤ B * fixedTotal
+  folded-le : (B k : ℕ) → Kernel ker → ((i : ℕ) → i < length ker → g (x + i) ≤ B) → k ≤ length ker / 2 → foldedOf ker g x k ≤ B * fixedTotal
   unfolding foldedOf
   folded-le B k r h l =
       let all = folded-all r in
