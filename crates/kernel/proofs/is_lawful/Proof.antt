@@ -1,11 +1,38 @@
 -- `kernel::is_lawful` meets its contract: each way out is one part that fails, or the last. Assumes nothing.
-use mathlib.Core.Path.{sym, _∙_}
+use mathlib.Core.Path.{_≡_, sym, _∙_}
+use mathlib.Core.Bool.{true}
 use native.Mathlib.Omega.{arith}
 use borrow.Author.Needs.{needs}
-use Rattle.kernel.specs.Kernel.{lawful, lentTotal}
+use denote.Ref.{now}
+use Rattle.kernel.specs.Kernel.{lawful, lentTotal, oddCount, tapsSuit, sumsTo, mirrored}
 use Rattle.kernel.proofs.Says.{odd-says}
 use Rattle.kernel.proofs.is_lawful.Statement.{statement}
 use Rattle.kernel.proofs.is_lawful.Tie as tie
+
+-- the places past the first three tests, each as seen from the next
+abbrev counted : tie.Then2 → tie.Then1
+counted c = c .before .before
+
+abbrev suited : tie.Then3 → tie.Then2
+suited c = c .before .before
+
+abbrev summed : tie.Then4 → tie.Then3
+summed c = c .before .before
+
+-- what is known at each
+odd : (c : tie.Then1) → oddCount (now (c .before .before .before .args .taps)) ≡ true
+odd c = sym (c .before .odd-count .ensures) ∙ c .if1 .taken
+
+suit : (c : tie.Then2) → tapsSuit lentTotal (now (counted c .before .before .before .args .taps)) ≡ true
+unfolding lentTotal
+suit c = sym (c .before .taps-suit .ensures) ∙ c .if2 .taken
+
+sum : (c : tie.Then3) → sumsTo lentTotal (now (counted (suited c) .before .before .before .args .taps)) ≡ true
+unfolding lentTotal
+sum c = sym (c .before .sums-to .ensures) ∙ c .if3 .taken
+
+same : (c : tie.Then4) → mirrored (now (counted (suited (summed c)) .before .before .before .args .taps)) ≡ true
+same c = sym (c .before .is-mirrored .ensures) ∙ c .if4 .taken
 
 odd-count-requires : tie.Need-odd-count-requires
 odd-count-requires c κs = search needs
@@ -14,45 +41,35 @@ taps-suit-requires : tie.Need-taps-suit-requires
 taps-suit-requires c κs = search needs
 
 sums-to-requires : tie.Need-sums-to-requires
-sums-to-requires c κs = odd-says _ (sym (c .before .before .before .odd-count .ensures) ∙ c .before .before .if1 .taken) .1
+sums-to-requires c κs = odd-says _ (odd (counted c)) .1
 
 is-mirrored-requires : tie.Need-is-mirrored-requires
 is-mirrored-requires c κs = search needs
 
 is-middled-requires : tie.Need-is-middled-requires
-is-middled-requires c κs = omega (arith, odd-says _ (sym (c .before .before .before .before .before .before .before .odd-count .ensures) ∙ c .before .before .before .before .before .before .if1 .taken) .0)
+is-middled-requires c κs = omega (arith, odd-says _ (odd (counted (suited (summed c)))) .0)
 
 returns : tie.Need-returns
-unfolding lawful lentTotal
+unfolding lawful
 returns c =
-    let odd = sym (c .before .before .before .before .before .before .before .before .odd-count .ensures)
-    ∙ c .before .before .before .before .before .before .before .if1 .taken in
-    let suit = sym (c .before .before .before .before .before .before .taps-suit .ensures) ∙ c .before .before .before .before .before .if2 .taken in
-    let sum = sym (c .before .before .before .before .sums-to .ensures) ∙ c .before .before .before .if3 .taken in
-    let same = sym (c .before .before .is-mirrored .ensures) ∙ c .before .if4 .taken in
-    rw (odd, suit, sum, same) (c .is-middled .ensures)
+    let d = c .before in
+    rw (odd (counted (suited (summed d))), suit (suited (summed d)), sum (summed d), same d) (c .is-middled .ensures)
 
 returns-2 : tie.Need-returns-2
-unfolding lawful lentTotal
+unfolding lawful
 returns-2 c =
-    let odd = sym (c .before .before .before .before .before .before .before .odd-count .ensures)
-    ∙ c .before .before .before .before .before .before .if1 .taken in
-    let suit = sym (c .before .before .before .before .before .taps-suit .ensures) ∙ c .before .before .before .before .if2 .taken in
-    let sum = sym (c .before .before .before .sums-to .ensures) ∙ c .before .before .if3 .taken in
-    rw (odd, suit, sum, ← (c .before .is-mirrored .ensures), c .if4 .left)
+    let d = c .before .before in
+    rw (odd (counted (suited d)), suit (suited d), sum d, ← (c .before .is-mirrored .ensures), c .if4 .left)
 
 returns-3 : tie.Need-returns-3
 unfolding lawful lentTotal
 returns-3 c =
-    let odd = sym (c .before .before .before .before .before .odd-count .ensures) ∙ c .before .before .before .before .if1 .taken in
-    let suit = sym (c .before .before .before .taps-suit .ensures) ∙ c .before .before .if2 .taken in
-    rw (odd, suit, ← (c .before .sums-to .ensures), c .if3 .left)
+    let d = c .before .before in
+    rw (odd (counted d), suit d, ← (c .before .sums-to .ensures), c .if3 .left)
 
 returns-4 : tie.Need-returns-4
 unfolding lawful lentTotal
-returns-4 c =
-    let odd = sym (c .before .before .before .odd-count .ensures) ∙ c .before .before .if1 .taken in
-    rw (odd, ← (c .before .taps-suit .ensures), c .if2 .left)
+returns-4 c = rw (odd (c .before .before), ← (c .before .taps-suit .ensures), c .if2 .left)
 
 returns-5 : tie.Need-returns-5
 unfolding lawful lentTotal
