@@ -6,9 +6,12 @@ use Rattle.window.proofs.columns.column.Tie as tie
 enum-told : tie.Need-enum-told
 enum-told c = search needs
 
+-- each looks back to where all slices are known, to where those of the first plane are, and to the start
 column8-requires : tie.Need-column8-requires
 column8-requires c κs =
-    let s = c .before .before .before .before .before .before .before .before .before in
+    let lent = c .before .before in
+    let first-lent = lent .before .before .before .before in
+    let s = first-lent .before .before .before in
     let p = rw (c .enum-told .given .1) at (s .pre) in
     (p .0, (p .1 .0, (p .1 .1 .first, p .1 .1 .second)))
 
@@ -17,7 +20,9 @@ enum-told-2 c = search needs
 
 column16-requires : tie.Need-column16-requires
 column16-requires c κs =
-    let s = c .before .before .before .before .before .before .before .before .before in
+    let lent = c .before .before in
+    let first-lent = lent .before .before .before .before in
+    let s = first-lent .before .before .before in
     let p = rw (c .enum-told2 .given .1) at (s .pre) in
     (p .0, (p .1 .0, (p .1 .1 .first, p .1 .1 .second)))
 
@@ -26,7 +31,9 @@ enum-told-3 c = search needs
 
 column32-requires : tie.Need-column32-requires
 column32-requires c κs =
-    let s = c .before .before .before .before .before .before .before .before .before in
+    let lent = c .before .before in
+    let first-lent = lent .before .before .before .before in
+    let s = first-lent .before .before .before in
     let p = rw (c .enum-told3 .given .1) at (s .pre) in
     (p .0, (p .1 .0, (p .1 .1 .first, p .1 .1 .second)))
 

@@ -18,6 +18,13 @@ Inv-loop cols n kernel x off t₀ k₀ t k = (k ≤ length kernel / 2) × (t ≡
 abbrev μ-loop : tie.MeasureT-loop
 μ-loop cols n kernel x off t₀ k₀ t k = length kernel / 2 - k
 
+-- where the middle cells are read, and the start, as seen from the loop
+abbrev middle : tie.At-loop Inv-loop μ-loop → tie.After-cells Inv-loop μ-loop
+middle c = c .before .before
+
+abbrev start : tie.At-loop Inv-loop μ-loop → tie.Start Inv-loop μ-loop
+start c = middle c .before .before .before .before
+
 none-requires : tie.Need-none-requires Inv-loop μ-loop
 none-requires c κs = search needs
 
@@ -67,15 +74,16 @@ sub-pair : tie.Need-sub-pair Inv-loop μ-loop
 sub-pair c = omega arith
 
 pair-requires : tie.Need-pair-requires Inv-loop μ-loop
-pair-requires c κs = (omega arith, c .before .before .before .before .before .before .before .before .pre .1 .1)
+pair-requires c κs = (omega arith, start (c .before .before) .pre .1 .1)
 
 tapped-requires-2 : tie.Need-tapped-requires-2 Inv-loop μ-loop
 tapped-requires-2 c κs =
-    let s = c .before .before .before .before .before .before .before .before .before in
+    let l = c .before .before .before in
+    let s = start l in
     let off = length (now (s .args .kernel)) / 2 in
-    let k = c .before .before .before .loop .k in
+    let k = l .loop .k in
     let room = folds-room (now (s .args .kernel)) (cellOf (now (s .args .cols))) (s .args .x) (s .pre .1 .0)
-    (λ m l j q. s .pre .1 .1 (5 * (s .args .x + j) + m) (omega arith) .low) _ k (c .before .before .before .loop .inv .1)
+    (λ m l j q. s .pre .1 .1 (5 * (s .args .x + j) + m) (omega arith) .low) _ k (l .loop .inv .1)
     (c .before .before .loop-test .taken) in
     rw (c .pair .ensures)
     (λ m l.
@@ -96,7 +104,7 @@ loop-again c = (
 
 returns : tie.Need-returns Inv-loop μ-loop
 returns c =
-    let s = c .before .before .before .before .before .before .before in
+    let s = start (c .before) in
     let e : c .before .loop .k ≡ length (now (s .args .kernel)) / 2 = omega arith in
     rw e at (c .before .loop .inv .1) ∙ folds-all (now (s .args .kernel)) (cellOf (now (s .args .cols))) (s .args .x) (s .pre .1 .0)
 
