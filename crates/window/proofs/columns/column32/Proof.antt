@@ -59,10 +59,10 @@ sample32-requires-2 c κs =
 
 tapped-requires : tie.Need-tapped-requires Inv-loop μ-loop
 tapped-requires c κs =
-    let l = c .before .before .before .before in
-    let s = start l in
+    let at-loop = c .before .before .before .before in
+    let s = start at-loop in
     let in-width = s .pre .0 .0 in
-    column-room _ _ _ _ _ _ _ _ _ _ (l .loop .inv .2) (c .before .sample32 .ensures) (c .sample322 .ensures) (s .pre .1 .0)
+    column-room _ _ _ _ _ _ _ _ _ _ (at-loop .loop .inv .2) (c .before .sample32 .ensures) (c .sample322 .ensures) (s .pre .1 .0)
     (λ r l. s .pre .1 .1 .0 .small r _ l in-width) (λ r l. s .pre .1 .1 .1 .small r _ l in-width) (omega arith) (omega arith) (omega arith)
 
 add-k : tie.Need-add-k Inv-loop μ-loop

@@ -41,13 +41,14 @@ mul-put c = omega (arith, side-small)
 
 put-requires : tie.Need-put-requires Inv-loop μ-loop
 put-requires c κs =
-    let l = c .before .before .before in
-    let s = start l in
-    let x = l .loop .x in
+    let at-loop = c .before .before .before in
+    let s = start at-loop in
+    let x = at-loop .loop .x in
     let in-width : x < s .args .grid .width = omega arith in (
       omega arith,
       column-fits (now (s .args .kernel)) (s .args .grid .height) (sampleAt (both s .a)) (sampleAt (both s .b)) x (s .args .y) _
-          (c .before .column .ensures) (s .pre .1 .0) (λ r l. s .pre .1 .1 .first .small r x l in-width) (λ r l. s .pre .1 .1 .second .small r x l in-width),
+          (c .before .column .ensures) (s .pre .1 .0)
+          (λ r l. s .pre .1 .1 .first .small r x l in-width) (λ r l. s .pre .1 .1 .second .small r x l in-width),
     )
 
 add-x : tie.Need-add-x Inv-loop μ-loop

@@ -78,12 +78,12 @@ pair-requires c κs = (omega arith, start (c .before .before) .pre .1 .1)
 
 tapped-requires-2 : tie.Need-tapped-requires-2 Inv-loop μ-loop
 tapped-requires-2 c κs =
-    let l = c .before .before .before in
-    let s = start l in
+    let at-loop = c .before .before .before in
+    let s = start at-loop in
     let off = length (now (s .args .kernel)) / 2 in
-    let k = l .loop .k in
+    let k = at-loop .loop .k in
     let room = folds-room (now (s .args .kernel)) (cellOf (now (s .args .cols))) (s .args .x) (s .pre .1 .0)
-    (λ m l j q. s .pre .1 .1 (5 * (s .args .x + j) + m) (omega arith) .low) _ k (l .loop .inv .1)
+    (λ m l j q. s .pre .1 .1 (5 * (s .args .x + j) + m) (omega arith) .low) _ k (at-loop .loop .inv .1)
     (c .before .before .loop-test .taken) in
     rw (c .pair .ensures)
     (λ m l.

@@ -36,9 +36,9 @@ tap64-requires c κs = search needs
 
 add-sum : tie.Need-add-sum Inv-loop μ-loop
 add-sum c =
-    let l = c .before .before .before in
-    let s = l .before .before .before .before in
-    let room = part-room _ _ (λ (i : ℕ). 1) _ 1 _ _ (s .pre .1) (λ k a m n. le-refl 1) (l .loop .inv .2)
+    let at-loop = c .before .before .before in
+    let s = at-loop .before .before .before .before in
+    let room = part-room _ _ (λ (i : ℕ). 1) _ 1 _ _ (s .pre .1) (λ k a m n. le-refl 1) (at-loop .loop .inv .2)
     (omega arith) (omega arith) (omega arith) in
     omega (arith, room, total-room)
 
