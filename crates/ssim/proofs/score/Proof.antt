@@ -1,8 +1,10 @@
 -- `ssim::score` meets its contract. Assumes nothing.
-use mathlib.Core.Path.{sym, refl, ap, subst⁻¹}
-use Prim.Native.Nat.{_*_}
+use mathlib.Core.Path.{_≡_, sym, refl, ap, subst⁻¹}
+use Prim.Native.Nat.{_*_, _≤_}
+use native.Mathlib.Omega.{arith}
 use borrow.Author.Needs.{needs}
 use denote.Ref.{now}
+use lib.ListN.{length, take}
 use lib.Seq.{length-take-le}
 use Rattle.number.specs.Steps.{double}
 use Rattle.plane.specs.Plane.{maxOf}
@@ -13,6 +15,20 @@ use Rattle.ssim.specs.Answer.{pairOf}
 use Rattle.ssim.specs.Inner.Walk.{totalsOn}
 use Rattle.ssim.proofs.score.Statement.{statement}
 use Rattle.ssim.proofs.score.Tie as tie
+
+-- where all slices are known, and the start, as seen from where the places are counted
+abbrev lent : tie.After-scratch-places → tie.After-shared-slice-known5
+lent c = c .before
+
+abbrev start : tie.After-scratch-places → tie.Start
+start c = lent c .before .before .before .before .before
+
+-- the part that is lent on is as long as was counted
+long : (c : tie.After-scratch-places) → length (take (c .scratch-places .result) (now (start c .args .scratch))) ≡ c .scratch-places .result
+long c =
+    let s = start c in
+    let enough : c .scratch-places .result ≤ length (now (s .args .scratch)) = omega (arith, c .scratch-places .ensures, s .pre .lent-enough) in
+    length-take-le _ _ enough
 
 scratch-places-requires : tie.Need-scratch-places-requires
 scratch-places-requires c κs = search needs
@@ -37,18 +53,18 @@ slice-relend-prefix-totals c = search needs
 
 slice-aggregate-totals-3 : tie.Need-slice-aggregate-totals-3
 slice-aggregate-totals-3 c =
-    let s = c .before .before .before .before .before .before .before .before .before .before .before .before in
-    let need = c .before .before .before .before .before .before .scratch-places in
-    sym (length-take-le _ (now (s .args .scratch)) (rw (need .ensures) (s .pre .lent-enough)))
+    let gridded = c .before .before .before in
+    let counted = gridded .before .before .before in
+    sym (long counted)
 
 totals-requires : tie.Need-totals-requires
 unfolding lentTotal
 totals-requires c κs =
-    let s = c .before .before .before .before .before .before .before .before .before .before .before .before in
-    let need = c .before .before .before .before .before .before .scratch-places in
-    let long = length-take-le (need .result) (now (s .args .scratch)) (rw (need .ensures) (s .pre .lent-enough)) in
-    rw (c .before .before .before .grid-of .ensures) (
-      (s .pre .width-most, s .pre .height-most, rw (long, need .ensures) (s .pre .columns-fit)),
+    let gridded = c .before .before .before in
+    let counted = gridded .before .before .before in
+    let s = start counted in
+    rw (gridded .grid-of .ensures) (
+      (s .pre .width-most, s .pre .height-most, rw (long counted, counted .scratch-places .ensures) (s .pre .columns-fit)),
       (
         s .pre .kernel,
         (s .pre .total, λ _. subst⁻¹ (λ (p : OnGrid). Summable p) (grid-same (s .args .layout) _ _ _ _ _ _ _ refl) (s .pre .summable)),
@@ -63,16 +79,18 @@ same-length c = search needs
 
 returns : tie.Need-returns
 returns c =
-    let s = c .before .before .before .before .before .before .before .before .before .before .before .before .before .before .before in
-    let need = c .before .before .before .before .before .before .before .before .before .scratch-places in
-    let largest = c .before .before .before .before .before .before .before .before .sample-max .ensures in
-    let max = c .before .before .before .before .before .before .before .squared .ensures in
-    let grid = c .before .before .before .before .before .before .grid-of .ensures in
+    let lent-on = c .before .before .before in
+    let gridded = lent-on .before .before .before in
+    let counted = gridded .before .before .before in
+    let s = start counted in
+    let largest = gridded .before .before .sample-max .ensures in
+    let max = gridded .before .squared .ensures in
     let totals = c .before .before .totals .ensures in
     let m = maxOf (s .args .layout .size .depth) in (
-      rw (c .pair .ensures, totals .0, max, largest, grid)
-          (ap (λ (p : OnGrid). pairOf (totalsOn (double (m * m)) (now (s .args .kernel)) p (p .height))) (grid-same (s .args .layout) _ _ _ _ _ _ _ refl)),
-      rw (totals .1, length-take-le (need .result) (now (s .args .scratch)) (rw (need .ensures) (s .pre .lent-enough)), need .ensures),
+      rw (c .pair .ensures, totals .0, max, largest, gridded .grid-of .ensures)
+          (ap (λ (p : OnGrid). pairOf (totalsOn (double (m * m)) (now (s .args .kernel)) p (p .height)))
+          (grid-same (s .args .layout) _ _ _ _ _ _ _ refl)),
+      rw (totals .1, long counted, counted .scratch-places .ensures),
     )
 
 pub score-spec : {M : Type 1} → statement M

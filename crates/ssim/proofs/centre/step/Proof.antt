@@ -25,13 +25,14 @@ double-requires-6 c κs = search needs
 returns : tie.Need-returns
 unfolding withCentre
 returns c =
+    let converted = c .before .before .before in
     simp (
-      c .before .before .before .before .before .before .before .before .double .ensures,
-      c .before .before .before .before .before .before .before .double2 .ensures,
-      c .before .before .before .before .before .before .double3 .ensures,
-      c .before .before .before .before .before .double4 .ensures,
-      c .before .before .before .before .double5 .ensures,
-      c .before .before .before .double6 .ensures,
+      converted .before .before .before .before .before .double .ensures,
+      converted .before .before .before .before .double2 .ensures,
+      converted .before .before .before .double3 .ensures,
+      converted .before .before .double4 .ensures,
+      converted .before .double5 .ensures,
+      converted .double6 .ensures,
     )
 
 pub step-spec : {M : Type 1} → statement M

@@ -1,10 +1,12 @@
 -- `ssim::walk::rows` meets its contract: the rows above y are scored, and the margins are zero. Assumes nothing.
 use mathlib.Core.Path.{_≡_, refl, sym, _∙_}
-use Prim.Native.Nat.{_+_, _≤_, _-_, _*_, _/_}
+use mathlib.Core.List.{List}
+use Prim.Native.Nat.{ℕ, _+_, _≤_, _-_, _*_, _/_}
 use native.Mathlib.Omega.{arith}
 use borrow.Author.Needs.{needs}
-use borrow.Rule.Slice.PartMut.{same-len-mid}
+use borrow.Rule.Slice.PartMut.{midOf, same-len-mid}
 use denote.Ref.{now}
+use lib.IntN.{ℤ}
 use lib.ListN.{length}
 use Rattle.plane.specs.Plane.{sampleAt}
 use Rattle.plane.proofs.Limits.{side-small}
@@ -24,8 +26,39 @@ Inv-loop a8 a16 a32 b8 b16 b32 grid kernel total max2 cols₀ width height start
 abbrev μ-loop : tie.MeasureT-loop
 μ-loop a8 a16 a32 b8 b16 b32 grid kernel total max2 cols₀ width height start end t₀ y₀ cols t y = height - y
 
+-- where the first plane's slices are known; and the start, as seen from the loop
+abbrev first : tie.After-shared-slice-known7 Inv-loop μ-loop → tie.After-shared-slice-known3 Inv-loop μ-loop
+first c = c .before .before .before .before
+
+abbrev begun : tie.At-loop Inv-loop μ-loop → tie.Start Inv-loop μ-loop
+begun c = first (c .before) .before .before .before
+
 abbrev both : tie.Start Inv-loop μ-loop → OnGrid
 both s = onGrid (s .args .grid) (s .args .a8) (s .args .a16) (s .args .a32) (s .args .b8) (s .args .b16) (s .args .b32)
+
+-- the columns of a row: the place where they begin, and how many places they take
+abbrev start : tie.Start Inv-loop μ-loop → ℕ
+start s = 5 * (length (now (s .args .kernel)) / 2)
+
+abbrev count : tie.Start Inv-loop μ-loop → ℕ
+count s = start s + 5 * s .args .grid .width - start s
+
+room : (c : tie.At-loop Inv-loop μ-loop) → start (begun c) + count (begun c) ≤ length (c .loop .cols)
+room c = omega arith
+
+-- where they are filled: the turn's beginning, what they are then, and that they are as many as before
+module _ (c : tie.After-fill Inv-loop μ-loop) where
+  abbrev turn : tie.At-loop Inv-loop μ-loop
+  turn = c .before .before .before
+
+  abbrev filled : List ℤ
+  filled = c .fill .last .1 .1 .1 .1 .1 .1 .1 .1 .1 .0
+
+  kept : length filled ≡ length (midOf (start (begun turn)) (count (begun turn)) (turn .loop .cols))
+  kept = c .fill .kept .1 .1 .1 .1 .1 .1 .1 .1 .1 .0
+
+  same : length filled ≡ count (begun turn)
+  same = kept ∙ part-length (start (begun turn)) (count (begun turn)) (turn .loop .cols) (room turn)
 
 mul-start : tie.Need-mul-start Inv-loop μ-loop
 mul-start c = omega (arith, side-small, taps-room)
@@ -37,7 +70,7 @@ add-end : tie.Need-add-end Inv-loop μ-loop
 add-end c = omega (arith, side-small, taps-room)
 
 loop-holds : tie.Need-loop-holds Inv-loop μ-loop
-loop-holds c = (search needs, refl, c .before .before .before .before .before .before .before .pre .1 .0, sym (totals-none _ _ _ _ _ _))
+loop-holds c = (search needs, refl, first c .before .before .before .pre .1 .0, sym (totals-none _ _ _ _ _ _))
 
 mul-fill : tie.Need-mul-fill Inv-loop μ-loop
 mul-fill c = omega (arith, taps-room)
@@ -53,40 +86,31 @@ part-fill-end c = omega arith
 
 fill-requires : tie.Need-fill-requires Inv-loop μ-loop
 fill-requires c κs =
-    let s = c .before .before .before .before .before .before .before .before .before .before in
-    let l = c .before .before .loop in
-    let start = 5 * (length (now (s .args .kernel)) / 2) in
-    let k = start + 5 * s .args .grid .width - start in
-    let room : start + k ≤ length (l .cols) = omega arith in
-    (omega (arith, part-length start k (l .cols) room), (s .pre .1 .1 .0, s .pre .1 .1 .1 .1 (omega arith)))
+    let l = c .before .before in
+    let s = begun l in
+    (omega (arith, part-length (start s) (count s) (l .loop .cols) (room l)), (s .pre .1 .1 .0, s .pre .1 .1 .1 .1 (omega arith)))
 
 weight-requires : tie.Need-weight-requires Inv-loop μ-loop
-weight-requires c κs = let s = c .before .before .before .before .before .before .before .before .before .before .before .before in (omega arith, (s .pre .1 .1 .0, s .pre .1 .1 .1 .0))
+weight-requires c κs = let s = begun (c .before .before .before .before) in (omega arith, (s .pre .1 .1 .0, s .pre .1 .1 .1 .0))
 
 centres-requires : tie.Need-centres-requires Inv-loop μ-loop
 centres-requires c κs =
-    let s = c .before .before .before .before .before .before .before .before .before .before .before .before .before .before in
-    let f = c .before .before .before .fill in
-    let after = f .last .1 .1 .1 .1 .1 .1 .1 .1 .1 .0 in
-    let kept = f .kept .1 .1 .1 .1 .1 .1 .1 .1 .1 .0 in
-    let l = c .before .before .before .before .before .before .loop in
-    let start = 5 * (length (now (s .args .kernel)) / 2) in
-    let k = start + 5 * s .args .grid .width - start in
-    let room : start + k ≤ length (l .cols) = omega arith in
-    let same = kept ∙ part-length start k (l .cols) room in
+    let f = c .before .before .before in
+    let s = begun (turn f) in
+    let l = turn f .loop in
     let small = s .pre .1 .1 .1 .1 (omega arith) in (
       omega (
         arith,
-        same-len-mid start k (l .cols) after kept,
+        same-len-mid (start s) (count s) (l .cols) (filled f) (kept f),
         weight-le (now (s .args .kernel)) (s .args .grid .height) (l .y) (s .pre .1 .1 .0),
       ),
       (
         s .pre .1 .1 .0,
         (
           s .pre .1 .1 .1 .0,
-          all-sums (l .cols) after k (now (s .args .kernel)) (s .args .grid .width) (s .args .grid .height)
+          all-sums (l .cols) (filled f) (count s) (now (s .args .kernel)) (s .args .grid .width) (s .args .grid .height)
               (sampleAt (both s .a))
-              (sampleAt (both s .b)) (l .y) (f .ensures) (l .inv .2) (omega arith) (omega arith) same
+              (sampleAt (both s .b)) (l .y) (f .fill .ensures) (l .inv .2) (omega arith) (omega arith) (same f)
               (s .pre .1 .1 .0) (small .first .small) (small .second .small),
         ),
       ),
@@ -94,7 +118,7 @@ centres-requires c κs =
 
 add-y : tie.Need-add-y Inv-loop μ-loop
 add-y c =
-    let s = c .before .before .before .before .before .before .before .before .before .before .before .before .before .before .before in
+    let s = begun (turn (c .before .before .before .before)) in
     omega (arith, side-small, s .pre .0)
 
 loop-less : tie.Need-loop-less Inv-loop μ-loop
@@ -102,25 +126,19 @@ loop-less c = search needs
 
 loop-again : tie.Need-loop-again Inv-loop μ-loop
 loop-again c =
-    let s = c .before .before .before .before .before .before .before .before .before .before .before .before .before .before .before in
-    let f = c .before .before .before .before .fill in
-    let after = f .last .1 .1 .1 .1 .1 .1 .1 .1 .1 .0 in
-    let kept = f .kept .1 .1 .1 .1 .1 .1 .1 .1 .1 .0 in
-    let l = c .before .before .before .before .before .before .before .loop in
-    let start = 5 * (length (now (s .args .kernel)) / 2) in
-    let k = start + 5 * s .args .grid .width - start in
-    let room : start + k ≤ length (l .cols) = omega arith in
-    let same = kept ∙ part-length start k (l .cols) room in (
+    let f = c .before .before .before .before in
+    let s = begun (turn f) in
+    let l = turn f .loop in (
       search needs,
-      same-len-mid start k (l .cols) after kept ∙ l .inv .1,
-      margins-kept (l .cols) after k (now (s .args .kernel)) (s .args .grid .width) (s .args .grid .height)
+      same-len-mid (start s) (count s) (l .cols) (filled f) (kept f) ∙ l .inv .1,
+      margins-kept (l .cols) (filled f) (count s) (now (s .args .kernel)) (s .args .grid .width) (s .args .grid .height)
           (sampleAt (both s .a))
-          (sampleAt (both s .b)) (l .y) (f .ensures) (l .inv .2) (omega arith) (omega arith) same,
+          (sampleAt (both s .b)) (l .y) (f .fill .ensures) (l .inv .2) (omega arith) (omega arith) (same f),
       rw (c .centres .ensures, c .before .before .weight .ensures, l .inv .3)
           (totals-more (s .args .max2) (now (s .args .kernel)) (s .args .grid .width) (s .args .grid .height)
           (sampleAt (both s .a))
           (sampleAt (both s .b))
-          (l .cols) after k (l .y) (f .ensures) (l .inv .2) (omega arith) (omega arith) same),
+          (l .cols) (filled f) (count s) (l .y) (f .fill .ensures) (l .inv .2) (omega arith) (omega arith) (same f)),
     )
 
 same-length : tie.Need-same-length Inv-loop μ-loop
@@ -128,7 +146,7 @@ same-length c = c .before .loop .inv .1
 
 returns : tie.Need-returns Inv-loop μ-loop
 returns c =
-    let e : c .before .loop .y ≡ c .before .before .before .before .before .before .before .before .before .args .grid .height = omega arith in
+    let e : c .before .loop .y ≡ begun (c .before) .args .grid .height = omega arith in
     rw e at (c .before .loop .inv .3)
 
 pub rows-spec : {M : Type 1} → statement M

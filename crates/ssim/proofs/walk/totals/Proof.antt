@@ -10,14 +10,28 @@ use Rattle.window.proofs.Sums.Held.{margins-zero}
 use Rattle.ssim.proofs.walk.totals.Statement.{statement}
 use Rattle.ssim.proofs.walk.totals.Tie as tie
 
+-- where the places are cleared, as seen from the call of rows; where all slices are known, and those of the first plane; and the start
+abbrev cleared : tie.After-rows-arg → tie.After-clear
+cleared c = c .before .before
+
+abbrev known : tie.After-clear → tie.After-shared-slice-known7
+known c = c .before .before
+
+abbrev first : tie.After-shared-slice-known7 → tie.After-shared-slice-known3
+first c = c .before .before .before .before
+
+abbrev start : tie.After-clear → tie.Start
+start c = first (known c) .before .before .before
+
 clear-requires : tie.Need-clear-requires
 clear-requires c κs = search needs
 
 rows-requires : tie.Need-rows-requires
 rows-requires c κs =
-    let s = c .before .before .before .before .before .before .before .before .before .before .before in (
-      omega (arith, c .before .before .clear .kept .0),
-      (margins-zero (c .before .before .clear .last .0) (length (now (s .args .scratch))) _ _ (c .before .before .clear .ensures), s .pre .1),
+    let d = cleared c in
+    let s = start d in (
+      omega (arith, d .clear .kept .0),
+      (margins-zero (d .clear .last .0) (length (now (s .args .scratch))) _ _ (d .clear .ensures), s .pre .1),
     )
 
 clear-requires-2 : tie.Need-clear-requires-2
@@ -27,10 +41,11 @@ same-length : tie.Need-same-length
 same-length c = search needs
 
 returns : tie.Need-returns
-returns c = (
-  c .before .before .before .before .rows .ensures,
-  c .before .clear2 .ensures ∙ ap (λ (n : ℕ). replicate n (pos 0)) (c .before .before .before .before .rows .kept .1 .1 .1 .1 .1 .1 .1 .1 .1 .1 .0 ∙ c .before .before .before .before .before .before .before .clear .kept .0),
-)
+returns c =
+    let r = c .before .before .before .before in
+    let rows-kept = r .rows .kept .1 .1 .1 .1 .1 .1 .1 .1 .1 .1 .0 in
+    let clear-kept = cleared (r .before) .clear .kept .0 in
+    (r .rows .ensures, c .before .clear2 .ensures ∙ ap (λ (n : ℕ). replicate n (pos 0)) (rows-kept ∙ clear-kept))
 
 pub totals-spec : {M : Type 1} → statement M
 totals-spec =
