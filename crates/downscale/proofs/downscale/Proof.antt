@@ -44,8 +44,9 @@ loop-less c = search needs
 
 loop-again : tie.Need-loop-again Inv-loop μ-loop
 loop-again c =
-    let s = c .before .before .before .before .before .before .before in
-    let l = c .before .before .before .before .before .loop in
+    let at-loop = c .before .before .before .before .before in
+    let s = at-loop .before .before in
+    let l = at-loop .loop in
     let r = c .before .before .sum-row in (
       omega arith,
       r .kept .0 ∙ l .inv .1,

@@ -21,14 +21,18 @@ Inv-loop bytes words size stride longs₀ width y₀ y-end longs y =
 abbrev μ-loop : tie.MeasureT-loop
 μ-loop bytes words size stride longs₀ width y₀ y-end longs y = size .height - y
 
+-- the start, as seen from the loop
+abbrev start : tie.At-loop Inv-loop μ-loop → tie.Start Inv-loop μ-loop
+start c = c .before .before .before .before
+
 loop-holds : tie.Need-loop-holds Inv-loop μ-loop
 loop-holds c = (search needs, refl, filled-none _ _ _)
 
 -- row y begins at a place that can be counted, there and here
-begins : (c : tie.In-loop Inv-loop μ-loop) → let s = c .before .before .before .before .before in
+begins : (c : tie.In-loop Inv-loop μ-loop) → let s = start (c .before) in
     (c .before .loop .y * s .args .stride < 2 ^ 64) × (c .before .loop .y * s .args .size .width < 2 ^ 64)
 begins c =
-    let s = c .before .before .before .before .before in
+    let s = start (c .before) in
     let there = row-inside (s .args .size .width) (s .args .stride) (s .pre .0) (c .loop-test .taken) in
     let here = mul-le-mul-right (s .args .size .width) (c .loop-test .taken) in
     let few = count-fits (s .args .size .wide) (now (s .args .bytes)) (now (s .args .words)) (omega arith) (omega arith) in
@@ -42,7 +46,7 @@ mul-widen-row-2 c = omega (arith, begins c)
 
 widen-row-requires : tie.Need-widen-row-requires Inv-loop μ-loop
 widen-row-requires c κs =
-    let s = c .before .before .before .before .before .before in (
+    let s = start (c .before .before) in (
       row-inside (s .args .size .width) (s .args .stride) (s .pre .0) (c .before .loop-test .taken),
       omega (arith, mul-le-mul-right (s .args .size .width) (c .before .loop-test .taken)),
     )
@@ -55,8 +59,9 @@ loop-less c = search needs
 
 loop-again : tie.Need-loop-again Inv-loop μ-loop
 loop-again c =
-    let s = c .before .before .before .before .before .before .before .before .before in
-    let l = c .before .before .before .before .before .loop in
+    let at-loop = c .before .before .before .before .before in
+    let s = start at-loop in
+    let l = at-loop .loop in
     let r = c .before .before .widen-row in (
       omega arith,
       r .kept .1 .1 .1 .1 .1 .1 .0 ∙ l .inv .1,
@@ -69,7 +74,7 @@ same-length c = c .before .loop .inv .1
 
 returns : tie.Need-returns Inv-loop μ-loop
 returns c =
-    let e : c .before .loop .y ≡ c .before .before .before .before .before .args .size .height = omega arith in
+    let e : c .before .loop .y ≡ start (c .before) .args .size .height = omega arith in
     rw e at (c .before .loop .inv .2)
 
 pub widen-spec : {M : Type 1} → statement M

@@ -20,12 +20,16 @@ Inv-loop bytes words wide start width to longs₀ x₀ longs x =
 abbrev μ-loop : tie.MeasureT-loop
 μ-loop bytes words wide start width to longs₀ x₀ longs x = width - x
 
+-- the start, as seen from the loop
+abbrev begun : tie.At-loop Inv-loop μ-loop → tie.Start Inv-loop μ-loop
+begun c = c .before .before .before .before
+
 loop-holds : tie.Need-loop-holds Inv-loop μ-loop
 loop-holds c = (search needs, refl, put-none _ _ _)
 
 add-sample : tie.Need-add-sample Inv-loop μ-loop
 add-sample c =
-    let s = c .before .before .before .before .before in
+    let s = begun (c .before) in
     omega (arith, count-fits (s .args .wide) (now (s .args .bytes)) (now (s .args .words)) (omega arith) (omega arith))
 
 sample-requires : tie.Need-sample-requires Inv-loop μ-loop
@@ -48,7 +52,7 @@ loop-less c = search needs
 
 loop-again : tie.Need-loop-again Inv-loop μ-loop
 loop-again c =
-    let s = c .before .before .before .before .before .before in
+    let s = begun (c .before .before) in
     let l = c .before .before .loop in (
       search needs,
       simp length-set (l .inv .1),
@@ -61,7 +65,7 @@ same-length c = c .before .loop .inv .1
 
 returns : tie.Need-returns Inv-loop μ-loop
 returns c =
-    let e : c .before .loop .x ≡ c .before .before .before .before .before .args .width = omega arith in
+    let e : c .before .loop .x ≡ begun (c .before) .args .width = omega arith in
     rw e at (c .before .loop .inv .2)
 
 pub widen-row-spec : {M : Type 1} → statement M
