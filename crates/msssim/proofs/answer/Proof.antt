@@ -6,9 +6,12 @@ use Rattle.msssim.proofs.Accept.{sound}
 use Rattle.msssim.proofs.answer.Statement.{statement}
 use Rattle.msssim.proofs.answer.Tie as tie
 
--- where no test refused, as seen from the end
+-- where the planes are scored, and where no test refused, as seen from the end
+abbrev scored : tie.After-slice-known4 → tie.After-score
+scored c = c .before .before .before .before .before
+
 abbrev passed : tie.After-slice-known4 → tie.Else1
-passed c = c .before .before .before .before .before .before .before .before .before
+passed c = scored c .before .before .before .before
 
 refusal-requires : tie.Need-refusal-requires
 refusal-requires c κs = search needs
@@ -40,7 +43,7 @@ same-length-6 c = search needs
 returns-2 : tie.Need-returns-2
 returns-2 c =
     let d = passed c in
-    rw (sym (d .before .refusal .ensures) ∙ d .if1 .left) (c .before .before .before .before .before .score .ensures)
+    rw (sym (d .before .refusal .ensures) ∙ d .if1 .left) (scored c .score .ensures)
 
 pub answer-spec : {M : Type 1} → statement M
 answer-spec =

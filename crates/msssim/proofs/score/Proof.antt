@@ -9,14 +9,23 @@ use lib.Seq.{length-take-le}
 use Rattle.msssim.proofs.score.Statement.{statement}
 use Rattle.msssim.proofs.score.Tie as tie
 
+-- where the planes are known, and the start, as seen from where all slices are
+abbrev planes-known : tie.After-slice-known2 → tie.After-shared-slice-known4
+planes-known c = c .before .before
+
+abbrev begun : tie.After-slice-known2 → tie.Start
+begun c = planes-known c .before .before .before .before
+
 -- the start, as seen from where both counts are known
 abbrev start : tie.After-samples-needed → tie.Start
-start c = c .before .before .before .before .before .before .before .before
+start c = begun (c .before .before)
 
 module _ (c : tie.After-samples-needed) where
   places-long : length (take (c .before .places-needed .result) (now (start c .args .scratch))) ≡ c .before .places-needed .result
   places-long =
-      let enough : c .before .places-needed .result ≤ length (now (start c .args .scratch)) = omega (arith, c .before .places-needed .ensures, start c .pre .places) in
+      let s = start c in
+      let n = c .before .places-needed in
+      let enough : n .result ≤ length (now (s .args .scratch)) = omega (arith, n .ensures, s .pre .places) in
       length-take-le _ _ enough
 
   a32-long : length (take (c .samples-needed .result) (now (start c .args .a32))) ≡ c .samples-needed .result
@@ -30,10 +39,10 @@ module _ (c : tie.After-samples-needed) where
       length-take-le _ _ enough
 
 places-needed-requires : tie.Need-places-needed-requires
-places-needed-requires c κs = c .before .before .before .before .before .before .pre .planes .sized .width-most
+places-needed-requires c κs = begun c .pre .planes .sized .width-most
 
 samples-needed-requires : tie.Need-samples-needed-requires
-samples-needed-requires c κs = let sized = c .before .before .before .before .before .before .before .pre .planes .sized in (sized .width-most, sized .height-most)
+samples-needed-requires c κs = let sized = begun (c .before) .pre .planes .sized in (sized .width-most, sized .height-most)
 
 slice-relend-prefix-score : tie.Need-slice-relend-prefix-score
 slice-relend-prefix-score c = rw (c .before .places-needed .ensures) (start c .pre .places)
@@ -74,8 +83,9 @@ same-length-3 c = search needs
 
 returns : tie.Need-returns
 returns c =
-    let n : tie.After-samples-needed = c .before .before .before .before .before .before .before .before .before in
-    let e = c .before .before .before .before .before .score .ensures in (
+    let scored : tie.After-score = c .before .before .before .before .before in
+    let n : tie.After-samples-needed = scored .before .before .before .before in
+    let e = scored .score .ensures in (
       e .0,
       rw (e .1 .0, places-long n, e .1 .1 .0, a32-long n, e .1 .1 .1, b32-long n, n .before .places-needed .ensures, n .samples-needed .ensures),
     )

@@ -5,9 +5,12 @@ use borrow.Author.Needs.{needs}
 use Rattle.msssim.proofs.five.five.Statement.{statement}
 use Rattle.msssim.proofs.five.five.Tie as tie
 
--- where all are finite, as seen from the end
+-- where half are read, and where all are known to be finite, as seen from the end
+abbrev half-read : tie.After-shared-slice-known11 → tie.After-shared-slice-known6
+half-read c = c .before .before .before .before .before
+
 abbrev finite : tie.After-shared-slice-known11 → tie.Else1
-finite c = c .before .before .before .before .before .before .before .before .before .before
+finite c = half-read c .before .before .before .before .before
 
 all-finite-requires : tie.Need-all-finite-requires
 all-finite-requires c κs = search needs

@@ -14,6 +14,16 @@ use Rattle.downscale.proofs.Summed.{bounded-le}
 use Rattle.msssim.proofs.scale.totals.Statement.{statement}
 use Rattle.msssim.proofs.scale.totals.Tie as tie
 
+-- where the empty slices are made, where the maximum is squared, and the start, as seen from the call
+abbrev made : tie.After-totals-arg5 → tie.After-totals-arg4
+made c = c .before .before
+
+abbrev squared : tie.After-totals-arg5 → tie.After-squared
+squared c = made c .before .before .before .before
+
+abbrev start : tie.After-totals-arg5 → tie.Start
+start c = squared c .before .before .before
+
 -- the part of the places that is lent on
 lent-length : (s : tie.Start) → let need = 5 * (s .args .width + 8) in length (take need (now (s .args .cols))) ≡ need
 lent-length s =
@@ -48,12 +58,12 @@ slice-relend-prefix-totals : tie.Need-slice-relend-prefix-totals
 slice-relend-prefix-totals c = search needs
 
 slice-aggregate-totals-6 : tie.Need-slice-aggregate-totals-6
-slice-aggregate-totals-6 c = sym (lent-length (c .before .before .before .before .before .before .before .before .before))
+slice-aggregate-totals-6 c = sym (lent-length (start c))
 
 totals-requires : tie.Need-totals-requires
 unfolding fixedTotal
 totals-requires c κs =
-    let s : tie.Start = c .before .before .before .before .before .before .before .before .before in
+    let s = start c in
     let most = s .pre .0 .2 in (
       (s .pre .0 .0, s .pre .0 .1, omega (arith, lent-length s)),
       (
@@ -69,7 +79,7 @@ same-length : tie.Need-same-length
 same-length c = search needs
 
 returns : tie.Need-returns
-returns c = let squared : tie.After-squared = c .before .before .before .before .before .before .before .before in rw (c .before .totals .ensures .0, squared .squared .ensures)
+returns c = rw (c .before .totals .ensures .0, squared (c .before .before) .squared .ensures)
 
 pub totals-spec : {M : Type 1} → statement M
 totals-spec =

@@ -1,5 +1,6 @@
 -- The proof of the cycle of calls {pairs_from}. The measure is the number of scales that are left. Assumes nothing.
-use mathlib.Core.Path.{_∙_}
+use mathlib.Core.Path.{_≡_, _∙_}
+use mathlib.Core.List.{List}
 use Prim.Native.Nat.{ℕ, _-_, _*_, _^_, _<_, _≤_}
 use native.Mathlib.Nat.{le-refl}
 use native.Mathlib.Omega.{arith}
@@ -7,6 +8,7 @@ use borrow.Fn.Kinds.{In}
 use borrow.Fn.PlainCycle.{Measures, is, falls, and}
 use borrow.Rule.Slice.PartMut.{same-len-mid}
 use denote.Ref.{now}
+use lib.Ieee.{Float}
 use lib.ListN.{length}
 use Rattle.window.specs.Moments.{mostSample}
 use Rattle.downscale.proofs.Summed.{four-fit, bounded-le, bounded-below}
@@ -43,7 +45,8 @@ claims t = (
 )
 
 module _ (t : ℕ) where
-  -- ---- places: the start, where a scale is left, is summed, has its pair, has its first plane halved, and both; after the call; and the end
+  -- ---- places: the start, where a scale is left, is summed, has its pair, has its first plane halved, its second, and both known; after the
+  -- call; where both planes are back; and the end. Each is seen from the next, or a few further on
   abbrev Start : Type 0
   Start = lts.Start (claims t) (asked t) self.Post
 
@@ -59,11 +62,17 @@ module _ (t : ℕ) where
   abbrev First : Type 0
   First = lts.After-downscale (claims t) (asked t) self.Post
 
+  abbrev Second : Type 0
+  Second = lts.After-downscale2 (claims t) (asked t) self.Post
+
   abbrev Halved : Type 0
   Halved = lts.After-slice-known6 (claims t) (asked t) self.Post
 
   abbrev Called : Type 0
   Called = lts.After-pairs-from (claims t) (asked t) self.Post
+
+  abbrev Back : Type 0
+  Back = lts.After-slice-known8 (claims t) (asked t) self.Post
 
   abbrev End : Type 0
   End = lts.After-slice-known9 (claims t) (asked t) self.Post
@@ -71,23 +80,40 @@ module _ (t : ℕ) where
   abbrev start : Left → Start
   start c = c .before .before .before .before
 
+  abbrev left : Summed → Left
+  left c = c .before .before .before .before
+
+  abbrev summed : Paired → Summed
+  summed c = c .before .before .before
+
+  abbrev paired : First → Paired
+  paired c = c .before .before .before .before
+
+  abbrev begun : First → Left
+  begun c = left (summed (paired c))
+
+  abbrev second : Halved → Second
+  second c = c .before .before
+
   abbrev first : Halved → First
-  first c = c .before .before .before .before .before .before
+  first c = second c .before .before .before .before
 
-  abbrev paired : Halved → Paired
-  paired c = first c .before .before .before .before
-
-  abbrev summed : Halved → Summed
-  summed c = paired c .before .before .before
-
-  abbrev left : Halved → Left
-  left c = summed c .before .before .before .before
+  abbrev back : End → Back
+  back c = c .before .before .before
 
   abbrev called : End → Called
-  called c = c .before .before .before .before .before .before .before
+  called c = back c .before .before .before .before
 
   abbrev halved : End → Halved
   halved c = called c .before .before .before .before .before
+
+  -- the pairs that the call leaves
+  abbrev pairs-after : Called → List Float
+  pairs-after c = c .pairs-from .last .1 .1 .1 .1 .1 .1 .1 .0
+
+  -- the places for sums are as many as before
+  sums-kept : (c : Summed) → length (c .totals .last .1 .1 .1 .1 .1 .0) ≡ length (now (start (left c) .args .cols))
+  sums-kept c = c .totals .kept .1 .1 .1 .1 .1 .0
 
   -- the samples of this scale fit, and so do those of the scales below
   fits : (c : Left) → let s = start c in (s .args .max ≤ mostSample) × (4 * s .args .max * 4 ^ (s .args .left - 1) ≤ 4 * mostSample)
@@ -101,35 +127,35 @@ module _ (t : ℕ) where
       ((s .pre .1 .0 .0, s .pre .1 .0 .1, fits l .0, s .pre .1 .0 .2), s .pre .1 .1 .1)
 
   put-pair-requires : lts.Need-put-pair-requires (claims t) (asked t) self.Post
-  put-pair-requires c κs = let l : Left = c .before .before .before .before .before .before in omega (arith, start l .pre .1 .1 .0 .1, l .if1 .taken)
+  put-pair-requires c κs = let l = left (c .before .before) in omega (arith, start l .pre .1 .1 .0 .1, l .if1 .taken)
 
   downscale-requires : lts.Need-downscale-requires (claims t) (asked t) self.Post
   downscale-requires c κs =
-      let l : Left = c .before .before .before .before .before .before .before .before .before .before in
+      let l = left (summed (c .before .before .before)) in
       let s = start l in
       (s .pre .1 .0 .1, bounded-le (fits l .0) (s .pre .1 .1 .1 .0))
 
   downscale-requires-2 : lts.Need-downscale-requires-2 (claims t) (asked t) self.Post
   downscale-requires-2 c κs =
-      let l : Left = c .before .before .before .before .before .before .before .before .before .before .before .before .before .before in
+      let l = begun (c .before .before .before) in
       let s = start l in
       (s .pre .1 .0 .1, bounded-le (fits l .0) (s .pre .1 .1 .1 .1))
 
   mul-pairs-from : lts.Need-mul-pairs-from (claims t) (asked t) self.Post
-  mul-pairs-from c = omega (arith, fits (left (c .before .before)) .0, four-fit)
+  mul-pairs-from c = omega (arith, fits (begun (first (c .before .before))) .0, four-fit)
 
   sub-pairs-from : lts.Need-sub-pairs-from (claims t) (asked t) self.Post
-  sub-pairs-from c = left (c .before .before) .if1 .taken
+  sub-pairs-from c = begun (first (c .before .before)) .if1 .taken
 
   sub-pairs-from-2 : lts.Need-sub-pairs-from-2 (claims t) (asked t) self.Post
   sub-pairs-from-2 c =
-      let h : Halved = c .before .before .before in
-      omega (arith, paired h .put-pair .kept .1 .0, start (left h) .pre .1 .1 .0 .1, left h .if1 .taken)
+      let f = first (c .before .before .before) in
+      omega (arith, paired f .put-pair .kept .1 .0, start (begun f) .pre .1 .1 .0 .1, begun f .if1 .taken)
 
   part-pairs-from-start : lts.Need-part-pairs-from-start (claims t) (asked t) self.Post
   part-pairs-from-start c =
-      let h : Halved = c .before .before .before in
-      omega (arith, paired h .put-pair .kept .1 .0, start (left h) .pre .1 .1 .0 .1, left h .if1 .taken)
+      let f = first (c .before .before .before) in
+      omega (arith, paired f .put-pair .kept .1 .0, start (begun f) .pre .1 .1 .0 .1, begun f .if1 .taken)
 
   part-pairs-from-end : lts.Need-part-pairs-from-end (claims t) (asked t) self.Post
   part-pairs-from-end c = le-refl _
@@ -137,15 +163,16 @@ module _ (t : ℕ) where
   pairs-from-requires : lts.Need-pairs-from-requires (claims t) (asked t) self.Post
   pairs-from-requires c κs =
       let h : Halved = c .before .before .before .before in
-      let s = start (left h) in
+      let l = begun (first h) in
+      let s = start l in
       let a = first h .downscale in
-      let b = h .before .before .downscale2 in
-      let p = paired h .put-pair in (
-        omega (arith, s .pre .0, left h .if1 .taken),
+      let b = second h .downscale2 in
+      let p = paired (first h) .put-pair in (
+        omega (arith, s .pre .0, l .if1 .taken),
         (
-          omega (arith, summed h .totals .kept .1 .1 .1 .1 .1 .0),
+          omega (arith, sums-kept (summed (paired (first h)))),
           (
-            (fits (left h) .1, rest-length (p .last .1 .0) (s .args .left) (p .kept .1 .0 ∙ s .pre .1 .1 .0 .1)),
+            (fits l .1, rest-length (p .last .1 .0) (s .args .left) (p .kept .1 .0 ∙ s .pre .1 .1 .0 .1)),
             (
               bounded-below _ _ _ _ _ (s .pre .1 .1 .1 .0) (a .ensures) (a .kept .0),
               bounded-below _ _ _ _ _ (s .pre .1 .1 .1 .1) (b .ensures) (b .kept .0),
@@ -158,31 +185,30 @@ module _ (t : ℕ) where
   same-length c = called c .pairs-from .kept .0 ∙ first (halved c) .downscale .kept .0
 
   same-length-2 : lts.Need-same-length-2 (claims t) (asked t) self.Post
-  same-length-2 c = called c .pairs-from .kept .1 .0 ∙ halved c .before .before .downscale2 .kept .0
+  same-length-2 c = called c .pairs-from .kept .1 .0 ∙ second (halved c) .downscale2 .kept .0
 
   same-length-3 : lts.Need-same-length-3 (claims t) (asked t) self.Post
-  same-length-3 c = called c .pairs-from .kept .1 .1 .1 .1 .1 .1 .0 ∙ summed (halved c) .totals .kept .1 .1 .1 .1 .1 .0
+  same-length-3 c = called c .pairs-from .kept .1 .1 .1 .1 .1 .1 .0 ∙ sums-kept (summed (paired (first (halved c))))
 
   same-length-4 : lts.Need-same-length-4 (claims t) (asked t) self.Post
   same-length-4 c =
-      let p = paired (halved c) .put-pair in
-      let f = called c .pairs-from in
-      let kept = f .kept .1 .1 .1 .1 .1 .1 in
-      let last = f .last .1 .1 .1 .1 .1 .1 in
-      same-len-mid 2 (length (p .last .1 .0) - 2) (p .last .1 .0) (last .1 .0) (kept .1 .0) ∙ p .kept .1 .0
+      let p = paired (first (halved c)) .put-pair in
+      let f = called c in
+      let pairs-kept = f .pairs-from .kept .1 .1 .1 .1 .1 .1 .1 .0 in
+      same-len-mid 2 (length (p .last .1 .0) - 2) (p .last .1 .0) (pairs-after f) pairs-kept ∙ p .kept .1 .0
 
   returns : lts.Need-returns (claims t) (asked t) self.Post
   returns c =
       let h = halved c in
-      let s = start (left h) in
+      let l = begun (first h) in
+      let s = start l in
       let a = first h .downscale in
-      let b = h .before .before .downscale2 in
-      let p = paired h .put-pair in
-      let f = called c .pairs-from in
-      let last = f .last .1 .1 .1 .1 .1 .1 in
-      let scored = summed h .totals in
+      let b = second h .downscale2 in
+      let p = paired (first h) .put-pair in
+      let f = called c in
+      let scored = summed (paired (first h)) .totals in
       pairs-step (s .args .left) (s .args .max) (s .args .width) (s .args .height) (now (s .args .a32)) (a .last .0) (now (s .args .b32)) (b .last .0)
-      (scored .result) _ (p .last .1 .0) (last .1 .0) (left h .if1 .taken) (scored .ensures) (p .ensures) (f .ensures) (a .ensures) (b .ensures)
+      (scored .result) _ (p .last .1 .0) (pairs-after f) (l .if1 .taken) (scored .ensures) (p .ensures) (f .pairs-from .ensures) (a .ensures) (b .ensures)
 
   returns-2 : lts.Need-returns-2 (claims t) (asked t) self.Post
   returns-2 c = pairs-none _ _ _ (c .before .before .before .before .pre .1 .1 .0 .1) (c .if1 .left)

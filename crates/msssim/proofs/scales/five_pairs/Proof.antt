@@ -18,40 +18,50 @@ use Rattle.msssim.proofs.scales.five_pairs.Tie as tie
 abbrev both : tie.Start → Planes
 both s = planes (s .args .layout) (s .args .a8) (s .args .a16) (s .args .b8) (s .args .b16)
 
--- where both planes are widened
+-- where both planes are lent, and the start, as seen from where the first is to be widened
+abbrev lent : tie.After-widen-arg → tie.After-shared-slice-known4
+lent c = c .before .before .before .before
+
+abbrev begun : tie.After-widen-arg → tie.Start
+begun c = lent c .before .before .before .before
+
+-- where both are widened; and from there, where the second was, the first, and the start
 abbrev Widened : Type 0
 Widened = tie.After-slice-known5
 
+abbrev second : Widened → tie.After-widen2
+second c = c .before .before
+
+abbrev first : Widened → tie.After-widen
+first c = second c .before .before .before .before
+
 abbrev start : Widened → tie.Start
-start c = c .before .before .before .before .before .before .before .before .before .before .before .before .before .before .before
+start c = begun (first c .before)
 
 module _ (c : Widened) where
-  abbrev first : tie.After-widen
-  first = c .before .before .before .before .before .before
-
-  abbrev second : tie.After-widen2
-  second = c .before .before
-
   -- the planes there are those that were lent
   a-bounded : let s = start c in let size = s .args .layout .size in
-      Bounded (maxOf (size .depth)) (size .width) (size .height) (planeOf (first .widen .last .1 .1 .1 .1 .0) (size .width))
+      Bounded (maxOf (size .depth)) (size .width) (size .height) (planeOf (first c .widen .last .1 .1 .1 .1 .0) (size .width))
   a-bounded =
       let s = start c in
-      bounded-widened _ _ _ _ _ (both s .a) (s .pre .0 .planes .sized .height-least) (s .pre .0 .planes .each .0 .bounded) (first .widen .ensures)
-      (omega (arith, first .widen .kept .1 .1 .1 .1 .0, s .pre .0 .a32))
+      bounded-widened _ _ _ _ _ (both s .a) (s .pre .0 .planes .sized .height-least) (s .pre .0 .planes .each .0 .bounded) (first c .widen .ensures)
+      (omega (arith, first c .widen .kept .1 .1 .1 .1 .0, s .pre .0 .a32))
 
   b-bounded : let s = start c in let size = s .args .layout .size in
-      Bounded (maxOf (size .depth)) (size .width) (size .height) (planeOf (second .widen2 .last .1 .1 .1 .1 .0) (size .width))
+      Bounded (maxOf (size .depth)) (size .width) (size .height) (planeOf (second c .widen2 .last .1 .1 .1 .1 .0) (size .width))
   b-bounded =
       let s = start c in
-      bounded-widened _ _ _ _ _ (both s .b) (s .pre .0 .planes .sized .height-least) (s .pre .0 .planes .each .1 .0 .bounded) (second .widen2 .ensures)
-      (omega (arith, second .widen2 .kept .1 .1 .1 .1 .0, s .pre .0 .b32))
+      bounded-widened _ _ _ _ _ (both s .b) (s .pre .0 .planes .sized .height-least) (s .pre .0 .planes .each .1 .0 .bounded)
+      (second c .widen2 .ensures)
+      (omega (arith, second c .widen2 .kept .1 .1 .1 .1 .0, s .pre .0 .b32))
 
 widen-requires : tie.Need-widen-requires
-widen-requires c κs = let s = c .before .before .before .before .before .before .before .before in (s .pre .0 .planes .each .0 .bounded .long, omega (arith, s .pre .0 .a32))
+widen-requires c κs = let s = begun c in (s .pre .0 .planes .each .0 .bounded .long, omega (arith, s .pre .0 .a32))
 
 widen-requires-2 : tie.Need-widen-requires-2
-widen-requires-2 c κs = let s = c .before .before .before .before .before .before .before .before .before .before .before .before in (s .pre .0 .planes .each .1 .0 .bounded .long, omega (arith, s .pre .0 .b32))
+widen-requires-2 c κs =
+    let s = begun (c .before .before .before .before) in
+    (s .pre .0 .planes .each .1 .0 .bounded .long, omega (arith, s .pre .0 .b32))
 
 sample-max-requires : tie.Need-sample-max-requires
 sample-max-requires c κs =
@@ -85,7 +95,8 @@ same-length-4 c = search needs
 returns : tie.Need-returns
 unfolding scaleCount
 returns c =
-    let f : tie.After-pairs-from = c .before .before .before .before .before .before .before in
+    let b-back : tie.After-slice-known7 = c .before .before .before in
+    let f : tie.After-pairs-from = b-back .before .before .before .before in
     let m : tie.After-sample-max = f .before .before .before .before .before in
     let w : Widened = m .before in
     let s = start w in

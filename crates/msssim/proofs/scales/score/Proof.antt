@@ -8,16 +8,38 @@ use Rattle.msssim.specs.Scale.{scaleCount}
 use Rattle.msssim.proofs.scales.score.Statement.{statement}
 use Rattle.msssim.proofs.scales.score.Tie as tie
 
--- the first place cleared, as seen from the end
-abbrev cleared : tie.After-five → tie.After-clear
-cleared c = c .before .before .before .before .before .before .before .before .before .before .before
+-- as seen from the end: where the three lent slices are cleared, the last first; where they are back, and the pairs are known
+abbrev b-cleared : tie.After-five → tie.After-clear3
+b-cleared c = c .before .before .before .before
+
+abbrev a-cleared : tie.After-five → tie.After-clear2
+a-cleared c = b-cleared c .before .before .before .before
+
+abbrev cols-cleared : tie.After-five → tie.After-clear
+cols-cleared c = a-cleared c .before .before .before
+
+abbrev back : tie.After-five → tie.After-slice-known4
+back c = cols-cleared c .before .before .before
+
+abbrev paired : tie.After-five → tie.After-five-pairs
+paired c = back c .before .before .before .before .before
+
+-- where all slices are known, those of the planes, and the start, as seen from the first call
+abbrev known : tie.After-pairs → tie.After-slice-known2
+known c = c .before .before .before .before
+
+abbrev planes-known : tie.After-pairs → tie.After-shared-slice-known4
+planes-known c = known c .before .before
+
+abbrev start : tie.After-pairs → tie.Start
+start c = planes-known c .before .before .before .before
 
 slice-aggregate-five-pairs : tie.Need-slice-aggregate-five-pairs
 slice-aggregate-five-pairs c = search needs
 
 five-pairs-requires : tie.Need-five-pairs-requires
 unfolding scaleCount
-five-pairs-requires c κs = (c .before .before .before .before .before .before .before .before .before .before .pre, refl)
+five-pairs-requires c κs = (start c .pre, refl)
 
 clear-requires : tie.Need-clear-requires
 clear-requires c κs = search needs
@@ -46,14 +68,14 @@ same-length-3 c = search needs
 
 returns : tie.Need-returns
 returns c =
-    let n = cleared c .before .before .before .before .before .before .before .before .five-pairs in
+    let n = paired c .five-pairs in
     let kept = n .kept .1 .1 .1 .1 .1 in (
       rw (c .five .ensures, n .ensures),
       (
-        cleared c .clear .ensures ∙ ap (λ (k : ℕ). replicate k (pos 0)) (kept .0),
+        cols-cleared c .clear .ensures ∙ ap (λ (k : ℕ). replicate k (pos 0)) (kept .0),
         (
-          c .before .before .before .before .before .before .before .before .clear2 .ensures ∙ ap (λ (k : ℕ). replicate k 0) (kept .1 .0),
-          c .before .before .before .before .clear3 .ensures ∙ ap (λ (k : ℕ). replicate k 0) (kept .1 .1 .0),
+          a-cleared c .clear2 .ensures ∙ ap (λ (k : ℕ). replicate k 0) (kept .1 .0),
+          b-cleared c .clear3 .ensures ∙ ap (λ (k : ℕ). replicate k 0) (kept .1 .1 .0),
         ),
       ),
     )
