@@ -62,9 +62,10 @@ loop-again c =
     let at-loop = c .before .before .before .before .before in
     let s = start at-loop in
     let l = at-loop .loop in
-    let r = c .before .before .widen-row in (
+    let r = c .before .before .widen-row in
+    let longs-kept = r .kept .1 .1 .1 .1 .1 .1 .0 in (
       omega arith,
-      r .kept .1 .1 .1 .1 .1 .1 .0 ∙ l .inv .1,
+      longs-kept ∙ l .inv .1,
       filled-more _ _ _ _ (sampleAt (lent (s .args .size) (s .args .bytes) (s .args .words) (s .args .stride))) _ _
           (l .inv .2) (r .ensures) (λ i m. refl),
     )
