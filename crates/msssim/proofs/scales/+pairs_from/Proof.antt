@@ -208,7 +208,8 @@ module _ (t : ℕ) where
       let f = called c in
       let scored = summed (paired (first h)) .totals in
       pairs-step (s .args .left) (s .args .max) (s .args .width) (s .args .height) (now (s .args .a32)) (a .last .0) (now (s .args .b32)) (b .last .0)
-      (scored .result) _ (p .last .1 .0) (pairs-after f) (l .if1 .taken) (scored .ensures) (p .ensures) (f .pairs-from .ensures) (a .ensures) (b .ensures)
+      (scored .result) _ (p .last .1 .0) (pairs-after f) (l .if1 .taken) (scored .ensures) (p .ensures) (f .pairs-from .ensures)
+      (a .ensures) (b .ensures)
 
   returns-2 : lts.Need-returns-2 (claims t) (asked t) self.Post
   returns-2 c = pairs-none _ _ _ (c .before .before .before .before .pre .1 .1 .0 .1) (c .if1 .left)
