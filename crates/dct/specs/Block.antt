@@ -5,6 +5,7 @@ use Prim.Native.Nat.{ℕ, zero, suc, _+_, _*_}
 use lib.IntN.{ℤ, pos}
 use lib.ListN.{getD}
 use Rattle.lifting.specs.Steps.{run, steps, undoAll}
+use Rattle.dct.specs.Limits.{blockSide}
 
 -- eight numbers of a block: the first at a place, each so many places after the one before
 abbrev pub spaced : ℕ → ℕ → List ℤ → List ℤ
@@ -13,10 +14,10 @@ spaced at by b =
     ∷ getD b (at + 4 * by) (pos 0) ∷ getD b (at + 5 * by) (pos 0) ∷ getD b (at + 6 * by) (pos 0) ∷ getD b (at + 7 * by) (pos 0) ∷ []
 
 abbrev pub column : ℕ → List ℤ → List ℤ
-column i = spaced i 8
+column i = spaced i blockSide
 
 abbrev pub row : ℕ → List ℤ → List ℤ
-row i = spaced (8 * i) 1
+row i = spaced (blockSide * i) 1
 
 -- t0 t4 t2 t6 t7 t3 t5 t1 take x0 to x7; and back
 abbrev pub inputOrder : List ℤ → List ℤ
@@ -39,18 +40,18 @@ rows f (suc n) = rows f n ++ f n
 
 -- column i goes to row i, through the pass: one round, and two
 unfoldable pub fdct8Columns : List ℤ → List ℤ
-fdct8Columns b = rows (λ i. fdct8 (column i b)) 8
+fdct8Columns b = rows (λ i. fdct8 (column i b)) blockSide
 
 unfoldable pub fdct8x8 : List ℤ → List ℤ
 fdct8x8 b = fdct8Columns (fdct8Columns b)
 
 -- rows and columns exchanged
 unfoldable pub transposed : List ℤ → List ℤ
-transposed b = rows (λ i. column i b) 8
+transposed b = rows (λ i. column i b) blockSide
 
 -- row i goes to column i, through the pass undone: one round back, and two
 unfoldable pub idct8Rows : List ℤ → List ℤ
-idct8Rows b = transposed (rows (λ i. idct8 (row i b)) 8)
+idct8Rows b = transposed (rows (λ i. idct8 (row i b)) blockSide)
 
 unfoldable pub idct8x8 : List ℤ → List ℤ
 idct8x8 b = idct8Rows (idct8Rows b)

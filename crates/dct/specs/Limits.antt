@@ -1,7 +1,10 @@
 -- SCOPE, "The transform": what the two calls take. Definitions only.
 use Prim.Native.Nat.{ℕ}
 
--- places of a block, row by row
+-- the side of a block, and its places, row by row
+abbrev pub blockSide : ℕ
+blockSide = 8
+
 abbrev pub blockSize : ℕ
 blockSize = 64
 

@@ -1,11 +1,12 @@
 // Rows and columns of a block, and a pass over each of the eight.
+use crate::BLOCK_SIDE;
 use crate::BLOCK_SIZE;
 use lifting::T8;
 ghost use mathlib.Core.Path.{_≡_};
 ghost use mathlib.Core.List.{_++_};
 ghost use Prim.Native.Nat.{_+_, _*_, _<_, _≤_};
 ghost use lib.ListN.{length, drop};
-ghost use Rattle.dct.specs.Limits.{blockSize};
+ghost use Rattle.dct.specs.Limits.{blockSide, blockSize};
 ghost use Rattle.dct.specs.Block as Block;
 ghost use Rattle.lifting.specs.Inner.Operation.{runLimit, undoLimit, vals};
 ghost use Rattle.lifting.specs.Inner.Within.{AllWithin};
@@ -52,13 +53,13 @@ pub fn gather(x: &[i32], at: usize, by: usize) -> T8
 
 // Column i of x goes through the pass to the front of out.
 pub fn fdct8(x: &[i32], i: usize, out: &mut [i32])
-    requires { ⌜ i < 8 ⌝ }
+    requires { ⌜ i < blockSide ⌝ }
     requires { ⌜ length (now x) ≡ blockSize ⌝ }
     requires { ⌜ 8 ≤ length (now out) ⌝ }
     requires { ⌜ AllWithin runLimit (Block.column i (now x)) ⌝ }
     ensures { λ _. ⌜ now (out .exit) ≡ Block.fdct8 (Block.column i (now (x .entry))) ++ drop 8 (now (out .entry)) ⌝ }
 {
-    let c = gather(x, i, 8);
+    let c = gather(x, i, BLOCK_SIDE);
     let r = lifting::run_steps(c.t0, c.t7, c.t2, c.t5, c.t1, c.t6, c.t3, c.t4);
     store(r, out);
 }
@@ -70,8 +71,8 @@ pub fn fdct8_columns_into(x: &[i32], out: &mut [i32])
     requires { ⌜ AllWithin runLimit (now x) ⌝ }
     ensures { λ _. ⌜ now (out .exit) ≡ Block.fdct8Columns (now (x .entry)) ⌝ }
 {
-    for i in 0..8 {
-        let at = 8 * i;
+    for i in 0..BLOCK_SIDE {
+        let at = BLOCK_SIDE * i;
         fdct8(x, i, &mut out[at..]);
     }
 }
@@ -100,13 +101,13 @@ pub fn copy(x: &[i32], out: &mut [i32])
 
 // Row i of x goes through the inverse pass to the front of out.
 pub fn idct8(x: &[i32], i: usize, out: &mut [i32])
-    requires { ⌜ i < 8 ⌝ }
+    requires { ⌜ i < blockSide ⌝ }
     requires { ⌜ length (now x) ≡ blockSize ⌝ }
     requires { ⌜ 8 ≤ length (now out) ⌝ }
     requires { ⌜ AllWithin undoLimit (Block.row i (now x)) ⌝ }
     ensures { λ _. ⌜ now (out .exit) ≡ Block.idct8 (Block.row i (now (x .entry))) ++ drop 8 (now (out .entry)) ⌝ }
 {
-    let at = 8 * i;
+    let at = BLOCK_SIDE * i;
     let a = gather(x, at, 1);
     let r = lifting::undo_steps(a.t0, a.t1, a.t2, a.t3, a.t4, a.t5, a.t6, a.t7);
     let s = T8 {
@@ -127,22 +128,22 @@ pub fn idct8_each_row(x: &[i32], out: &mut [i32])
     requires { ⌜ length (now x) ≡ blockSize ⌝ }
     requires { ⌜ length (now out) ≡ blockSize ⌝ }
     requires { ⌜ AllWithin undoLimit (now x) ⌝ }
-    ensures { λ _. ⌜ now (out .exit) ≡ Block.rows (λ i. Block.idct8 (Block.row i (now (x .entry)))) 8 ⌝ }
+    ensures { λ _. ⌜ now (out .exit) ≡ Block.rows (λ i. Block.idct8 (Block.row i (now (x .entry)))) blockSide ⌝ }
 {
-    for i in 0..8 {
-        let at = 8 * i;
+    for i in 0..BLOCK_SIDE {
+        let at = BLOCK_SIDE * i;
         idct8(x, i, &mut out[at..]);
     }
 }
 
 // Column i of x to the front of out.
 pub fn transpose_row(x: &[i32], i: usize, out: &mut [i32])
-    requires { ⌜ i < 8 ⌝ }
+    requires { ⌜ i < blockSide ⌝ }
     requires { ⌜ length (now x) ≡ blockSize ⌝ }
     requires { ⌜ 8 ≤ length (now out) ⌝ }
     ensures { λ _. ⌜ now (out .exit) ≡ Block.column i (now (x .entry)) ++ drop 8 (now (out .entry)) ⌝ }
 {
-    let c = gather(x, i, 8);
+    let c = gather(x, i, BLOCK_SIDE);
     store(c, out);
 }
 
@@ -151,8 +152,8 @@ pub fn transpose(x: &[i32], out: &mut [i32])
     requires { ⌜ length (now out) ≡ blockSize ⌝ }
     ensures { λ _. ⌜ now (out .exit) ≡ Block.transposed (now (x .entry)) ⌝ }
 {
-    for i in 0..8 {
-        let at = 8 * i;
+    for i in 0..BLOCK_SIDE {
+        let at = BLOCK_SIDE * i;
         transpose_row(x, i, &mut out[at..]);
     }
 }

@@ -14,7 +14,9 @@ ghost use Rattle.lifting.specs.Inner.Within.{AllWithin};
 ghost use Rattle.dct.specs.Block as Block;
 ghost use Rattle.dct.specs.Call.{allWithin, blockSuits, transformRefusal, outAfter};
 
-// The places of a block, and the largest sizes that the two calls take. specs/Limits.antt has the same for definitions.
+// The side of a block, its places, and the largest sizes that the two calls take. specs/Limits.antt has the same for definitions.
+pub const BLOCK_SIDE: usize = 8;
+
 pub const BLOCK_SIZE: usize = 64;
 
 pub const FORWARD_LIMIT: i32 = 4095;

@@ -12,13 +12,14 @@ use Rattle.number.specs.declared.Rooted.the-variants.{Root, Refused}
 use Rattle.number.specs.Root.{rootOf}
 use Rattle.number.specs.Steps.{_⊕_, _⊖_, _⊗_, _⊘_, double, foldTo}
 use Rattle.number.specs.Literals.{zeroD}
+use Rattle.dct.specs.Limits.{blockSide}
 use Rattle.dct.specs.Block.{fdct8x8}
 use Rattle.hvs_block.specs.Literals.{fifteen, sixteen, thirtyTwo, sixtyThree, sixtyFour}
 use Rattle.hvs_block.specs.Tables.{entry}
 
 -- place (i, j) of a block
 abbrev pub cell : List ℤ → ℕ → ℕ → ℤ
-cell b i j = getD b (8 * i + j) (pos 0)
+cell b i j = getD b (blockSide * i + j) (pos 0)
 
 -- a whole number of either sign as a double
 abbrev pub signed : ℤ → Float
@@ -41,10 +42,10 @@ squaredDeviation b m i j = (signed (cell b i j) ⊖ m) ⊗ (signed (cell b i j) 
 
 -- gmean and gvar
 unfoldable pub gmean : List ℤ → Float
-gmean b = sumOver 0 0 8 (λ (i j : ℕ). signed (cell b i j)) ⊘ sixtyFour
+gmean b = sumOver 0 0 blockSide (λ (i j : ℕ). signed (cell b i j)) ⊘ sixtyFour
 
 unfoldable pub gvar : List ℤ → Float
-gvar b = sumOver 0 0 8 (squaredDeviation b (gmean b)) ⊗ (sixtyFour ⊘ sixtyThree)
+gvar b = sumOver 0 0 blockSide (squaredDeviation b (gmean b)) ⊗ (sixtyFour ⊘ sixtyThree)
 
 -- means[sub] and vars[sub]: a quarter by its first row and column
 unfoldable pub mean : List ℤ → ℕ → ℕ → Float
@@ -72,7 +73,7 @@ abbrev pub addEnergy : List ℤ → List (List Float) → Float → ℕ → ℕ 
 addEnergy d mask s i j = cond (isDc i j) s (s ⊕ signed (cell d i j *ℤ cell d i j) ⊗ entry mask i j)
 
 unfoldable pub energy : List ℤ → List (List Float) → Float
-energy d mask = overSquare 8 (addEnergy d mask) zeroD
+energy d mask = overSquare blockSide (addEnergy d mask) zeroD
 
 -- .sqrt(): our root, and not-a-number where that is refused
 abbrev pub rootOrNan : Rooted → Float
@@ -113,7 +114,7 @@ abbrev pub addTerm : List ℤ → List ℤ → List (List Float) → List (List 
 addTerm d1 d2 csf mask m s i j = s ⊕ term (isDc i j) (distance (cell d1 i j) (cell d2 i j)) (entry csf i j) (entry mask i j) m
 
 unfoldable pub errors : List ℤ → List ℤ → List (List Float) → List (List Float) → Float → Float → Float
-errors d1 d2 csf mask m result = overSquare 8 (addTerm d1 d2 csf mask m) result
+errors d1 d2 csf mask m result = overSquare blockSide (addTerm d1 d2 csf mask m) result
 
 -- result, and then one block of each plane
 unfoldable pub withBlock : List ℤ → List ℤ → List (List Float) → List (List Float) → Float → Float

@@ -5,6 +5,7 @@ use Prim.Native.Nat.{ℕ}
 use lib.Ieee.{Float, nan, binary64, ofBits}
 use lib.ListN.{getD}
 use Rattle.number.specs.Steps.{_⊗_, listTo}
+use Rattle.dct.specs.Limits.{blockSide}
 use Rattle.hvs_block.specs.declared.Kind.{Kind}
 use Rattle.hvs_block.specs.declared.Kind.the-variants.{Luma, Cb, Cr}
 
@@ -92,7 +93,7 @@ maskOf c = c ⊗ multiplier ⊗ (c ⊗ multiplier)
 
 -- the masks of a table, row by row
 abbrev pub maskRow : List Float → List Float
-maskRow row = listTo (λ (j : ℕ). maskOf (getD row j nan)) 8
+maskRow row = listTo (λ (j : ℕ). maskOf (getD row j nan)) blockSide
 
 unfoldable pub masksOf : List (List Float) → List (List Float)
-masksOf csf = listTo (λ (i : ℕ). maskRow (getD csf i [])) 8
+masksOf csf = listTo (λ (i : ℕ). maskRow (getD csf i [])) blockSide

@@ -1,5 +1,7 @@
 // One block of 8 by 8 of each plane: the mask of both, and its error.
 use crate::variance;
+use dct::BLOCK_SIDE;
+use dct::BLOCK_SIZE;
 use number::Rooted;
 ghost use mathlib.Core.Path.{_≡_};
 ghost use lib.ListN.{length};
@@ -15,7 +17,7 @@ struct EnergyPair {
     other: f64,
 }
 
-fn energies(d1: &[i32], d2: &[i32], mask: &[[f64; 8]; 8]) -> EnergyPair
+fn energies(d1: &[i32], d2: &[i32], mask: &[[f64; BLOCK_SIDE]; BLOCK_SIDE]) -> EnergyPair
     requires { ⌜ (length (now d1) ≡ blockSize) × (length (now d2) ≡ blockSize) ⌝ }
     requires { ⌜ AllWithin coefficientLimit (now d1) ⌝ }
     requires { ⌜ AllWithin coefficientLimit (now d2) ⌝ }
@@ -24,10 +26,10 @@ fn energies(d1: &[i32], d2: &[i32], mask: &[[f64; 8]; 8]) -> EnergyPair
 {
     let mut s = 0.0;
     let mut t = 0.0;
-    for k in 1..64 {
+    for k in 1..BLOCK_SIZE {
         let v = d1[k];
         let w = d2[k];
-        let m = mask[k / 8][k % 8];
+        let m = mask[k / BLOCK_SIDE][k % BLOCK_SIDE];
         s = s + ((v * v) as f64) * m;
         t = t + ((w * w) as f64) * m;
     }
@@ -52,7 +54,13 @@ fn larger(m1: f64, m2: f64) -> f64
 }
 
 // The mask of two blocks p1 and p2, of which d1 and d2 are the coefficients.
-fn mask_of_both(p1: &[i32], p2: &[i32], d1: &[i32], d2: &[i32], mask: &[[f64; 8]; 8]) -> f64
+fn mask_of_both(
+    p1: &[i32],
+    p2: &[i32],
+    d1: &[i32],
+    d2: &[i32],
+    mask: &[[f64; BLOCK_SIDE]; BLOCK_SIDE],
+) -> f64
     requires { ⌜ (length (now p1) ≡ blockSize) × (length (now p2) ≡ blockSize) ⌝ }
     requires { ⌜ Samples (now p1) ⌝ }
     requires { ⌜ Samples (now p2) ⌝ }
@@ -100,8 +108,8 @@ fn term(dc: bool, err: f64, csf: f64, mask: f64, m: f64) -> f64
 fn errors(
     d1: &[i32],
     d2: &[i32],
-    csf: &[[f64; 8]; 8],
-    mask: &[[f64; 8]; 8],
+    csf: &[[f64; BLOCK_SIDE]; BLOCK_SIDE],
+    mask: &[[f64; BLOCK_SIDE]; BLOCK_SIDE],
     m: f64,
     result: f64,
 ) -> f64
@@ -111,9 +119,16 @@ fn errors(
     ensures { λ r. ⌜ r ≡ Block.errors (now (d1 .entry)) (now (d2 .entry)) (now (csf .entry)) (now (mask .entry)) m result ⌝ }
 {
     let mut s = result;
-    for k in 0..64 {
+    for k in 0..BLOCK_SIZE {
         let err = distance(d1[k], d2[k]);
-        s = s + term(k == 0, err, csf[k / 8][k % 8], mask[k / 8][k % 8], m);
+        s = s
+            + term(
+                k == 0,
+                err,
+                csf[k / BLOCK_SIDE][k % BLOCK_SIDE],
+                mask[k / BLOCK_SIDE][k % BLOCK_SIDE],
+                m,
+            );
     }
     s
 }
@@ -122,8 +137,8 @@ fn errors(
 pub fn with_block(
     p1: &[i32],
     p2: &[i32],
-    csf: &[[f64; 8]; 8],
-    mask: &[[f64; 8]; 8],
+    csf: &[[f64; BLOCK_SIDE]; BLOCK_SIDE],
+    mask: &[[f64; BLOCK_SIDE]; BLOCK_SIDE],
     result: f64,
 ) -> f64
     requires { ⌜ (length (now p1) ≡ blockSize) × (length (now p2) ≡ blockSize) ⌝ }

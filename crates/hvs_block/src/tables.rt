@@ -1,9 +1,10 @@
 // The contrast tables and the masks that are worked out from them. specs/Tables.antt has the tables by their bits.
 use crate::Kind;
+use dct::BLOCK_SIDE;
 ghost use mathlib.Core.Path.{_≡_};
 ghost use Rattle.hvs_block.specs.Tables.{csfOf, maskRow, masksOf};
 
-const CSF_Y: [[f64; 8]; 8] = [
+const CSF_Y: [[f64; BLOCK_SIDE]; BLOCK_SIDE] = [
     [
         1.6193873005,
         2.2901594831,
@@ -86,7 +87,7 @@ const CSF_Y: [[f64; 8]; 8] = [
     ],
 ];
 
-const CSF_CB420: [[f64; 8]; 8] = [
+const CSF_CB420: [[f64; BLOCK_SIDE]; BLOCK_SIDE] = [
     [
         1.91113096927,
         2.46074210438,
@@ -169,7 +170,7 @@ const CSF_CB420: [[f64; 8]; 8] = [
     ],
 ];
 
-const CSF_CR420: [[f64; 8]; 8] = [
+const CSF_CR420: [[f64; BLOCK_SIDE]; BLOCK_SIDE] = [
     [
         2.03871978502,
         2.62502345193,
@@ -255,7 +256,7 @@ const CSF_CR420: [[f64; 8]; 8] = [
 const CSF_MULTIPLIER: f64 = 0.3885746225901003;
 
 // The table of a kind.
-pub fn csf_of(kind: Kind) -> [[f64; 8]; 8]
+pub fn csf_of(kind: Kind) -> [[f64; BLOCK_SIDE]; BLOCK_SIDE]
     ensures { λ r. ⌜ r ≡ csfOf kind ⌝ }
 {
     match kind {
@@ -266,11 +267,11 @@ pub fn csf_of(kind: Kind) -> [[f64; 8]; 8]
 }
 
 // The masks of one row of a table.
-fn mask_row(row: [f64; 8]) -> [f64; 8]
+fn mask_row(row: [f64; BLOCK_SIDE]) -> [f64; BLOCK_SIDE]
     ensures { λ r. ⌜ r ≡ maskRow row ⌝ }
 {
-    let mut m = [0.0; 8];
-    for j in 0..8 {
+    let mut m = [0.0; BLOCK_SIDE];
+    for j in 0..BLOCK_SIDE {
         let c = row[j] * CSF_MULTIPLIER;
         m[j] = c * c;
     }
@@ -278,11 +279,11 @@ fn mask_row(row: [f64; 8]) -> [f64; 8]
 }
 
 // The masks of a table.
-pub fn masks(csf: [[f64; 8]; 8]) -> [[f64; 8]; 8]
+pub fn masks(csf: [[f64; BLOCK_SIDE]; BLOCK_SIDE]) -> [[f64; BLOCK_SIDE]; BLOCK_SIDE]
     ensures { λ r. ⌜ r ≡ masksOf csf ⌝ }
 {
-    let mut m = [[0.0; 8]; 8];
-    for i in 0..8 {
+    let mut m = [[0.0; BLOCK_SIDE]; BLOCK_SIDE];
+    for i in 0..BLOCK_SIDE {
         m[i] = mask_row(csf[i]);
     }
     m

@@ -1,5 +1,7 @@
 // How much a block varies, beside how much its four quarters do. The Rust's steps in doubles are exact up to the last product, so whole
 // numbers give the same: of N samples with the sum s and the sum of squares q, (N × q - s²) / N.
+use dct::BLOCK_SIDE;
+use dct::BLOCK_SIZE;
 ghost use mathlib.Core.Path.{_≡_};
 ghost use Prim.Native.Nat.{_-_, _*_, _≤_, _^_};
 ghost use lib.IntN.{natAbs};
@@ -43,7 +45,7 @@ fn quarter_sums(b: &[i32], top: usize, left: usize) -> SampleSums
     let mut sum: u32 = 0;
     let mut squares: u32 = 0;
     for k in 0..16 {
-        let v = level(b[8 * (top + k / 4) + (left + k % 4)]);
+        let v = level(b[BLOCK_SIDE * (top + k / 4) + (left + k % 4)]);
         sum = sum + v;
         squares = squares + v * v;
     }
@@ -61,11 +63,11 @@ fn var(s: u32, q: u32) -> f64
 
 // The variance of a block, by its sums.
 fn gvar(s: u32, q: u32) -> f64
-    requires { ⌜ (s * s ≤ 64 * q) × (q ≤ 2 ^ 30) ⌝ }
-    ensures { λ r. ⌜ r ≡ double (64 * q - s * s) ⊘ sixtyFour ⊗ (sixtyFour ⊘ sixtyThree) ⌝ }
+    requires { ⌜ (s * s ≤ blockSize * q) × (q ≤ 2 ^ 30) ⌝ }
+    ensures { λ r. ⌜ r ≡ double (blockSize * q - s * s) ⊘ sixtyFour ⊗ (sixtyFour ⊘ sixtyThree) ⌝ }
 {
     let s = s as u64;
-    number::exact(64 * (q as u64) - s * s) / 64.0 * (64.0 / 63.0)
+    number::exact(BLOCK_SIZE as u64 * (q as u64) - s * s) / 64.0 * (64.0 / 63.0)
 }
 
 // A quarter.

@@ -15,9 +15,9 @@ use Rattle.plane.specs.Inner.Lawful.{Bounded}
 use Rattle.number.specs.Steps.{listTo}
 use Rattle.number.proofs.Folds.{fold-more}
 use Rattle.number.proofs.Lists.{list-length}
-use Rattle.dct.specs.Limits.{blockSize}
+use Rattle.dct.specs.Limits.{blockSide, blockSize}
 use Rattle.hvs_block.specs.Inner.Levels.{Sample, Samples}
-use Rattle.psnr_hvs.specs.Score.{blockSide, blockStep, blocksPerSide, sampleIn, blockAt, withBlocks, alongRow, downRows}
+use Rattle.psnr_hvs.specs.Score.{blockStep, blocksPerSide, sampleIn, blockAt, withBlocks, alongRow, downRows}
 use Rattle.psnr_hvs.specs.Inner.Blocks.{BlockFits}
 
 -- ---- where they begin

@@ -15,12 +15,12 @@ use Rattle.plane.specs.Plane.{Plane, planesOf, both, maxOf}
 use Rattle.plane.specs.Inner.Lawful.{Alike, Equivalent}
 use Rattle.plane.proofs.Exchange.{refusal-equivalent}
 use Rattle.plane.proofs.Several.{planes-say}
-use Rattle.dct.specs.Limits.{blockSize}
+use Rattle.dct.specs.Limits.{blockSide, blockSize}
 use Rattle.hvs_block.specs.Tables.{csfOf, masksOf}
 use Rattle.hvs_block.specs.declared.Kind.{Kind}
 use Rattle.psnr_hvs.specs.declared.Hvs.{Hvs}
 use Rattle.psnr_hvs.specs.declared.Hvs.the-variants.{Refused}
-use Rattle.psnr_hvs.specs.Score.{blockSide, blockStep, blocksPerSide, sampleIn, blockAt, alongRow, downRows}
+use Rattle.psnr_hvs.specs.Score.{blockStep, blocksPerSide, sampleIn, blockAt, alongRow, downRows}
 use Rattle.psnr_hvs.specs.Score.{hvsRefusal, hvsScore, scoreOr9, hvsOf}
 use Rattle.psnr_hvs.proofs.Blocks.{ends}
 

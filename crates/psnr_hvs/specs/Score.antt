@@ -11,17 +11,14 @@ use Rattle.plane.specs.Plane.{Plane, Planes, sampleAt, maxOf}
 use Rattle.plane.specs.Tests.{pairRefusal}
 use Rattle.number.specs.Steps.{foldTo, listTo, _⊘_, double}
 use Rattle.number.specs.Literals.{zeroD}
-use Rattle.dct.specs.Limits.{blockSize}
+use Rattle.dct.specs.Limits.{blockSide, blockSize}
 use Rattle.hvs_block.specs.Tables.{csfOf, masksOf}
 use Rattle.hvs_block.specs.Block.{withBlock}
 use Rattle.hvs_block.specs.declared.Kind.{Kind}
 use Rattle.psnr_hvs.specs.declared.Hvs.{Hvs}
 use Rattle.psnr_hvs.specs.declared.Hvs.the-variants.{Score, Refused}
 
--- a side of a block, by which refusal 3 is given, and the step from one block to the next
-abbrev pub blockSide : ℕ
-blockSide = 8
-
+-- the step from one block to the next
 abbrev pub blockStep : ℕ
 blockStep = 7
 
@@ -58,7 +55,7 @@ hvsScore p kind =
 
 -- ---- the answer
 
--- the lowest of 1 to 6 that applies
+-- the lowest of 1 to 6 that applies: 3 by the side of a block
 abbrev pub hvsRefusal : Planes → ℕ
 hvsRefusal p = pairRefusal p blockSide
 

@@ -4,19 +4,33 @@ ghost use Rattle.plane.specs.Inner.Lent.{lent, planes};
 ghost use Rattle.plane.specs.Inner.Lawful.{Bounded, BoundedPair};
 ghost use Rattle.psnr_hvs.specs.Score.{blockAt, withBlocks};
 ghost use Rattle.psnr_hvs.specs.Inner.Blocks.{BlockFits};
+use dct::BLOCK_SIDE;
+use dct::BLOCK_SIZE;
 use plane::Layout;
 use plane::Size;
 ghost use Rattle.plane.specs.Plane.{sampleLimit};
 
 // The block whose first sample is (x, y).
-fn loaded(bytes: &[u8], words: &[u16], size: Size, stride: usize, x: usize, y: usize) -> [i32; 64]
+fn loaded(
+    bytes: &[u8],
+    words: &[u16],
+    size: Size,
+    stride: usize,
+    x: usize,
+    y: usize,
+) -> [i32; BLOCK_SIZE]
     requires { ⌜ BlockFits size x y ⌝ }
     requires { ⌜ Bounded sampleLimit (size .width) (size .height) (lent size bytes words stride) ⌝ }
     ensures { λ r. ⌜ r ≡ blockAt (lent size (bytes .entry) (words .entry) stride) x y ⌝ }
 {
-    let mut out = [0i32; 64];
-    for k in 0..64 {
-        out[k] = plane::sample(bytes, words, size.wide, (y + k / 8) * stride + (x + k % 8)) as i32;
+    let mut out = [0i32; BLOCK_SIZE];
+    for k in 0..BLOCK_SIZE {
+        out[k] = plane::sample(
+            bytes,
+            words,
+            size.wide,
+            (y + k / BLOCK_SIDE) * stride + (x + k % BLOCK_SIDE),
+        ) as i32;
     }
     out
 }
@@ -30,8 +44,8 @@ pub fn block_at(
     layout: Layout,
     x: usize,
     y: usize,
-    csf: &[[f64; 8]; 8],
-    mask: &[[f64; 8]; 8],
+    csf: &[[f64; BLOCK_SIDE]; BLOCK_SIDE],
+    mask: &[[f64; BLOCK_SIDE]; BLOCK_SIDE],
     result: f64,
 ) -> f64
     requires { ⌜ BlockFits (layout .size) x y ⌝ }

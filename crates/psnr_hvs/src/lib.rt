@@ -9,14 +9,15 @@ ghost use Prim.Native.Nat.{_+_, _≤_};
 ghost use Rattle.plane.specs.Plane.{called, sampleLimit};
 ghost use Rattle.plane.specs.Inner.Lent.{planes};
 ghost use Rattle.plane.specs.Inner.Lawful.{BoundedPair, AcceptedPair};
-ghost use Rattle.psnr_hvs.specs.Score.{blockSide, blocksPerSide, alongRow, downRows};
+ghost use Rattle.dct.specs.Limits.{blockSide};
+ghost use Rattle.psnr_hvs.specs.Score.{blocksPerSide, alongRow, downRows};
 ghost use Rattle.psnr_hvs.specs.Score.{hvsRefusal, hvsScore, hvsOf};
+use dct::BLOCK_SIDE;
+use dct::BLOCK_SIZE;
 use plane::Layout;
 use plane::Size;
 
-// The least width and height, and the step from one block to the next.
-const BLOCK_SIDE: usize = 8;
-
+// The step from one block to the next.
 const STEP: usize = 7;
 
 // What asking for a score answers.
@@ -41,8 +42,8 @@ fn along_row(
     b16: &[u16],
     layout: Layout,
     y: usize,
-    csf: &[[f64; 8]; 8],
-    mask: &[[f64; 8]; 8],
+    csf: &[[f64; BLOCK_SIDE]; BLOCK_SIDE],
+    mask: &[[f64; BLOCK_SIDE]; BLOCK_SIDE],
     result: f64,
 ) -> f64
     requires { ⌜ (blockSide ≤ layout .size .width) × (y + blockSide ≤ layout .size .height) ⌝ }
@@ -65,8 +66,8 @@ fn down_rows(
     b8: &[u8],
     b16: &[u16],
     layout: Layout,
-    csf: &[[f64; 8]; 8],
-    mask: &[[f64; 8]; 8],
+    csf: &[[f64; BLOCK_SIDE]; BLOCK_SIDE],
+    mask: &[[f64; BLOCK_SIDE]; BLOCK_SIDE],
 ) -> f64
     requires { ⌜ (blockSide ≤ layout .size .width) × (blockSide ≤ layout .size .height) ⌝ }
     requires { ⌜ BoundedPair sampleLimit (planes layout a8 a16 b8 b16) ⌝ }
@@ -98,7 +99,7 @@ fn score(a8: &[u8], a16: &[u16], b8: &[u8], b16: &[u16], layout: Layout, kind: K
     let sum = down_rows(a8, a16, b8, b16, layout, &csf, &mask);
     let blocks = (blocks_per_side(layout.size.width) * blocks_per_side(layout.size.height)) as u64;
     let max = plane::sample_max(layout.size.depth) as u64;
-    sum / number::exact(64 * blocks) / number::exact(max * max)
+    sum / number::exact(BLOCK_SIZE as u64 * blocks) / number::exact(max * max)
 }
 
 // The answer for two planes of either width.

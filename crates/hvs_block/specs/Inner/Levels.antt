@@ -6,6 +6,7 @@ use lib.IntN.{ℤ, natAbs}
 use lib.Signed.{nonNeg}
 use Rattle.plane.specs.Plane.{sampleLimit}
 use Rattle.plane.specs.Sums.{sumTo}
+use Rattle.dct.specs.Limits.{blockSide}
 use Rattle.hvs_block.specs.Block.{cell}
 
 -- a number of a block of samples
@@ -19,7 +20,7 @@ Samples (a ∷ v) = Sample a × Samples v
 
 -- place k of the whole block, and of a quarter
 abbrev pub levelOf : List ℤ → ℕ → ℕ
-levelOf b k = natAbs (cell b (0 + k / 8) (0 + k % 8))
+levelOf b k = natAbs (cell b (0 + k / blockSide) (0 + k % blockSide))
 
 abbrev pub levelIn : List ℤ → ℕ → ℕ → ℕ → ℕ
 levelIn b top left k = natAbs (cell b (top + k / 4) (left + k % 4))
