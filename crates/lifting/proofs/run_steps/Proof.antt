@@ -55,32 +55,41 @@ halved-requires-4 c κs = tt
 sub-requires-6 : tie.Need-sub-requires-6
 sub-requires-6 c κs = omega (arith, within)
 
--- the first group has twelve places: the one six before its last
+-- the first group has twelve places, three for each pair: where t0 and t1 are done, then t4 and t5, then t2 and t3
+abbrev done01 : tie.After-sub3 → tie.After-sub2
+done01 c = c .before .before .before
+
+abbrev done45 : tie.After-sub5 → tie.After-sub3
+done45 c = c .before .before .before
+
+abbrev done23 : tie.After-sub6 → tie.After-sub5
+done23 c = c .before .before .before
+
 abbrev mid1 : tie.After-sub6 → tie.After-sub3
-mid1 c = c .before .before .before .before .before .before
+mid1 c = done45 (done23 c)
 
 abbrev first1 : tie.After-sub6 → tie.Start
-first1 c = mid1 c .before .before .before .before .before .before
+first1 c = done01 (mid1 c) .before .before .before
 
 values1 : tie.After-sub6 → List ℤ
-values1 c = read32 (mid1 c .before .before .before .sub2 .result)
-    ∷ read32 (mid1 c .before .before .before .before .before .sub .result)
-    ∷ read32 (c .before .before .before .sub5 .result) ∷ read32 (c .before .before .before .before .before .sub4 .result)
+values1 c = read32 (done01 (mid1 c) .sub2 .result)
+    ∷ read32 (done01 (mid1 c) .before .before .sub .result)
+    ∷ read32 (done23 c .sub5 .result) ∷ read32 (done23 c .before .before .sub4 .result)
     ∷ read32 (mid1 c .before .before .add .result)
     ∷ read32 (mid1 c .sub3 .result) ∷ read32 (c .before .before .add2 .result) ∷ read32 (c .sub6 .result) ∷ []
 
 at1 : (c : tie.After-sub6) → values1 c ≡ run steps1 (args (first1 c))
 unfolding steps1 values1 args
 at1 c = simp (
-  mid1 c .before .before .before .before .before .sub .ensures .is,
-  mid1 c .before .before .before .before .halved .ensures .is,
-  mid1 c .before .before .before .sub2 .ensures .is,
+  done01 (mid1 c) .before .before .sub .ensures .is,
+  done01 (mid1 c) .before .halved .ensures .is,
+  done01 (mid1 c) .sub2 .ensures .is,
   mid1 c .before .before .add .ensures .is,
   mid1 c .before .halved2 .ensures .is,
   mid1 c .sub3 .ensures .is,
-  c .before .before .before .before .before .sub4 .ensures .is,
-  c .before .before .before .before .halved3 .ensures .is,
-  c .before .before .before .sub5 .ensures .is,
+  done23 c .before .before .sub4 .ensures .is,
+  done23 c .before .halved3 .ensures .is,
+  done23 c .sub5 .ensures .is,
   c .before .before .add2 .ensures .is,
   c .before .halved4 .ensures .is,
   c .sub6 .ensures .is,
@@ -95,14 +104,14 @@ at1 c = simp (
 )
 
 size1 : (c : tie.After-sub6) →
-    (natAbs (read32 (mid1 c .before .before .before .before .before .sub .result)) ≤ 46340)
-    × (natAbs (read32 (mid1 c .before .before .before .before .halved .result)) ≤ 23170)
-    × (natAbs (read32 (mid1 c .before .before .before .sub2 .result)) ≤ 46340)
+    (natAbs (read32 (done01 (mid1 c) .before .before .sub .result)) ≤ 46340)
+    × (natAbs (read32 (done01 (mid1 c) .before .halved .result)) ≤ 23170)
+    × (natAbs (read32 (done01 (mid1 c) .sub2 .result)) ≤ 46340)
     × (natAbs (read32 (mid1 c .before .before .add .result)) ≤ 46340)
     × (natAbs (read32 (mid1 c .before .halved2 .result)) ≤ 23170)
     × (natAbs (read32 (mid1 c .sub3 .result)) ≤ 46340)
-    × (natAbs (read32 (c .before .before .before .before .before .sub4 .result)) ≤ 46340)
-    × (natAbs (read32 (c .before .before .before .sub5 .result)) ≤ 46340) × (natAbs (read32 (c .before .before .add2 .result)) ≤ 46340)
+    × (natAbs (read32 (done23 c .before .before .sub4 .result)) ≤ 46340)
+    × (natAbs (read32 (done23 c .sub5 .result)) ≤ 46340) × (natAbs (read32 (c .before .before .add2 .result)) ≤ 46340)
     × (natAbs (read32 (c .before .halved4 .result)) ≤ 23170) × (natAbs (read32 (c .sub6 .result)) ≤ 46340)
 size1 c = omega (arith, within)
 
@@ -129,8 +138,8 @@ upTo2 = steps1 ++ steps2
 
 values2 : tie.After-sub9 → List ℤ
 values2 c = read32 (c .before .before .before .add3 .result)
-    ∷ read32 (mid1 (prior2 c) .before .before .before .before .before .sub .result)
-    ∷ read32 (c .before .sub8 .result) ∷ read32 ((prior2 c) .before .before .before .before .before .sub4 .result) ∷ read32 (c .sub9 .result)
+    ∷ read32 (done01 (mid1 (prior2 c)) .before .before .sub .result)
+    ∷ read32 (c .before .sub8 .result) ∷ read32 (done23 (prior2 c) .before .before .sub4 .result) ∷ read32 (c .sub9 .result)
     ∷ read32 (mid1 (prior2 c) .sub3 .result) ∷ read32 (c .before .before .sub7 .result)
     ∷ read32 ((prior2 c) .sub6 .result) ∷ []
 
@@ -153,10 +162,10 @@ unfolding args
 sharp2 c = sized upTo2 runLimit _ (args (first2 c)) _ (pass-sizes .0) (all2 c) (first2 c .pre)
 
 size2 : (c : tie.After-sub9) →
-    (natAbs (read32 (mid1 (prior2 c) .before .before .before .before .before .sub .result)) ≤ 46340)
-    × (natAbs (read32 (mid1 (prior2 c) .before .before .before .before .halved .result)) ≤ 23170)
+    (natAbs (read32 (done01 (mid1 (prior2 c)) .before .before .sub .result)) ≤ 46340)
+    × (natAbs (read32 (done01 (mid1 (prior2 c)) .before .halved .result)) ≤ 23170)
     × (natAbs (read32 (mid1 (prior2 c) .sub3 .result)) ≤ 23170)
-    × (natAbs (read32 ((prior2 c) .before .before .before .before .before .sub4 .result)) ≤ 46340) × (natAbs (read32 ((prior2 c) .sub6 .result)) ≤ 23170)
+    × (natAbs (read32 (done23 (prior2 c) .before .before .sub4 .result)) ≤ 46340) × (natAbs (read32 ((prior2 c) .sub6 .result)) ≤ 23170)
     × (natAbs (read32 (c .before .before .before .add3 .result)) ≤ 46341) × (natAbs (read32 (c .before .before .sub7 .result)) ≤ 46341)
     × (natAbs (read32 (c .before .sub8 .result)) ≤ 46341) × (natAbs (read32 (c .sub9 .result)) ≤ 46341)
 unfolding values2
@@ -188,8 +197,8 @@ upTo3 = upTo2 ++ take 5 steps3
 
 values3 : tie.After-up2 → List ℤ
 values3 c = read32 (c .before .before .down2 .result)
-    ∷ read32 (mid1 (prior2 (prior3 c)) .before .before .before .before .before .sub .result)
-    ∷ read32 (c .up2 .result) ∷ read32 ((prior2 (prior3 c)) .before .before .before .before .before .sub4 .result)
+    ∷ read32 (done01 (mid1 (prior2 (prior3 c))) .before .before .sub .result)
+    ∷ read32 (c .up2 .result) ∷ read32 (done23 (prior2 (prior3 c)) .before .before .sub4 .result)
     ∷ read32 (c .before .before .before .up .result) ∷ read32 (mid1 (prior2 (prior3 c)) .sub3 .result)
     ∷ read32 (c .before .down3 .result) ∷ read32 ((prior2 (prior3 c)) .sub6 .result) ∷ []
 
@@ -211,10 +220,10 @@ unfolding args
 sharp3 c = sized upTo3 runLimit _ (args (first3 c)) _ (pass-sizes .1) (all3 c) (first3 c .pre)
 
 size3 : (c : tie.After-up2) →
-    (natAbs (read32 (mid1 (prior2 (prior3 c)) .before .before .before .before .before .sub .result)) ≤ 46340)
-    × (natAbs (read32 (mid1 (prior2 (prior3 c)) .before .before .before .before .halved .result)) ≤ 23170)
+    (natAbs (read32 (done01 (mid1 (prior2 (prior3 c))) .before .before .sub .result)) ≤ 46340)
+    × (natAbs (read32 (done01 (mid1 (prior2 (prior3 c))) .before .halved .result)) ≤ 23170)
     × (natAbs (read32 (mid1 (prior2 (prior3 c)) .sub3 .result)) ≤ 23170)
-    × (natAbs (read32 ((prior2 (prior3 c)) .before .before .before .before .before .sub4 .result)) ≤ 46340)
+    × (natAbs (read32 (done23 (prior2 (prior3 c)) .before .before .sub4 .result)) ≤ 46340)
     × (natAbs (read32 ((prior2 (prior3 c)) .sub6 .result)) ≤ 23170) × (natAbs (read32 (c .before .down3 .result)) ≤ 77305)
     × (natAbs (read32 (c .up2 .result)) ≤ 60548)
 unfolding values3
@@ -234,8 +243,8 @@ upTo4 = upTo3 ++ drop 5 steps3
 
 values4 : tie.After-down4 → List ℤ
 values4 c = read32 ((prior4 c) .before .before .down2 .result)
-    ∷ read32 (mid1 (prior2 (prior3 (prior4 c))) .before .before .before .before .before .sub .result)
-    ∷ read32 ((prior4 c) .up2 .result) ∷ read32 ((prior2 (prior3 (prior4 c))) .before .before .before .before .before .sub4 .result)
+    ∷ read32 (done01 (mid1 (prior2 (prior3 (prior4 c)))) .before .before .sub .result)
+    ∷ read32 ((prior4 c) .up2 .result) ∷ read32 (done23 (prior2 (prior3 (prior4 c))) .before .before .sub4 .result)
     ∷ read32 ((prior4 c) .before .before .before .up .result)
     ∷ read32 (mid1 (prior2 (prior3 (prior4 c))) .sub3 .result) ∷ read32 (c .down4 .result)
     ∷ read32 ((prior2 (prior3 (prior4 c))) .sub6 .result) ∷ []
@@ -248,10 +257,10 @@ all4 : (c : tie.After-down4) → values4 c ≡ run upTo4 (args (first4 c))
 all4 c = at4 c ∙ ap (run (drop 5 steps3)) (all3 (prior4 c)) ∙ sym (run-append upTo3 (drop 5 steps3) (args (first4 c)))
 
 size4 : (c : tie.After-down4) →
-    (natAbs (read32 (mid1 (prior2 (prior3 (prior4 c))) .before .before .before .before .before .sub .result)) ≤ 46340)
-    × (natAbs (read32 (mid1 (prior2 (prior3 (prior4 c))) .before .before .before .before .halved .result)) ≤ 23170)
+    (natAbs (read32 (done01 (mid1 (prior2 (prior3 (prior4 c)))) .before .before .sub .result)) ≤ 46340)
+    × (natAbs (read32 (done01 (mid1 (prior2 (prior3 (prior4 c)))) .before .halved .result)) ≤ 23170)
     × (natAbs (read32 (mid1 (prior2 (prior3 (prior4 c))) .sub3 .result)) ≤ 23170)
-    × (natAbs (read32 ((prior2 (prior3 (prior4 c))) .before .before .before .before .before .sub4 .result)) ≤ 46340)
+    × (natAbs (read32 (done23 (prior2 (prior3 (prior4 c))) .before .before .sub4 .result)) ≤ 46340)
     × (natAbs (read32 ((prior2 (prior3 (prior4 c))) .sub6 .result)) ≤ 23170)
 size4 c = omega (arith, size3 (prior4 c))
 
@@ -273,14 +282,26 @@ sub-requires-10 c κs = omega (arith, size4 (c .before .before .before .before))
 sub-requires-11 : tie.Need-sub-requires-11
 sub-requires-11 c κs = omega (arith, size4 (c .before .before .before .before .before))
 
+-- where t3 and t5 are turned, of the place where t5 and t7 are done
+abbrev turned35 : tie.After-sub11 → tie.After-down5
+turned35 c = c .before .before .before
+
+-- where the third group ends
+abbrev end3 : tie.After-sub11 → tie.After-down4
+end3 c = turned35 c .before .before .before
+
 sub-requires-12 : tie.Need-sub-requires-12
-sub-requires-12 c κs = omega (arith, size4 (c .before .before .before .before .before .before))
+sub-requires-12 c κs = omega (arith, size4 (end3 c))
 
 sub-requires-13 : tie.Need-sub-requires-13
-sub-requires-13 c κs = omega (arith, size4 (c .before .before .before .before .before .before .before))
+sub-requires-13 c κs = omega (arith, size4 (end3 (c .before)))
+
+-- where t5 and t7 are done
+abbrev done57 : tie.After-sub13 → tie.After-sub11
+done57 c = c .before .before
 
 abbrev prior5 : tie.After-sub13 → tie.After-down4
-prior5 c = c .before .before .before .before .before .before .before .before
+prior5 c = end3 (done57 c)
 
 abbrev first5 : tie.After-sub13 → tie.Start
 first5 c = first4 (prior5 c)
@@ -296,15 +317,15 @@ values5 c = read32 ((prior4 (prior5 c)) .before .before .down2 .result) ∷ read
 at5 : (c : tie.After-sub13) → values5 c ≡ run steps4 (values4 (prior5 c))
 unfolding steps4 values5 values4
 at5 c = simp (
-  c .before .before .before .before .before .before .before .up3 .ensures .is,
-  c .before .before .before .before .before .before .up4 .ensures .is,
-  c .before .before .before .before .before .down5 .ensures .is,
-  c .before .before .before .before .halved5 .ensures .is,
-  c .before .before .before .sub10 .ensures .is,
-  c .before .before .sub11 .ensures .is,
+  turned35 (done57 c) .before .before .up3 .ensures .is,
+  turned35 (done57 c) .before .up4 .ensures .is,
+  turned35 (done57 c) .down5 .ensures .is,
+  done57 c .before .before .halved5 .ensures .is,
+  done57 c .before .sub10 .ensures .is,
+  done57 c .sub11 .ensures .is,
   c .before .sub12 .ensures .is,
   c .sub13 .ensures .is,
-  mid1 (prior2 (prior3 (prior4 (prior5 c)))) .before .before .before .before .halved .ensures .is,
+  done01 (mid1 (prior2 (prior3 (prior4 (prior5 c))))) .before .halved .ensures .is,
 )
 
 all5 : (c : tie.After-sub13) → values5 c ≡ run upTo5 (args (first5 c))
@@ -338,8 +359,12 @@ down-requires-7 c κs = omega (arith, size5 (c .before .before .before .before))
 up-requires-8 : tie.Need-up-requires-8
 up-requires-8 c κs = omega (arith, size5 (c .before .before .before .before .before))
 
+-- where t1 and t7 are turned
+abbrev turned17 : tie.After-up8 → tie.After-up6
+turned17 c = c .before .before .before
+
 abbrev prior6 : tie.After-up8 → tie.After-sub13
-prior6 c = c .before .before .before .before .before .before
+prior6 c = turned17 c .before .before .before
 
 abbrev first6 : tie.After-up8 → tie.Start
 first6 c = first5 (prior6 c)
@@ -348,17 +373,17 @@ abbrev upTo6 : List Step
 upTo6 = upTo5 ++ steps5
 
 values6 : tie.After-up8 → List ℤ
-values6 c = read32 ((prior4 (prior5 (prior6 c))) .before .before .down2 .result) ∷ read32 (c .before .before .before .before .down6 .result)
+values6 c = read32 ((prior4 (prior5 (prior6 c))) .before .before .down2 .result) ∷ read32 (turned17 c .before .down6 .result)
     ∷ read32 ((prior4 (prior5 (prior6 c))) .up2 .result) ∷ read32 (c .before .down7 .result)
     ∷ read32 ((prior4 (prior5 (prior6 c))) .before .before .before .up .result) ∷ read32 (c .up8 .result) ∷ read32 ((prior5 (prior6 c)) .down4 .result)
-    ∷ read32 (c .before .before .before .up6 .result) ∷ []
+    ∷ read32 (turned17 c .up6 .result) ∷ []
 
 at6 : (c : tie.After-up8) → values6 c ≡ run steps5 (values5 (prior6 c))
 unfolding steps5 values6 values5
 at6 c = simp (
-  c .before .before .before .before .before .up5 .ensures .is,
-  c .before .before .before .before .down6 .ensures .is,
-  c .before .before .before .up6 .ensures .is,
+  turned17 c .before .before .up5 .ensures .is,
+  turned17 c .before .down6 .ensures .is,
+  turned17 c .up6 .ensures .is,
   c .before .before .up7 .ensures .is,
   c .before .down7 .ensures .is,
   c .up8 .ensures .is,
