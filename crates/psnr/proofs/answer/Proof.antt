@@ -32,9 +32,12 @@ differs (suc e) r n = refl
 abbrev both : tie.Start → Planes
 both s = planes (s .args .layout) (s .args .a8) (s .args .a16) (s .args .b8) (s .args .b16)
 
--- the function's start, from past the first branch
+-- the function's start, from the refusal's number and from past the first branch
+abbrev begun : tie.After-refusal → tie.Start
+begun c = c .before .before .before .before .before
+
 abbrev start : tie.Else1 → tie.Start
-start c = c .before .before .before .before .before .before
+start c = begun (c .before)
 
 -- there no test refuses the planes
 none : (c : tie.Else1) → squaredErrorRefusal (both (start c)) ≡ 0

@@ -18,11 +18,15 @@ Inv-loop a b from-a from-b width sum₀ x₀ sum x =
 abbrev μ-loop : tie.MeasureT-loop
 μ-loop a b from-a from-b width sum₀ x₀ sum x = width - x
 
+-- the function's start, from the loop's head
+abbrev start : tie.At-loop Inv-loop μ-loop → tie.Start Inv-loop μ-loop
+start l = l .before .before .before
+
 loop-holds : tie.Need-loop-holds Inv-loop μ-loop
 loop-holds c = (search needs, sym (squares-none _ _ _ _), search needs)
 
 add-byte : tie.Need-add-byte Inv-loop μ-loop
-add-byte c = let s = c .before .before .before .before in omega (arith, s .pre .0)
+add-byte c = omega (arith, start (c .before) .pre .0)
 
 shared-slice-read-byte : tie.Need-shared-slice-read-byte Inv-loop μ-loop
 shared-slice-read-byte c = search needs
@@ -31,7 +35,7 @@ byte-requires : tie.Need-byte-requires Inv-loop μ-loop
 byte-requires c κs = search needs
 
 add-byte-2 : tie.Need-add-byte-2 Inv-loop μ-loop
-add-byte-2 c = let s = c .before .before .before .before .before .before in omega (arith, s .pre .1)
+add-byte-2 c = omega (arith, start (c .before .before .before) .pre .1)
 
 shared-slice-read-byte-2 : tie.Need-shared-slice-read-byte-2 Inv-loop μ-loop
 shared-slice-read-byte-2 c = search needs
@@ -42,15 +46,20 @@ byte-requires-2 c κs = search needs
 squared-requires : tie.Need-squared-requires Inv-loop μ-loop
 squared-requires c κs = search needs
 
+-- the loop's head, from where the first sample is about to be read
+abbrev head : tie.After-shared-slice-known3 Inv-loop μ-loop → tie.At-loop Inv-loop μ-loop
+head c = c .before .before
+
 -- the sum with one sample more, and how large that one's square is
 more : (c : tie.After-squared Inv-loop μ-loop)
-    → let l = c .before .before .before .before .before .before in
-    let s = l .before .before .before in
+    → let first = c .before .before .before in
+    let l = head (first .before) in
+    let s = start l in
     l .loop .sum + c .squared .result
     ≡ squaresFrom (now (s .args .a)) (now (s .args .b)) (s .args .from-a) (s .args .from-b) (l .loop .x + 1)
 more c =
-    let l = c .before .before .before .before .before .before in
-    rw (squares-more, ← (l .loop .inv .1), c .squared .ensures, c .before .before .before .byte .ensures .0, c .before .byte2 .ensures .0)
+    let first = c .before .before .before in
+    rw (squares-more, ← (head (first .before) .loop .inv .1), c .squared .ensures, first .byte .ensures .0, c .before .byte2 .ensures .0)
 
 small : (c : tie.After-squared Inv-loop μ-loop) → c .squared .result ≤ wordMost * wordMost
 small c =
@@ -58,8 +67,8 @@ small c =
 
 add-sum : tie.Need-add-sum Inv-loop μ-loop
 add-sum c =
-    let l = c .before .before .before .before .before .before in
-    omega (arith, small c, l .loop .inv .2, side-small, l .before .before .before .pre .2)
+    let l = head (c .before .before .before .before) in
+    omega (arith, small c, l .loop .inv .2, side-small, start l .pre .2)
 
 add-x : tie.Need-add-x Inv-loop μ-loop
 add-x c = search needs
@@ -69,11 +78,11 @@ loop-less c = search needs
 
 loop-again : tie.Need-loop-again Inv-loop μ-loop
 loop-again c =
-    let l = c .before .before .before .before .before .before in (search needs, more c, omega (arith, small c, l .loop .inv .2))
+    let l = head (c .before .before .before .before) in (search needs, more c, omega (arith, small c, l .loop .inv .2))
 
 returns : tie.Need-returns Inv-loop μ-loop
 returns c =
-    let e : c .before .loop .x ≡ c .before .before .before .before .args .width = omega arith in rw e at (c .before .loop .inv .1)
+    let e : c .before .loop .x ≡ start (c .before) .args .width = omega arith in rw e at (c .before .loop .inv .1)
 
 pub row-error8-spec : {M : Type 1} → statement M
 row-error8-spec =

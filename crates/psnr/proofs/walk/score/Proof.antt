@@ -20,6 +20,10 @@ abbrev μ-loop : tie.MeasureT-loop
 abbrev both : tie.Start Inv-loop μ-loop → Planes
 both s = planes (s .args .layout) (s .args .a8) (s .args .a16) (s .args .b8) (s .args .b16)
 
+-- the function's start, from the loop's head
+abbrev start : tie.At-loop Inv-loop μ-loop → tie.Start Inv-loop μ-loop
+start l = l .before .before .before .before .before
+
 loop-holds : tie.Need-loop-holds Inv-loop μ-loop
 loop-holds c = (omega arith, sym (error-none _))
 
@@ -28,12 +32,12 @@ row-error-requires c κs = search needs
 
 -- the sum with one row more
 more : (c : tie.After-row-error Inv-loop μ-loop) → let l = c .before .before in
-    l .loop .sum + c .row-error .result ≡ errorTo (both (l .before .before .before .before .before)) (l .loop .y + 1)
+    l .loop .sum + c .row-error .result ≡ errorTo (both (start l)) (l .loop .y + 1)
 more c = rw (error-more, ← (c .before .before .loop .inv .1), c .row-error .ensures)
 
 add-sum : tie.Need-add-sum Inv-loop μ-loop
 add-sum c =
-    let s = c .before .before .before .before .before .before .before in
+    let s = start (c .before .before) in
     rw (more c) (record { fits = error-room (s .pre) (omega arith) })
 
 add-y : tie.Need-add-y Inv-loop μ-loop
@@ -47,7 +51,7 @@ loop-again c = (search needs, more c)
 
 returns : tie.Need-returns Inv-loop μ-loop
 returns c =
-    let s = c .before .before .before .before .before .before in
+    let s = start (c .before) in
     let e : c .before .loop .y ≡ s .args .layout .size .height = omega arith in
     rw e at (c .before .loop .inv .1)
 
