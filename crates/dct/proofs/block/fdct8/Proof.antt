@@ -16,14 +16,21 @@ use Rattle.dct.proofs.block.fdct8.Tie as tie
 gather-requires : tie.Need-gather-requires
 gather-requires c κs = search needs
 
+-- where four of the eight numbers are taken out, and where they are gathered
+abbrev four : tie.After-struct-told8 → tie.After-struct-told4
+four c = c .before .before .before .before
+
+abbrev gathered : tie.After-struct-told8 → tie.After-gather
+gathered c = four c .before .before .before .before
+
 run-steps-requires : tie.Need-run-steps-requires
 run-steps-requires c κs =
-    let d = c .before .before .before .before .before .before .before .before in
+    let d = gathered c in
     let w = subst (AllWithin runLimit) (sym (d .gather .ensures)) (d .before .pre .1 .1 .1) in
     read-all runLimit (inputOrder (vals (d .gather .result))) (ordered-within runLimit (vals (d .gather .result)) w)
 
 store-requires : tie.Need-store-requires
-store-requires c κs = c .before .before .before .before .before .before .before .before .before .before .before .pre .1 .1 .0
+store-requires c κs = gathered (c .before .before) .before .pre .1 .1 .0
 
 same-length : tie.Need-same-length
 same-length c = search needs
@@ -31,8 +38,9 @@ same-length c = search needs
 returns : tie.Need-returns
 unfolding fdct8
 returns c =
-    let a = c .before .before .before .before .struct-told8 .given in
-    let d = c .before .before .before .before .before .before .before .before .before .before .before .before in
+    let e = c .before .before .before .before in
+    let a = e .struct-told8 .given in
+    let d = gathered e in
     c .before .store .ensures
     ∙ ap (λ (l : List ℤ). l ++ drop 8 (d .before .args .out .now))
     (c .before .before .before .run-steps .ensures

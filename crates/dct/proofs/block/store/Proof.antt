@@ -34,9 +34,16 @@ slice-set-from-y7 c = simp length-set (omega arith)
 same-length : tie.Need-same-length
 same-length c = simp length-set
 
+-- where four of the eight numbers are taken out, and the function's start
+abbrev four : tie.After-struct-told8 → tie.After-struct-told4
+four c = c .before .before .before .before
+
+abbrev start : tie.After-struct-told8 → tie.Start
+start c = four c .before .before .before .before
+
 returns : tie.Need-returns
 returns c =
-    let s = c .before .before .before .before .before .before .before .before in
+    let s = start c in
     let t = c .struct-told8 .given in
     rw (
       toZ-ofZ (sfits-of (t .0 .1)),
