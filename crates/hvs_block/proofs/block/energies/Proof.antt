@@ -17,6 +17,10 @@ Inv-loop d1 d2 mask s₀ t₀ k₀ s t k = (1 ≤ k) × (k ≤ 64) × (s ≡ fla
 abbrev μ-loop : tie.MeasureT-loop
 μ-loop d1 d2 mask s₀ t₀ k₀ s t k = 64 - k
 
+-- the loop's head, from where both coefficients and the mask are read
+abbrev head : tie.After-m Inv-loop μ-loop → tie.At-loop Inv-loop μ-loop
+head c = c .before .before .before .before
+
 loop-holds : tie.Need-loop-holds Inv-loop μ-loop
 loop-holds c = (search needs, search needs, sym (energy-first (c .args .d1 .now) (c .args .mask .now) _), sym (energy-first (c .args .d2 .now) (c .args .mask .now) _))
 
@@ -46,16 +50,14 @@ index-2-m c = search needs
 
 mul-s : tie.Need-mul-s Inv-loop μ-loop
 mul-s c =
-    let s = c .before .before .before .before .before in
-    square-fits (s .args .d1 .now) (s .pre .1 .0) (c .before .before .before .before .loop .k)
+    let s = head c .before in square-fits (s .args .d1 .now) (s .pre .1 .0) (head c .loop .k)
 
 int-to-float-s : tie.Need-int-to-float-s Inv-loop μ-loop
 int-to-float-s c = search needs
 
 mul-t : tie.Need-mul-t Inv-loop μ-loop
 mul-t c =
-    let s = c .before .before .before .before .before .before in
-    square-fits (s .args .d2 .now) (s .pre .1 .1) (c .before .before .before .before .before .loop .k)
+    let s = head (c .before) .before in square-fits (s .args .d2 .now) (s .pre .1 .1) (head (c .before) .loop .k)
 
 int-to-float-t : tie.Need-int-to-float-t Inv-loop μ-loop
 int-to-float-t c = search needs
@@ -68,8 +70,10 @@ loop-less c = search needs
 
 loop-again : tie.Need-loop-again Inv-loop μ-loop
 loop-again c =
-    let s = c .before .before .before .before .before .before .before in
-    let l = c .before .before .before .before .before .before .loop in
+    let masked = c .before .before in
+    let loop-head = masked .before .before .before .before in
+    let s = loop-head .before in
+    let l = loop-head .loop in
     let one = s .args .d1 .now in
     let two = s .args .d2 .now in (
       search needs,

@@ -75,8 +75,10 @@ loop-less c = search needs
 
 loop-again : tie.Need-loop-again Inv-loop μ-loop
 loop-again c =
-    let s = c .before .before .before .before .before .before .before .before in
-    let l = c .before .before .before .before .before .before .before .loop in
+    let coefficients = c .before .before .before .before in
+    let loop-head = coefficients .before .before .before in
+    let s = loop-head .before in
+    let l = loop-head .loop in
     let one = s .args .d1 .now in
     let two = s .args .d2 .now in (
       search needs,

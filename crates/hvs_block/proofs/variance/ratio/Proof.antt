@@ -27,8 +27,15 @@ quarter-requires-4 c κs = search needs
 abbrev start : tie.After-quarter4 → tie.Start
 start c = c .before .before .before .before
 
+-- the four quarters, from where their sums are read; that place, from where their squares are; and both steps at once
+abbrev quartered : tie.After-struct-known4 → tie.After-quarter4
+quartered c = c .before .before .before .before
+
+abbrev summed : tie.After-struct-known8 → tie.After-struct-known4
+summed c = c .before .before .before .before
+
 abbrev four : tie.After-gvar → tie.After-quarter4
-four c = c .before .before .before .before .before .before .before .before .before
+four c = quartered (summed (c .before))
 
 -- the four sums make up the whole block's
 module _ (c : tie.After-quarter4) where
@@ -54,7 +61,7 @@ module _ (c : tie.After-quarter4) where
 -- so its variance is the definition's
 variance : (c : tie.After-gvar) → c .gvar .result ≡ Block.gvar (start (four c) .args .b .now)
 variance c =
-    let q = c .before .before .before .before .before .before .before .before .before in
+    let q = four c in
     rw (total q, total-squares q) at (c .gvar .ensures) ∙ sym (gvar-is (start q .args .b .now) (start q .pre .1))
 
 add-gvar : tie.Need-add-gvar
@@ -64,27 +71,28 @@ add-gvar-2 : tie.Need-add-gvar-2
 add-gvar-2 c = omega (arith, sum-fits (c .before .before .before))
 
 add-gvar-3 : tie.Need-add-gvar-3
-add-gvar-3 c = omega (arith, sum-fits (c .before .before .before .before))
+add-gvar-3 c = omega (arith, sum-fits (quartered c))
 
 add-gvar-4 : tie.Need-add-gvar-4
-add-gvar-4 c = omega (arith, squares-fit (c .before .before .before .before .before .before))
+add-gvar-4 c = omega (arith, squares-fit (quartered (c .before .before)))
 
 add-gvar-5 : tie.Need-add-gvar-5
-add-gvar-5 c = omega (arith, squares-fit (c .before .before .before .before .before .before .before))
+add-gvar-5 c = omega (arith, squares-fit (quartered (c .before .before .before)))
 
 add-gvar-6 : tie.Need-add-gvar-6
-add-gvar-6 c = omega (arith, squares-fit (c .before .before .before .before .before .before .before .before))
+add-gvar-6 c = omega (arith, squares-fit (quartered (summed c)))
 
 gvar-requires : tie.Need-gvar-requires
 gvar-requires c κs =
-    let q = c .before .before .before .before .before .before .before .before in
+    let q = quartered (summed c) in
     (rw (total q, total-squares q) (whole-le (start q .args .b .now) (start q .pre .1)), squares-fit q)
 
 returns : tie.Need-returns
 unfolding ratio varSum
 returns c =
     let v = c .before .before .before .before .before in
-    let q = v .before .before .before .before .before .before .before .before .before in
+    let sums = v .before .before .before .before .before in
+    let q = sums .before .before .before .before in
     rw (
       ← (variance v),
       c .if1 .taken,
