@@ -19,6 +19,10 @@ abbrev μ-loop : tie.MeasureT-loop
 blocks-per-side-requires : tie.Need-blocks-per-side-requires Inv-loop μ-loop
 blocks-per-side-requires c κs = search needs
 
+-- the function's start, from where the blocks are counted
+abbrev start : tie.After-blocks-per-side Inv-loop μ-loop → tie.Start Inv-loop μ-loop
+start c = c .before .before .before .before .before
+
 loop-holds : tie.Need-loop-holds Inv-loop μ-loop
 unfolding alongRow
 loop-holds c = (search needs, sym (fold-none _ _))
@@ -28,7 +32,7 @@ mul-block-at c = search needs
 
 block-at-requires : tie.Need-block-at-requires Inv-loop μ-loop
 block-at-requires c κs =
-    let s = c .before .before .before .before .before .before .before in
+    let s = start (c .before .before) in
     let n = c .before .before .blocks-per-side .ensures in
     (record { across = ends (s .pre .0 .0) (omega arith); down = s .pre .0 .1 }, s .pre .1)
 
@@ -43,7 +47,7 @@ loop-again c = (search needs, rw (row-more, c .block-at .ensures, c .before .bef
 
 returns : tie.Need-returns Inv-loop μ-loop
 returns c =
-    let s = c .before .before .before .before .before .before .before in
+    let s = start (c .before .before) in
     let e : c .before .loop .x ≡ blocksPerSide (s .args .layout .size .width) = omega (arith, c .before .before .blocks-per-side .ensures) in
     rw e at (c .before .loop .inv .1)
 

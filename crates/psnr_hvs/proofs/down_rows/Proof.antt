@@ -19,6 +19,10 @@ abbrev μ-loop : tie.MeasureT-loop
 blocks-per-side-requires : tie.Need-blocks-per-side-requires Inv-loop μ-loop
 blocks-per-side-requires c κs = search needs
 
+-- the function's start, from where the blocks are counted
+abbrev start : tie.After-blocks-per-side Inv-loop μ-loop → tie.Start Inv-loop μ-loop
+start c = c .before .before .before .before .before
+
 loop-holds : tie.Need-loop-holds Inv-loop μ-loop
 unfolding downRows
 loop-holds c = (search needs, sym (fold-none _ _))
@@ -28,7 +32,7 @@ mul-along-row c = search needs
 
 along-row-requires : tie.Need-along-row-requires Inv-loop μ-loop
 along-row-requires c κs =
-    let s = c .before .before .before .before .before .before .before in
+    let s = start (c .before .before) in
     let n = c .before .before .blocks-per-side .ensures in
     ((s .pre .0 .0, ends (s .pre .0 .1) (omega arith)), s .pre .1)
 
@@ -43,7 +47,7 @@ loop-again c = (search needs, rw (rows-more, c .along-row .ensures, c .before .b
 
 returns : tie.Need-returns Inv-loop μ-loop
 returns c =
-    let s = c .before .before .before .before .before .before .before in
+    let s = start (c .before .before) in
     let e : c .before .loop .y ≡ blocksPerSide (s .args .layout .size .height) = omega (arith, c .before .before .blocks-per-side .ensures) in
     rw e at (c .before .loop .inv .1)
 

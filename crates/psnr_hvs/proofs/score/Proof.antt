@@ -14,9 +14,16 @@ csf-of-requires c κs = search needs
 masks-requires : tie.Need-masks-requires
 masks-requires c κs = search needs
 
+-- the function's start, from where the table is taken; and that place, from where the masks are lent
+abbrev begun : tie.After-csf-of → tie.Start
+begun c = c .before .before .before .before .before
+
+abbrev tabled : tie.After-mask → tie.After-csf-of
+tabled c = c .before .before .before
+
 down-rows-requires : tie.Need-down-rows-requires
 down-rows-requires c κs =
-    let a = c .before .before .before .before .before .before .before .before .pre in
+    let a = begun (tabled c) .pre in
     ((a .sized .width-reaches, a .sized .height-reaches), bounded a)
 
 blocks-per-side-requires : tie.Need-blocks-per-side-requires
@@ -27,7 +34,7 @@ blocks-per-side-requires-2 c κs = search needs
 
 -- the start, from where the planes have been walked
 abbrev start : tie.After-down-rows → tie.Start
-start c = c .before .before .before .before .before .before .before .before .before
+start c = begun (tabled (c .before))
 
 -- the two divisors
 few : (c : tie.After-blocks-per-side2) → c .before .blocks-per-side .result * c .blocks-per-side2 .result ≤ 2 ^ 28

@@ -16,10 +16,15 @@ slice-aggregate-with-block c = search needs
 slice-aggregate-with-block-2 : tie.Need-slice-aggregate-with-block-2
 slice-aggregate-with-block-2 c = search needs
 
+-- the function's start, from where the first block is read
+abbrev start : tie.After-loaded → tie.Start
+start c = c .before .before .before .before .before
+
 with-block-requires : tie.Need-with-block-requires
 with-block-requires c κs =
-    let s = c .before .before .before .before .before .before .before .before in
-    let one = c .before .before .before .loaded .ensures in
+    let first = c .before .before .before in
+    let s = start first in
+    let one = first .loaded .ensures in
     let two = c .before .before .loaded2 .ensures in (
       (rw one (block-length _ _ _), rw two (block-length _ _ _)),
       (
