@@ -49,14 +49,18 @@ float-to-bits-bits c = a-number _ (sym (c .before .finite .ensures) ∙ not-fals
 returns-2 : tie.Need-returns-2
 returns-2 c = sym zero-root ∙ by-bits (c .before .before .before) 0 (c .if2 .taken)
 
+-- the function's start, from where x is finite and not 0
+abbrev start : tie.Else2 → tie.Start
+start c = c .before .before .before
+
 -- where the field is 0, the bits are the digits
 abbrev bits : tie.Start → ℕ
 bits c = toBits binary64 (c .args .x)
 
-small : (c : tie.Then3) → (0 < bits (c .before .before .before .before)) × (bits (c .before .before .before .before) < 2 ^ 52)
+small : (c : tie.Then3) → (0 < bits (start (c .before))) × (bits (start (c .before)) < 2 ^ 52)
 small c = (omega arith, omega arith)
 
-lift : (c : tie.Then3) → Lifted (bits (c .before .before .before .before) % 2 ^ 52)
+lift : (c : tie.Then3) → Lifted (bits (start (c .before)) % 2 ^ 52)
 lift c = let s = small c in lifted _ (omega arith) (omega arith)
 
 cast-up : tie.Need-cast-up
@@ -76,7 +80,7 @@ scaled-root-requires c κs = rw (lift c .exact) (lift c .from, lift c .upto, ome
 
 returns-3 : tie.Need-returns-3
 returns-3 c =
-    let s = c .before .before .before .before .before in
+    let s = start (c .before .before) in
     let l = lift (c .before) in
     let d = bits s % 2 ^ 52 in
     let u = leadingZeros 64 d - 11 in
@@ -96,7 +100,7 @@ scaled-root-requires-2 c κs = (omega arith, omega arith, omega arith)
 
 returns-4 : tie.Need-returns-4
 returns-4 c =
-    let s = c .before .before .before .before .before .before in
+    let s = start (c .before .before .before) in
     let k = bits s / 2 ^ 52 - 1 in
     let t = bits s % 2 ^ 52 in
     let w : bits s / 2 ^ 52 + 1021 ≡ k + 1022 = omega arith in
@@ -105,7 +109,7 @@ returns-4 c =
     ∙ by-bits s ((k + 1) * 2 ^ 52 + t) (omega arith)
 
 returns-5 : tie.Need-returns-5
-returns-5 c = sym (read-refused _ (omega arith)) ∙ by-bits (c .before .before .before .before .before) _ refl
+returns-5 c = sym (read-refused _ (omega arith)) ∙ by-bits (start (c .before .before)) _ refl
 
 pub root-spec : {M : Type 1} → statement M
 root-spec =

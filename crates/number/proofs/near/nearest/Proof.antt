@@ -38,24 +38,29 @@ is-nearest-requires c κs = (moved (c .before) .0, omega arith, omega arith)
 returns : tie.Need-returns
 returns c = tested (c .before .before .before) _ (omega arith) (sym (c .before .is-nearest .ensures) ∙ c .if1 .taken)
 
+-- the function's start, from where the first guess has failed
+abbrev start : tie.Else1 → tie.Start
+start c = c .before .before .before
+
 nearer-requires : tie.Need-nearer-requires
-nearer-requires c κs = (moved (c .before .before .before) .0, omega arith, omega arith)
+nearer-requires c κs = (moved (start c) .0, omega arith, omega arith)
 
 is-nearest-requires-2 : tie.Need-is-nearest-requires-2
-is-nearest-requires-2 c κs = (moved (c .before .before .before .before) .0, omega arith, omega arith)
+is-nearest-requires-2 c κs = (moved (start (c .before)) .0, omega arith, omega arith)
 
 returns-2 : tie.Need-returns-2
-returns-2 c = tested (c .before .before .before .before .before .before) _ (omega arith) (sym (c .before .is-nearest2 .ensures) ∙ c .if2 .taken)
+returns-2 c = tested (start (c .before .before .before)) _ (omega arith) (sym (c .before .is-nearest2 .ensures) ∙ c .if2 .taken)
 
 product-requires : tie.Need-product-requires
 product-requires c κs = search needs
 
 searched-requires : tie.Need-searched-requires
-searched-requires c κs = rw (c .product .ensures ∙ moved (c .before .before .before .before .before .before .before) .1) (scaled-lt _ (scaled (c .before .before .before .before .before .before .before)))
+searched-requires c κs =
+    let s = start (c .before .before .before .before) in rw (c .product .ensures ∙ moved s .1) (scaled-lt _ (scaled s))
 
 returns-3 : tie.Need-returns-3
 returns-3 c =
-    let s = c .before .before .before .before .before .before .before .before in
+    let s = start (c .before .before .before .before .before) in
     let d = defined _ (scaled s) in
     let e = c .searched .ensures ∙ ap (nearestRoot 53) (c .before .product .ensures ∙ moved s .1) in
     (e, rw e (d .from), rw e (d .upto))
