@@ -110,16 +110,16 @@ uint8_t fuavelino_ssim16(const uint16_t *a, size_t a_len, const uint16_t *b, siz
 size_t fuavelino_ssim_places(size_t width, size_t taps);
 
 /* MS-SSIM's five scales, the planes themselves first: ssim and cs of scale k, from 0 on, go to pairs[2 * k] and pairs[2 * k + 1]. Sides are at
- * least 16. `scratch` has at least fuavelino_msssim_places(width) places, each room fuavelino_msssim_samples(width, height); accepted, and
- * at 9, those are 0 after the call. Refuses 1 2 3 4 5 6 8 9. */
+ * least 16. `scratch` has at least fuavelino_msssim_places(width) places, a32 and b32 fuavelino_msssim_samples(width, height) each; accepted,
+ * and at 9, those are 0 after the call. Refuses 1 2 3 4 5 6 8 9. */
 uint8_t fuavelino_msssim8(const uint8_t *a, size_t a_len, const uint8_t *b, size_t b_len, size_t width, size_t height,
-                          size_t stride_a, size_t stride_b, uint32_t depth, int64_t *scratch, size_t places, uint32_t *room_a,
-                          size_t places_a, uint32_t *room_b, size_t places_b, double pairs[10]);
+                          size_t stride_a, size_t stride_b, uint32_t depth, int64_t *scratch, size_t places, uint32_t *a32,
+                          size_t a32_places, uint32_t *b32, size_t b32_places, double pairs[10]);
 uint8_t fuavelino_msssim16(const uint16_t *a, size_t a_len, const uint16_t *b, size_t b_len, size_t width, size_t height,
-                           size_t stride_a, size_t stride_b, uint32_t depth, int64_t *scratch, size_t places, uint32_t *room_a,
-                           size_t places_a, uint32_t *room_b, size_t places_b, double pairs[10]);
+                           size_t stride_a, size_t stride_b, uint32_t depth, int64_t *scratch, size_t places, uint32_t *a32,
+                           size_t a32_places, uint32_t *b32, size_t b32_places, double pairs[10]);
 
-/* The places that the scratch of MS-SSIM must have, 96 * width, and each of its rooms, width * height. 0 where a side is not 16 to 8192: such
+/* The places that the scratch of MS-SSIM must have, 96 * width, and a32 and b32 each, width * height. 0 where a side is not 16 to 8192: such
  * a call is refused by a lower number, whatever is lent. */
 size_t fuavelino_msssim_places(size_t width);
 size_t fuavelino_msssim_samples(size_t width, size_t height);

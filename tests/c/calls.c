@@ -180,12 +180,12 @@ static int roomed(const uint32_t *places, size_t count, size_t clear) {
 enum { SSIM_NEED = 6 * WIDTH * 4, SCALES_NEED = 96 * WIDTH, ROOM_NEED = WIDTH * HEIGHT, MORE = 11 };
 
 static int64_t scratch[SCALES_NEED + MORE];
-static uint32_t room_a[ROOM_NEED + MORE], room_b[ROOM_NEED + MORE];
+static uint32_t a32[ROOM_NEED + MORE], b32[ROOM_NEED + MORE];
 
 static void soil(void) {
     size_t i;
     for (i = 0; i < COUNT(scratch); i++) scratch[i] = 5;
-    for (i = 0; i < COUNT(room_a); i++) room_a[i] = room_b[i] = 5;
+    for (i = 0; i < COUNT(a32); i++) a32[i] = b32[i] = 5;
 }
 
 /* The places at the ends of what is taken, and past them. */
@@ -248,14 +248,14 @@ static void ssim(void) {
     EXPECT(cleared(scratch, COUNT(scratch), SSIM_NEED));
 }
 
-#define LENT(places, places_a, places_b) scratch, places, room_a, places_a, room_b, places_b
+#define LENT(places, a32_places, b32_places) scratch, places, a32, a32_places, b32, b32_places
 
 static int all_soiled(void) {
-    return cleared(scratch, COUNT(scratch), 0) && roomed(room_a, COUNT(room_a), 0) && roomed(room_b, COUNT(room_b), 0);
+    return cleared(scratch, COUNT(scratch), 0) && roomed(a32, COUNT(a32), 0) && roomed(b32, COUNT(b32), 0);
 }
 
 static int all_cleared(void) {
-    int rooms = roomed(room_a, COUNT(room_a), ROOM_NEED) && roomed(room_b, COUNT(room_b), ROOM_NEED);
+    int rooms = roomed(a32, COUNT(a32), ROOM_NEED) && roomed(b32, COUNT(b32), ROOM_NEED);
     return rooms && cleared(scratch, COUNT(scratch), SCALES_NEED);
 }
 

@@ -108,8 +108,8 @@ pub trait Width: Copy {
         b: Plane<'_, Self>,
         shape: Shape,
         scratch: &mut [i64],
-        room_a: &mut [u32],
-        room_b: &mut [u32],
+        a32: &mut [u32],
+        b32: &mut [u32],
         out: &mut [Pair; 5],
     ) -> u8;
 
@@ -125,8 +125,8 @@ macro_rules! width {
             $sample, $ssim: kernel: *const u16, taps: usize, scratch: *mut i64, places: usize, ssim: &mut f64, cs: &mut f64
         );
         declare!(
-            $sample, $msssim: scratch: *mut i64, places: usize, room_a: *mut u32, places_a: usize, room_b: *mut u32,
-            places_b: usize, pairs: *mut Pair
+            $sample, $msssim: scratch: *mut i64, places: usize, a32: *mut u32, a32_places: usize, b32: *mut u32,
+            b32_places: usize, pairs: *mut Pair
         );
         declare!($sample, $hvs_y: score: &mut f64);
         declare!($sample, $hvs_u: score: &mut f64);
@@ -164,12 +164,12 @@ macro_rules! width {
                 b: Plane<'_, Self>,
                 shape: Shape,
                 scratch: &mut [i64],
-                room_a: &mut [u32],
-                room_b: &mut [u32],
+                a32: &mut [u32],
+                b32: &mut [u32],
                 out: &mut [Pair; 5],
             ) -> u8 {
-                let (s, x, y) = (scratch.as_mut_ptr(), room_a.as_mut_ptr(), room_b.as_mut_ptr());
-                let (i, j, k) = (scratch.len(), room_a.len(), room_b.len());
+                let (s, x, y) = (scratch.as_mut_ptr(), a32.as_mut_ptr(), b32.as_mut_ptr());
+                let (i, j, k) = (scratch.len(), a32.len(), b32.len());
                 // five pairs lie in memory as the ten doubles that the export writes
                 lend!($msssim, a, b, shape, s, i, x, j, y, k, out.as_mut_ptr())
             }

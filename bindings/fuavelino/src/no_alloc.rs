@@ -76,24 +76,24 @@ pub fn msssim_places(width: usize) -> usize {
     exports::msssim_places(width)
 }
 
-/// The places of room that [`msssim`] needs for each plane: width × height. 0 where a side is not 16 to 8,192, as above.
+/// The 32-bit places that [`msssim`] needs for each plane: width × height. 0 where a side is not 16 to 8,192, as above.
 #[inline]
 pub fn msssim_samples(width: usize, height: usize) -> usize {
     exports::msssim_samples(width, height)
 }
 
-/// The five scales, the planes themselves first. It needs [`msssim_places`] of scratch, and [`msssim_samples`] of room for each plane.
+/// The five scales, the planes themselves first. It needs [`msssim_places`] of scratch, and [`msssim_samples`] of 32 bits for each plane.
 /// Refuses 1 2 3 4 5 6 8 9.
 pub fn msssim<T: Sample>(
     a: Plane<'_, T>,
     b: Plane<'_, T>,
     shape: Shape,
     scratch: &mut [i64],
-    room_a: &mut [u32],
-    room_b: &mut [u32],
+    a32: &mut [u32],
+    b32: &mut [u32],
     out: &mut [Pair; 5],
 ) -> Result<(), Refusal> {
-    outcome(T::msssim(a, b, shape, scratch, room_a, room_b, out))
+    outcome(T::msssim(a, b, shape, scratch, a32, b32, out))
 }
 
 /// PSNR-HVS. Refuses 1 2 3 4 5 6 9.

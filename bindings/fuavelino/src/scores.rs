@@ -1,4 +1,4 @@
-//! The calls as most callers want them: the answer comes back, and room is kept in a `Scratch`.
+//! The calls as most callers want them: the answer comes back, and what a call works in is kept in a `Scratch`.
 
 use crate::exports;
 use crate::kernel::Kernel;
@@ -46,7 +46,7 @@ pub fn series(records: &[PsnrMetrics]) -> Result<PsnrMetrics, Refusal> {
     Ok(total)
 }
 
-/// SSIM under a kernel. Refuses 1 2 4 5 6 7 9, and 8 only where there is no memory for its room.
+/// SSIM under a kernel. Refuses 1 2 4 5 6 7 9, and 8 only where there is no memory for its scratch.
 ///
 /// ```
 /// use fuavelino::{ssim, Kernel, Plane, Scratch, Shape};
@@ -78,7 +78,7 @@ pub fn ssim<T: Sample>(
 }
 
 /// The five scales of MS-SSIM, the planes themselves first. Sides are at least 16. Refuses 1 2 3 4 5 6 9, and 8 only where there is no
-/// memory for its room.
+/// memory for its scratch.
 ///
 /// ```
 /// use fuavelino::{msssim, Plane, Refusal, Scratch, Shape};
@@ -98,13 +98,13 @@ pub fn msssim<T: Sample>(
     shape: Shape,
     scratch: &mut Scratch,
 ) -> Result<[Pair; 5], Refusal> {
-    let (sums, room) = (msssim_places(shape.width), msssim_samples(shape.width, shape.height));
-    if !scratch.holds(sums, room) {
+    let (sums, samples) = (msssim_places(shape.width), msssim_samples(shape.width, shape.height));
+    if !scratch.holds(sums, samples) {
         check(a, b, shape, LEAST)?;
-        scratch.grow(sums, room);
+        scratch.grow(sums, samples);
     }
     let mut pairs = [Pair::default(); 5];
-    no_alloc::msssim(a, b, shape, &mut scratch.sums, &mut scratch.room_a, &mut scratch.room_b, &mut pairs)?;
+    no_alloc::msssim(a, b, shape, &mut scratch.sums, &mut scratch.a32, &mut scratch.b32, &mut pairs)?;
     Ok(pairs)
 }
 

@@ -1,14 +1,14 @@
-//! The room that SSIM and MS-SSIM work in.
+//! The scratch that SSIM and MS-SSIM work in.
 
 use std::fmt;
 
-/// Room for [`ssim`](crate::ssim) and [`msssim`](crate::msssim), to be lent again and again: it grows when a larger plane or a longer kernel
+/// Scratch for [`ssim`](crate::ssim) and [`msssim`](crate::msssim), to be lent again and again: it grows when a larger plane or a longer kernel
 /// comes, and nothing else allocates. After each call it is all zero, so nothing of one picture stays for the next.
 #[derive(Default)]
 pub struct Scratch {
     pub(crate) sums: Vec<i64>,
-    pub(crate) room_a: Vec<u32>,
-    pub(crate) room_b: Vec<u32>,
+    pub(crate) a32: Vec<u32>,
+    pub(crate) b32: Vec<u32>,
 }
 
 impl Scratch {
@@ -18,15 +18,15 @@ impl Scratch {
     }
 
     /// Whether it holds this many places.
-    pub(crate) fn holds(&self, sums: usize, room: usize) -> bool {
-        self.sums.len() >= sums && self.room_a.len() >= room && self.room_b.len() >= room
+    pub(crate) fn holds(&self, sums: usize, samples: usize) -> bool {
+        self.sums.len() >= sums && self.a32.len() >= samples && self.b32.len() >= samples
     }
 
     /// Grows to these many places. Where there is no memory for them it stays as it is, and the call that it is for refuses with 8.
-    pub(crate) fn grow(&mut self, sums: usize, room: usize) {
+    pub(crate) fn grow(&mut self, sums: usize, samples: usize) {
         lengthen(&mut self.sums, sums);
-        lengthen(&mut self.room_a, room);
-        lengthen(&mut self.room_b, room);
+        lengthen(&mut self.a32, samples);
+        lengthen(&mut self.b32, samples);
     }
 }
 
@@ -39,7 +39,7 @@ fn lengthen<T: Copy + Default>(list: &mut Vec<T>, len: usize) {
 
 impl fmt::Debug for Scratch {
     fn fmt(&self, f: &mut fmt::Formatter<'_>) -> fmt::Result {
-        write!(f, "Scratch of {} sums and {} places of room", self.sums.len(), self.room_a.len())
+        write!(f, "Scratch of {} sums and {} samples a plane", self.sums.len(), self.a32.len())
     }
 }
 
@@ -49,8 +49,8 @@ mod tests {
     use crate::{msssim, ssim, Kernel, Pair, Plane, Refusal, Shape};
 
     fn all_zero(scratch: &Scratch) -> bool {
-        let rooms = [&scratch.room_a, &scratch.room_b];
-        scratch.sums.iter().all(|s| *s == 0) && rooms.iter().all(|room| room.iter().all(|s| *s == 0))
+        let planes = [&scratch.a32, &scratch.b32];
+        scratch.sums.iter().all(|s| *s == 0) && planes.iter().all(|plane| plane.iter().all(|s| *s == 0))
     }
 
     fn scores(samples: &[u16], width: usize, height: usize, scratch: &mut Scratch) -> (Pair, [Pair; 5]) {
@@ -61,7 +61,7 @@ mod tests {
         (pair, msssim(a, b, shape, scratch).unwrap())
     }
 
-    /// Large and small in turn: the room is zero after each, and the answers are those of new room.
+    /// Large and small in turn: it is zero after each, and the answers are those of new scratch.
     #[test]
     fn reused_over_sizes() {
         let samples: Vec<u16> = (0..90 * 90).map(|i| (i * i % 1_021) as u16).collect();
@@ -83,6 +83,6 @@ mod tests {
         let kernel = Kernel::for_plane(64, 64);
         assert_eq!(ssim(plane, plane, shape, &kernel, &mut kept), Err(Refusal::Sample));
         assert_eq!(msssim(plane, plane, shape, &mut kept), Err(Refusal::Sample));
-        assert!(all_zero(&kept) && kept.room_a.len() == 40 * 40);
+        assert!(all_zero(&kept) && kept.a32.len() == 40 * 40);
     }
 }

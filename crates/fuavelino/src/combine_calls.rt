@@ -1,7 +1,8 @@
 // Combining the scores of three planes, for other languages. The places lent are written where the answer is 0, and as they were otherwise.
 ghost use mathlib.Core.Path.{_≡_};
 ghost use Rattle.combine.specs.Combine.{combinedSsimOf, combinedHvsOf};
-ghost use Rattle.fuavelino.specs.Combine.{planar, combinedSsimNumber, sumWritten, weightWritten, combinedHvsNumber, combinedHvsWritten};
+ghost use Rattle.fuavelino.specs.Combine.{planar, combinedSsimNumber, sumWritten, weightWritten};
+ghost use Rattle.fuavelino.specs.Combine.{combinedHvsNumber, combinedHvsWritten};
 use combine::CombinedHvs;
 use combine::CombinedSsim;
 use combine::Planar;

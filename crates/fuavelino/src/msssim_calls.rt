@@ -44,16 +44,17 @@ pub extern "C" fn fuavelino_msssim8(
     stride_b: usize,
     depth: u32,
     scratch: &mut [i64],
-    room_a: &mut [u32],
-    room_b: &mut [u32],
+    a32: &mut [u32],
+    b32: &mut [u32],
     pairs: &mut [f64; 10],
 ) -> u8
     ensures { λ r. ⌜ r ≡ msssimNumber (msssimOf (called false (a .entry) (b .entry) width height «stride_a» «stride_b» depth)
-        (scratchOf (scratch .entry) («room_a» .entry) («room_b» .entry))) ⌝ }
-    ensures { λ _. ⌜ scratchOf (scratch .exit) («room_a» .exit) («room_b» .exit) ≡ scratchAfter (called false (a .entry) (b .entry)
-        width height «stride_a» «stride_b» depth) (scratchOf (scratch .entry) («room_a» .entry) («room_b» .entry)) ⌝ }
-    ensures { λ _. ⌜ now (pairs .exit) ≡ pairsWritten (msssimOf (called false (a .entry) (b .entry) width height «stride_a» «stride_b» depth)
-        (scratchOf (scratch .entry) («room_a» .entry) («room_b» .entry))) (now (pairs .entry)) ⌝ }
+        (scratchOf (scratch .entry) (a32 .entry) (b32 .entry))) ⌝ }
+    ensures { λ _. ⌜ scratchOf (scratch .exit) (a32 .exit) (b32 .exit) ≡ scratchAfter (called false (a .entry) (b .entry)
+        width height «stride_a» «stride_b» depth) (scratchOf (scratch .entry) (a32 .entry) (b32 .entry)) ⌝ }
+    ensures { λ _. ⌜ now (pairs .exit) ≡ pairsWritten
+        (msssimOf (called false (a .entry) (b .entry) width height «stride_a» «stride_b» depth)
+        (scratchOf (scratch .entry) (a32 .entry) (b32 .entry))) (now (pairs .entry)) ⌝ }
 {
     let answer = msssim::msssim8(
         a,
@@ -64,8 +65,8 @@ pub extern "C" fn fuavelino_msssim8(
         stride_b,
         depth,
         scratch,
-        room_a,
-        room_b,
+        a32,
+        b32,
     );
     put_pairs(answer, pairs)
 }
@@ -81,16 +82,17 @@ pub extern "C" fn fuavelino_msssim16(
     stride_b: usize,
     depth: u32,
     scratch: &mut [i64],
-    room_a: &mut [u32],
-    room_b: &mut [u32],
+    a32: &mut [u32],
+    b32: &mut [u32],
     pairs: &mut [f64; 10],
 ) -> u8
     ensures { λ r. ⌜ r ≡ msssimNumber (msssimOf (called true (a .entry) (b .entry) width height «stride_a» «stride_b» depth)
-        (scratchOf (scratch .entry) («room_a» .entry) («room_b» .entry))) ⌝ }
-    ensures { λ _. ⌜ scratchOf (scratch .exit) («room_a» .exit) («room_b» .exit) ≡ scratchAfter (called true (a .entry) (b .entry)
-        width height «stride_a» «stride_b» depth) (scratchOf (scratch .entry) («room_a» .entry) («room_b» .entry)) ⌝ }
-    ensures { λ _. ⌜ now (pairs .exit) ≡ pairsWritten (msssimOf (called true (a .entry) (b .entry) width height «stride_a» «stride_b» depth)
-        (scratchOf (scratch .entry) («room_a» .entry) («room_b» .entry))) (now (pairs .entry)) ⌝ }
+        (scratchOf (scratch .entry) (a32 .entry) (b32 .entry))) ⌝ }
+    ensures { λ _. ⌜ scratchOf (scratch .exit) (a32 .exit) (b32 .exit) ≡ scratchAfter (called true (a .entry) (b .entry)
+        width height «stride_a» «stride_b» depth) (scratchOf (scratch .entry) (a32 .entry) (b32 .entry)) ⌝ }
+    ensures { λ _. ⌜ now (pairs .exit) ≡ pairsWritten
+        (msssimOf (called true (a .entry) (b .entry) width height «stride_a» «stride_b» depth)
+        (scratchOf (scratch .entry) (a32 .entry) (b32 .entry))) (now (pairs .entry)) ⌝ }
 {
     let answer = msssim::msssim16(
         a,
@@ -101,8 +103,8 @@ pub extern "C" fn fuavelino_msssim16(
         stride_b,
         depth,
         scratch,
-        room_a,
-        room_b,
+        a32,
+        b32,
     );
     put_pairs(answer, pairs)
 }

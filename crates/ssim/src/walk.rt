@@ -64,7 +64,8 @@ fn rows(
     max2: f64,
     cols: &mut [i64],
 ) -> Totals
-    requires { ⌜ (grid .width ≤ sideLimit) × (grid .height ≤ sideLimit) × (5 * columnsOf (now kernel) (grid .width) ≤ length (now cols)) ⌝ }
+    requires { ⌜ (grid .width ≤ sideLimit) × (grid .height ≤ sideLimit)
+        × (5 * columnsOf (now kernel) (grid .width) ≤ length (now cols)) ⌝ }
     requires { ⌜ Margins (now cols) (now kernel) (grid .width) ⌝ }
     requires { ⌜ Kernel (now kernel) ⌝ }
     requires { ⌜ total ≡ sumTo (tap (now kernel)) (length (now kernel)) ⌝ }
@@ -114,7 +115,8 @@ pub fn totals(
     max2: f64,
     scratch: &mut [i64],
 ) -> Totals
-    requires { ⌜ (grid .width ≤ sideLimit) × (grid .height ≤ sideLimit) × (5 * columnsOf (now kernel) (grid .width) ≤ length (now scratch)) ⌝ }
+    requires { ⌜ (grid .width ≤ sideLimit) × (grid .height ≤ sideLimit)
+        × (5 * columnsOf (now kernel) (grid .width) ≤ length (now scratch)) ⌝ }
     requires { ⌜ Kernel (now kernel) ⌝ }
     requires { ⌜ total ≡ sumTo (tap (now kernel)) (length (now kernel)) ⌝ }
     requires { ⌜ (1 ≤ grid .height → Summable (onGrid grid a8 a16 a32 b8 b16 b32)) ⌝ }

@@ -38,7 +38,7 @@ pub fn calculate_frame_ssim<T: Sample>(
     calculate_frame_ssim_with(frame1, frame2, bit_depth, chroma_sampling, &mut Scratch::new())
 }
 
-/// The same in lent room.
+/// The same in lent scratch.
 pub fn calculate_frame_ssim_with<T: Sample>(
     frame1: &Frame<'_, T>,
     frame2: &Frame<'_, T>,
@@ -64,7 +64,7 @@ pub fn calculate_frame_msssim<T: Sample>(
     calculate_frame_msssim_with(frame1, frame2, bit_depth, chroma_sampling, &mut Scratch::new())
 }
 
-/// The same in lent room.
+/// The same in lent scratch.
 pub fn calculate_frame_msssim_with<T: Sample>(
     frame1: &Frame<'_, T>,
     frame2: &Frame<'_, T>,
