@@ -9,13 +9,6 @@ pub const MOST_TAPS: usize = 255;
 // What the taps of a lent kernel sum to.
 pub const LENT_TOTAL: u64 = 256;
 
-// A tap as the sums take it.
-pub fn tap64(t: u16) -> u64
-    ensures { λ r. ⌜ r ≡ t ⌝ }
-{
-    t as u64
-}
-
 // An odd count of taps, and not too many.
 fn odd_count(taps: &[u16]) -> bool
     ensures { λ r. ⌜ r ≡ oddCount (now (taps .entry)) ⌝ }
@@ -29,7 +22,7 @@ fn taps_suit(taps: &[u16], total: u64) -> bool
 {
     let mut ok = true;
     for k in 0..taps.len() {
-        ok = ok & (tap64(taps[k]) <= total);
+        ok = ok & ((taps[k] as u64) <= total);
     }
     ok
 }
@@ -41,7 +34,7 @@ fn sums_to(taps: &[u16], total: u64) -> bool
 {
     let mut sum: u64 = 0;
     for k in 0..taps.len() {
-        sum = sum + tap64(taps[k]);
+        sum = sum + (taps[k] as u64);
     }
     sum == total
 }

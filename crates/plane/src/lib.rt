@@ -8,10 +8,9 @@ ghost use lib.ListN.{length};
 ghost use Rattle.refusal.specs.First.{firstBroken};
 ghost use Rattle.plane.specs.Limits.{mostDepth};
 ghost use Rattle.plane.specs.Plane.{called, maxOf, at, allTo};
-ghost use Rattle.plane.specs.Inner.Lent.{samplesOf, lent, planes, Long};
+ghost use Rattle.plane.specs.Inner.Lent.{samplesOf, lent, planes, Long, lowerOf};
 ghost use Rattle.plane.specs.Tests.{depthSuits, sidesSuit, sidesReach, strideSuits, longEnough};
 ghost use Rattle.plane.specs.Tests.{noneAbove, rowSuits, samplesSuit, sizeTests, layoutTests, pairRefusal};
-ghost use Rattle.plane.specs.Inner.Lent.{lowerOf};
 
 // The largest width and the largest height.
 pub const SIDE_LIMIT: usize = 8192;

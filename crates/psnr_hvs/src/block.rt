@@ -1,5 +1,6 @@
 // One block of 8 by 8 of each plane: its samples are read, and its error is added.
 ghost use mathlib.Core.Path.{_≡_};
+ghost use Rattle.plane.specs.Plane.{sampleLimit};
 ghost use Rattle.plane.specs.Inner.Lent.{lent, planes};
 ghost use Rattle.plane.specs.Inner.Lawful.{Bounded, BoundedPair};
 ghost use Rattle.psnr_hvs.specs.Score.{blockAt, withBlocks};
@@ -8,7 +9,6 @@ use dct::BLOCK_SIDE;
 use dct::BLOCK_SIZE;
 use plane::Layout;
 use plane::Size;
-ghost use Rattle.plane.specs.Plane.{sampleLimit};
 
 // The block whose first sample is (x, y).
 fn loaded(

@@ -62,11 +62,11 @@ rowOf max2 g t n = foldTo (λ (s : Totals) (x : ℕ). withCentre max2 s (g x)) t
 abbrev pub noTotals : Totals
 noTotals = record { ssim = zeroD; cs = zeroD; ssimw = zeroD }
 
--- the first n rows of centres of twoD views
+-- the first n rows of centres of two views
 unfoldable pub totalsOf : Float → List ℕ → ℕ → ℕ → (ℕ → ℕ → ℕ) → (ℕ → ℕ → ℕ) → ℕ → Totals
 totalsOf max2 ker width height a b n =
     foldTo (λ (s : Totals) (y : ℕ). rowOf max2 (λ (x : ℕ). momentsAt ker width height a b x y) s width) noTotals n
 
--- of twoD planes
+-- of two planes
 abbrev pub totalsIn : Float → List ℕ → Planes → ℕ → Totals
 totalsIn max2 ker p n = totalsOf max2 ker (p .size .width) (p .size .height) (sampleAt (p .a)) (sampleAt (p .b)) n

@@ -21,21 +21,21 @@ abbrev μ-loop : tie.MeasureT-loop
 loop-holds : tie.Need-loop-holds Inv-loop μ-loop
 loop-holds c = (search needs, sym (sum-none _))
 
-mul-tap64 : tie.Need-mul-tap64 Inv-loop μ-loop
-mul-tap64 c = search needs
+mul-sum : tie.Need-mul-sum Inv-loop μ-loop
+mul-sum c = search needs
 
-shared-slice-read-tap64 : tie.Need-shared-slice-read-tap64 Inv-loop μ-loop
-shared-slice-read-tap64 c = search needs
+shared-slice-read-sum : tie.Need-shared-slice-read-sum Inv-loop μ-loop
+shared-slice-read-sum c = search needs
 
-tap64-requires : tie.Need-tap64-requires Inv-loop μ-loop
-tap64-requires c κs = search needs
+cast-sum : tie.Need-cast-sum Inv-loop μ-loop
+cast-sum c = omega (arith, c .shared-slice-known .given (c .before .before .loop .k))
 
 add-sum : tie.Need-add-sum Inv-loop μ-loop
 add-sum c =
-    let l = c .before .before .before .loop in
-    let taps = c .before .before .before .before .before .args .taps in
-    let small : (i : ℕ) → i < l .k → tap (now taps) i ≤ 65535 = λ i m. omega (arith, c .before .shared-slice-known2 .given i) in
-    omega (arith, c .before .shared-slice-known2 .given (l .k), sum-bound (tap (now taps)) 65535 (l .k) small, taps-room)
+    let l = c .before .before .loop in
+    let taps = c .before .before .before .args .taps in
+    let small : (i : ℕ) → i < l .k → tap (now taps) i ≤ 65535 = λ i m. omega (arith, c .shared-slice-known .given i) in
+    omega (arith, c .shared-slice-known .given (l .k), sum-bound (tap (now taps)) 65535 (l .k) small, taps-room)
 
 add-k : tie.Need-add-k Inv-loop μ-loop
 add-k c = search needs
@@ -44,12 +44,12 @@ loop-less : tie.Need-loop-less Inv-loop μ-loop
 loop-less c = search needs
 
 loop-again : tie.Need-loop-again Inv-loop μ-loop
-loop-again c = (search needs, rw (sum-more, ← (c .before .before .before .loop .inv .1), ← (c .tap64 .ensures)))
+loop-again c = (search needs, rw (sum-more, ← (c .before .before .loop .inv .1)))
 
 returns : tie.Need-returns Inv-loop μ-loop
 unfolding sumsTo
 returns c =
-    let e : c .before .loop .k ≡ length (now (c .before .before .before .args .taps)) = omega arith in
+    let e : c .before .loop .k ≡ length (now (c .before .before .args .taps)) = omega arith in
     rw (c .before .loop .inv .1, e)
 
 pub sums-to-spec : {M : Type 1} → statement M
@@ -59,9 +59,9 @@ sums-to-spec =
     Inv-loop
     μ-loop
     loop-holds
-    mul-tap64
-    shared-slice-read-tap64
-    tap64-requires
+    mul-sum
+    shared-slice-read-sum
+    cast-sum
     add-sum
     add-k
     loop-less

@@ -21,14 +21,14 @@ abbrev μ-loop : tie.MeasureT-loop
 loop-holds : tie.Need-loop-holds Inv-loop μ-loop
 loop-holds c = (search needs, sym (all-none _))
 
-mul-tap64 : tie.Need-mul-tap64 Inv-loop μ-loop
-mul-tap64 c = search needs
+mul-ok : tie.Need-mul-ok Inv-loop μ-loop
+mul-ok c = search needs
 
-shared-slice-read-tap64 : tie.Need-shared-slice-read-tap64 Inv-loop μ-loop
-shared-slice-read-tap64 c = search needs
+shared-slice-read-ok : tie.Need-shared-slice-read-ok Inv-loop μ-loop
+shared-slice-read-ok c = search needs
 
-tap64-requires : tie.Need-tap64-requires Inv-loop μ-loop
-tap64-requires c κs = search needs
+cast-ok : tie.Need-cast-ok Inv-loop μ-loop
+cast-ok c = omega (arith, c .shared-slice-known .given (c .before .before .loop .k))
 
 add-k : tie.Need-add-k Inv-loop μ-loop
 add-k c = search needs
@@ -37,12 +37,12 @@ loop-less : tie.Need-loop-less Inv-loop μ-loop
 loop-less c = search needs
 
 loop-again : tie.Need-loop-again Inv-loop μ-loop
-loop-again c = (search needs, rw (all-more, ← (c .before .before .before .loop .inv .1), ← (c .tap64 .ensures)))
+loop-again c = (search needs, rw (all-more, ← (c .before .before .loop .inv .1)))
 
 returns : tie.Need-returns Inv-loop μ-loop
 unfolding tapsSuit
 returns c =
-    let e : c .before .loop .k ≡ length (now (c .before .before .before .args .taps)) = omega arith in
+    let e : c .before .loop .k ≡ length (now (c .before .before .args .taps)) = omega arith in
     rw e at (c .before .loop .inv .1)
 
 pub taps-suit-spec : {M : Type 1} → statement M
@@ -52,9 +52,9 @@ taps-suit-spec =
     Inv-loop
     μ-loop
     loop-holds
-    mul-tap64
-    shared-slice-read-tap64
-    tap64-requires
+    mul-ok
+    shared-slice-read-ok
+    cast-ok
     add-k
     loop-less
     loop-again

@@ -25,18 +25,18 @@ past-requires c κs = omega arith
 loop-holds : tie.Need-loop-holds Inv-loop μ-loop
 loop-holds c = (omega arith, omega arith, sym (part-first _ _ _ _ _ (omega arith)))
 
-mul-tap64 : tie.Need-mul-tap64 Inv-loop μ-loop
-mul-tap64 c = search needs
+mul-sum : tie.Need-mul-sum Inv-loop μ-loop
+mul-sum c = search needs
 
-shared-slice-read-tap64 : tie.Need-shared-slice-read-tap64 Inv-loop μ-loop
-shared-slice-read-tap64 c = search needs
+shared-slice-read-sum : tie.Need-shared-slice-read-sum Inv-loop μ-loop
+shared-slice-read-sum c = search needs
 
-tap64-requires : tie.Need-tap64-requires Inv-loop μ-loop
-tap64-requires c κs = search needs
+cast-sum : tie.Need-cast-sum Inv-loop μ-loop
+cast-sum c = omega (arith, c .shared-slice-known2 .given (c .before .before .loop .k))
 
 add-sum : tie.Need-add-sum Inv-loop μ-loop
 add-sum c =
-    let at-loop = c .before .before .before in
+    let at-loop = c .before .before in
     let s = at-loop .before .before .before .before in
     let room = part-room _ _ (λ (i : ℕ). 1) _ 1 _ _ (s .pre .1) (λ k a m n. le-refl 1) (at-loop .loop .inv .2)
     (omega arith) (omega arith) (omega arith) in
@@ -52,7 +52,7 @@ loop-again : tie.Need-loop-again Inv-loop μ-loop
 loop-again c = (
   omega arith,
   omega arith,
-  rw (c .tap64 .ensures, c .before .before .before .loop .inv .2) (sym (part-more _ _ _ _ _ (omega arith) (omega arith) ∙ rw mul-one)),
+  rw (c .before .before .loop .inv .2) (sym (part-more _ _ _ _ _ (omega arith) (omega arith) ∙ rw mul-one)),
 )
 
 returns : tie.Need-returns Inv-loop μ-loop
@@ -67,9 +67,9 @@ taps-inside-spec =
     first-requires
     past-requires
     loop-holds
-    mul-tap64
-    shared-slice-read-tap64
-    tap64-requires
+    mul-sum
+    shared-slice-read-sum
+    cast-sum
     add-sum
     add-k
     loop-less
