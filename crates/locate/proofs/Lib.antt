@@ -1,2 +1,5 @@
 mod Places
 mod Sides
+mod Sums
+mod Rows
+mod Accept

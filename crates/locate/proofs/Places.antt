@@ -1,11 +1,13 @@
 -- The first place found stays the first. Assumes nothing.
 use mathlib.Core.Path.{_≡_, refl}
-use mathlib.Core.Bool.{Bool, true, false, _&&_}
+use mathlib.Core.Bool.{Bool, true, false, not, _&&_}
 use mathlib.Core.List.{List}
 use Prim.Native.Nat.{ℕ, zero, suc, _+_, _-_, _*_, _<_}
 use native.Mathlib.Nat.{add-suc, add-zero}
 use native.Mathlib.Numerals.{add-one}
 use native.Mathlib.Omega.{arith}
+use borrow.Author.Tests.{eq-eqb, ne-eqb}
+use lib.Dec.{eqb}
 use Rattle.plane.specs.Plane.{Planes}
 use Rattle.plane.proofs.All.{all-none, all-more, all-at}
 use Rattle.locate.specs.declared.Located.the-variants.{At, Alike}
@@ -53,6 +55,13 @@ module _ (f : ℕ → ℕ → Bool) where
       let p : x + 1 + (width - (x + 1)) ≡ width = omega arith in
       let q : y + 1 + (height - (y + 1)) ≡ height = omega arith in
       rw q at (down-after width y x (height - (y + 1)) e (rw p at (along-after y x (width - (x + 1)) g h)))
+
+-- ---- what one comparison says
+pub same : (m n : ℕ) → m ≡ n → not (eqb m n) ≡ false
+same m n e = rw (eq-eqb m n e)
+
+pub unlike : (m n : ℕ) → (m ≡ n → ⊥) → not (eqb m n) ≡ true
+unlike m n h = rw (ne-eqb m n h)
 
 -- ---- a row that is passed over
 module _ (a b : List ℕ) (i j : ℕ) where

@@ -140,14 +140,7 @@ pub fn tiles(a8: &[u8], a16: &[u16], b8: &[u8], b16: &[u16], layout: Layout, map
 {
     let across = tiles_along(layout.size.width);
     for j in 0..tiles_along(layout.size.height) {
-        tile_row(
-            a8,
-            a16,
-            b8,
-            b16,
-            layout,
-            j,
-            &mut map[j * across..j * across + across],
-        );
+        let from = j * across;
+        tile_row(a8, a16, b8, b16, layout, j, &mut map[from..from + across]);
     }
 }

@@ -1,16 +1,21 @@
+-- `locate::first::first8` meets its contract. The walks' invariants: nothing was found in the rows passed, nor in the columns passed of
+-- the present row. Assumes nothing.
 use mathlib.Core.Path.{_≡_, refl, sym, _∙_}
-use Prim.Native.Nat.{_+_, _-_, _*_, _≤_, _<_}
+use mathlib.Core.Logic.{⊎-elim}
+use Prim.Native.Nat.{_+_, _-_, _*_, _≤_}
 use native.Mathlib.Omega.{arith}
 use borrow.Author.Needs.{needs}
-use Rattle.locate.specs.declared.Located.the-variants.{At, Alike}
+use denote.Ref.{now}
+use lib.ListN.{length}
+use Rattle.refusal.proofs.Chain.{holds}
+use Rattle.plane.specs.Plane.{Planes}
+use Rattle.plane.proofs.Rows.{row-inside}
+use Rattle.locate.specs.declared.Located.the-variants.{Alike}
 use Rattle.locate.specs.Where.{differAt, alongTo, downTo}
 use Rattle.locate.specs.Inner.Walk.{laid}
-use Rattle.locate.proofs.Places.{along-none, along-more, down-none, down-more, found, row-alike}
+use Rattle.locate.proofs.Places.{along-none, along-more, down-none, down-more, found, same, unlike, row-alike}
 use Rattle.locate.proofs.first.first8.Statement.{statement}
 use Rattle.locate.proofs.first.first8.Tie as tie
-use Rattle.locate.proofs.first.first8.Reads as reads
-use Rattle.locate.proofs.first.first8.Lts as lts
-use Rattle.locate.proofs.first.alike8.Reads as alike8-reads
 
 abbrev Inv-loop : tie.InvT-loop
 Inv-loop a b layout width place₀ y from-a from-b x₀ y-end place x =
@@ -26,73 +31,93 @@ Inv-walk a b layout width place₀ y₀ y-end place y =
 abbrev μ-walk : tie.MeasureT-walk
 μ-walk a b layout width place₀ y₀ y-end place y = layout .size .height - y
 
--- src/first.rt:43:5
+-- the function's start, from where a row is begun; and the two planes
+abbrev start : tie.In-walk Inv-loop μ-loop Inv-walk μ-walk → tie.Start Inv-loop μ-loop Inv-walk μ-walk
+start r = r .before .before .before .before
+
+abbrev both : tie.Start Inv-loop μ-loop Inv-walk μ-walk → Planes
+both s = laid (s .args .layout) (now (s .args .a)) (now (s .args .b))
+
+-- where a row is begun, from where its columns are walked
+abbrev row : tie.At-loop Inv-loop μ-loop Inv-walk μ-walk → tie.In-walk Inv-loop μ-loop Inv-walk μ-walk
+row l = l .before .before .before .before .before
+
+-- the row ends inside each plane
+first-row : (r : tie.In-walk Inv-loop μ-loop Inv-walk μ-walk) → let p = both (start r) in
+    r .before .walk .y * p .a .stride + p .size .width ≤ length (p .a .samples)
+first-row r = row-inside _ _ (start r .pre .bounded .first .long) (search needs)
+
+second-row : (r : tie.In-walk Inv-loop μ-loop Inv-walk μ-walk) → let p = both (start r) in
+    r .before .walk .y * p .b .stride + p .size .width ≤ length (p .b .samples)
+second-row r = row-inside _ _ (start r .pre .bounded .second .long) (search needs)
+
 walk-holds : tie.Need-walk-holds Inv-loop μ-loop Inv-walk μ-walk
-walk-holds c = ?
+walk-holds c = (omega arith, refl, down-none _ _)
 
--- src/first.rt:44:22
 mul-from-a : tie.Need-mul-from-a Inv-loop μ-loop Inv-walk μ-walk
-mul-from-a c = ?
+mul-from-a c = omega (arith, first-row (c .before))
 
--- src/first.rt:45:22
 mul-from-b : tie.Need-mul-from-b Inv-loop μ-loop Inv-walk μ-walk
-mul-from-b c = ?
+mul-from-b c = omega (arith, second-row (c .before .before))
 
--- src/first.rt:46:13
 alike8-requires : tie.Need-alike8-requires Inv-loop μ-loop Inv-walk μ-walk
-alike8-requires c κs = ?
+alike8-requires c κs = (first-row (c .before .before), second-row (c .before .before))
 
--- src/first.rt:47:13
 loop-holds : tie.Need-loop-holds Inv-loop μ-loop Inv-walk μ-walk
-loop-holds c = ?
+loop-holds c = (omega arith, c .before .before .before .before .before .walk .inv .1, along-none _ _)
 
--- src/first.rt:48:22
 add-if2 : tie.Need-add-if2 Inv-loop μ-loop Inv-walk μ-walk
-add-if2 c = ?
+add-if2 c = omega (arith, first-row (row (c .before)))
 
--- src/first.rt:48:20
 shared-slice-read-if2 : tie.Need-shared-slice-read-if2 Inv-loop μ-loop Inv-walk μ-walk
-shared-slice-read-if2 c = ?
+shared-slice-read-if2 c = omega (arith, first-row (row (c .before .before)))
 
--- src/first.rt:48:39
 add-if2-2 : tie.Need-add-if2-2 Inv-loop μ-loop Inv-walk μ-walk
-add-if2-2 c = ?
+add-if2-2 c = omega (arith, second-row (row (c .before .before)))
 
--- src/first.rt:48:37
 shared-slice-read-if2-2 : tie.Need-shared-slice-read-if2-2 Inv-loop μ-loop Inv-walk μ-walk
-shared-slice-read-if2-2 c = ?
+shared-slice-read-if2-2 c = omega (arith, second-row (row (c .before .before .before)))
 
--- src/first.rt:47:17
 add-x : tie.Need-add-x Inv-loop μ-loop Inv-walk μ-walk
-add-x c = ?
+add-x c = search needs
 
--- src/first.rt:47:13
 loop-less : tie.Need-loop-less Inv-loop μ-loop Inv-walk μ-walk
-loop-less c = ?
+loop-less c = omega arith
 
--- src/first.rt:47:13
 loop-again : tie.Need-loop-again Inv-loop μ-loop Inv-walk μ-walk
-loop-again c = ?
+loop-again c =
+    let l = c .before .before .before .before in
+    (search needs, l .loop .inv .1, along-more _ _ _ (l .loop .inv .2) (same _ _ (c .if2 .left)))
 
--- src/first.rt:43:16
 add-y : tie.Need-add-y Inv-loop μ-loop Inv-walk μ-walk
-add-y c = ?
+add-y c = search needs
 
--- src/first.rt:43:5
 walk-less : tie.Need-walk-less Inv-loop μ-loop Inv-walk μ-walk
-walk-less c = ?
+walk-less c = omega arith
 
--- src/first.rt:43:5
+-- the row was walked to its end, or passed over
 walk-again : tie.Need-walk-again Inv-loop μ-loop Inv-walk μ-walk
-walk-again c = ?
+walk-again c =
+    let r = c .before .before .before .before in
+    let w = r .before .walk in
+    let p = both (start r) in
+    ⊎-elim
+    (λ t. let e : t .1 .x ≡ p .size .width = omega arith in
+    (search needs, t .3 ∙ t .1 .inv .1, down-more _ _ _ (w .inv .2) (rw e at (t .1 .inv .2))))
+    (λ t. (search needs, t .1 ∙ w .inv .1, down-more _ _ _ (w .inv .2) (row-alike p _ _ (holds (c .before .alike8 .ensures) (t .0 .left)))))
+    (c .if1 .came)
 
--- src/first.rt:37:1
 returns : tie.Need-returns Inv-loop μ-loop Inv-walk μ-walk
-returns c = ?
+returns c =
+    let w = c .before .walk in
+    let s = c .before .before .before .before in
+    let e : w .y ≡ s .args .layout .size .height = omega arith in
+    w .inv .1 ∙ sym (rw e at (w .inv .2))
 
--- src/first.rt:37:1
 returns-2 : tie.Need-returns-2 Inv-loop μ-loop Inv-walk μ-walk
-returns-2 c = ?
+returns-2 c =
+    let l = c .before .before .before .before in
+    sym (found _ _ _ _ _ (row l .before .walk .inv .2) (l .loop .inv .2) (unlike _ _ (c .if2 .taken)) (search needs) (search needs))
 
 pub first8-spec : {M : Type 1} → statement M
 first8-spec =

@@ -1,0 +1,42 @@
+-- The map, row of tiles by row of tiles. Assumes nothing.
+use mathlib.Core.Path.{_≡_, sym, ap, _∙_}
+use mathlib.Core.List.{List, _++_, append-assoc}
+use Prim.Native.Nat.{ℕ, zero, suc, _+_, _-_, _*_, _≤_}
+use native.Mathlib.Nat.{zero-mul, add-mul, one-mul, suc-mul}
+use native.Mathlib.Numerals.{add-one}
+use native.Mathlib.Omega.{arith}
+use borrow.Rule.Slice.PartMut.{putMid, postOf}
+use lib.ListN.{length, take, drop, length-append, length-take, length-drop}
+use lib.Seq.{take-at, length-take-le}
+use Rattle.number.specs.Steps.{listTo}
+use Rattle.number.proofs.Lists.{list-length}
+use Rattle.plane.specs.Plane.{Planes}
+use Rattle.locate.specs.Map.{acrossOf, tileError, mapTo}
+
+-- so many rows of tiles, and one more
+pub rows-next : (j n : ℕ) → (j + 1) * n ≡ j * n + n
+rows-next j n = rw (add-mul j 1 n, one-mul n)
+
+-- the places of a row of tiles are as many as its tiles
+pub part-length : (from n : ℕ) (map : List ℕ) → from + n ≤ length map → length (take (from + n - from) (drop from map)) ≡ n
+part-length from n map room = simp (length-take, length-drop) (omega arith)
+
+module _ (p : Planes) where
+  pub map-length : (n : ℕ) → length (mapTo p n) ≡ n * acrossOf p
+  unfolding mapTo
+  map-length zero = sym (zero-mul (acrossOf p))
+  map-length (suc n) = rw (length-append, map-length n, list-length, suc-mul)
+
+  pub map-none : (n : ℕ) (map : List ℕ) → take (0 * n) map ≡ mapTo p 0
+  unfolding mapTo
+  map-none n map = rw (zero-mul n)
+
+  -- a row of tiles is put behind those that stand there already
+  pub map-more : (j n : ℕ) (map row : List ℕ) → n ≡ acrossOf p → j * n + n ≤ length map → take (j * n) map ≡ mapTo p j
+      → row ≡ listTo (tileError p j) (acrossOf p) → take ((j + 1) * n) (putMid (j * n) (j * n + n - j * n) map row) ≡ mapTo p (j + 1)
+  unfolding mapTo
+  map-more j n map row e room held said =
+      let start : length (take (j * n) map) ≡ j * n = length-take-le (j * n) map (omega arith) in
+      let count : length row ≡ n = ap length said ∙ list-length (tileError p j) (acrossOf p) ∙ sym e in
+      let both : length (take (j * n) map ++ row) ≡ j * n + n = rw (length-append, start, count) in
+      rw (rows-next j n, ← (append-assoc (take (j * n) map) row (postOf (j * n) (j * n + n - j * n) map)), take-at _ (postOf (j * n) (j * n + n - j * n) map) _ both, held, said, add-one)
