@@ -1,11 +1,10 @@
 -- `locate::map_answer` meets its contract. Assumes nothing.
-use mathlib.Core.Path.{_≡_, sym, ap, _∙_}
-use mathlib.Core.List.{List, _++_}
-use Prim.Native.Nat.{ℕ, _≤_}
+use mathlib.Core.Path.{_≡_, sym, _∙_}
+use Prim.Native.Nat.{_≤_}
 use native.Mathlib.Omega.{arith}
 use borrow.Author.Needs.{needs}
 use denote.Ref.{now}
-use lib.ListN.{length, take, drop}
+use lib.ListN.{length, take}
 use lib.Seq.{length-take-le}
 use Rattle.refusal.proofs.Chain.{refused}
 use Rattle.plane.specs.Plane.{Planes}
@@ -13,7 +12,7 @@ use Rattle.plane.specs.Inner.Lent.{planes}
 use Rattle.plane.specs.Inner.Lawful.{AcceptedPair}
 use Rattle.psnr.proofs.Squares.{walkable}
 use Rattle.locate.specs.Map.{mapPlaces, mappedOf, mapAfter}
-use Rattle.locate.proofs.Accept.{map-taken}
+use Rattle.locate.proofs.Accept.{map-taken, mapped-is, after-is}
 use Rattle.locate.proofs.map_answer.Statement.{statement}
 use Rattle.locate.proofs.map_answer.Tie as tie
 
@@ -54,17 +53,28 @@ slice-aggregate-tiles c = sym (long (c .before))
 tiles-requires : tie.Need-tiles-requires
 tiles-requires c κs = (walkable (taken (c .before .before) .0), long (c .before) ∙ c .before .places .ensures)
 
+-- the same, from where the part is back
+abbrev past : tie.After-slice-known2 → tie.Else1
+past c = c .before .before .before .before .before
+
 tiles-along-requires : tie.Need-tiles-along-requires
-tiles-along-requires c κs = ?
+tiles-along-requires c κs = taken (past c) .0 .sized .width-most
 
 tiles-along-requires-2 : tie.Need-tiles-along-requires-2
-tiles-along-requires-2 c κs = ?
+tiles-along-requires-2 c κs = taken (past (c .before)) .0 .sized .height-most
 
 same-length : tie.Need-same-length
-same-length c = ?
+same-length c = search needs
 
 returns-2 : tie.Need-returns-2
-returns-2 c = ?
+returns-2 c =
+    let back = c .before .before in
+    let n = past back in
+    let e = n .before .map-refusal .ensures in
+    let z = n .if1 .left in (
+      mapped-is _ _ e z (c .before .tiles-along .ensures) (c .tiles-along2 .ensures),
+      after-is _ _ e z (back .before .before .before .before .places .ensures) (back .before .before .tiles .ensures),
+    )
 
 pub map-answer-spec : {M : Type 1} → statement M
 map-answer-spec =

@@ -23,19 +23,27 @@ module _ (layout : Layout) (a8 a16 b8 b16 : List ℕ) where
   bytes : layout .size .wide ≡ false → planesIn layout a8 a16 b8 b16 ≡ laid layout a8 b8
   bytes e = ap read e
 
+-- the function's start, from where all slices are known
+abbrev start : tie.After-shared-slice-known4 → tie.Start
+start c = c .before .before .before .before
+
 first16-requires : tie.Need-first16-requires
 first16-requires c κs =
-    subst (λ (p : Planes). Walkable p) (words _ _ _ _ _ (c .if1 .taken)) (c .before .before .before .before .before .pre)
+    subst (λ (p : Planes). Walkable p) (words _ _ _ _ _ (c .if1 .taken)) (start (c .before) .pre)
 
 first8-requires : tie.Need-first8-requires
 first8-requires c κs =
-    subst (λ (p : Planes). Walkable p) (bytes _ _ _ _ _ (c .if1 .left)) (c .before .before .before .before .before .pre)
+    subst (λ (p : Planes). Walkable p) (bytes _ _ _ _ _ (c .if1 .left)) (start (c .before) .pre)
 
 returns : tie.Need-returns
-returns c = c .first16 .ensures ∙ ap firstDifference (sym (words _ _ _ _ _ (c .before .if1 .taken)))
+returns c =
+    let s = start (c .before .before) in
+    c .first16 .ensures ∙ ap firstDifference (sym (words (s .args .layout) _ _ _ _ (c .before .if1 .taken)))
 
 returns-2 : tie.Need-returns-2
-returns-2 c = c .first8 .ensures ∙ ap firstDifference (sym (bytes _ _ _ _ _ (c .before .if1 .left)))
+returns-2 c =
+    let s = start (c .before .before) in
+    c .first8 .ensures ∙ ap firstDifference (sym (bytes (s .args .layout) _ _ _ _ (c .before .if1 .left)))
 
 pub first-spec : {M : Type 1} → statement M
 first-spec = tie.close (tie.spec first16-requires first8-requires returns returns-2)
