@@ -5,6 +5,7 @@ use lib.Dec.{leb}
 use Rattle.plane.specs.Limits.{sideLimit}
 use Rattle.kernel.specs.Kernel.{mostTaps}
 use Rattle.ssim.specs.Scratch as ssim
+use Rattle.locate.specs.Map.{tilesOf}
 use Rattle.msssim.specs.Scratch.{placesNeeded, samplesNeeded}
 use Rattle.msssim.specs.Answer.{leastSide}
 
@@ -22,3 +23,7 @@ msssimPlaces width = cond (within leastSide sideLimit width) (placesNeeded width
 
 unfoldable pub msssimSamples : ℕ → ℕ → ℕ
 msssimSamples width height = cond (within leastSide sideLimit width && within leastSide sideLimit height) (samplesNeeded width height) 0
+
+-- the error map: a 64-bit place for each tile
+unfoldable pub errorMapPlaces : ℕ → ℕ → ℕ
+errorMapPlaces width height = cond (within 1 sideLimit width && within 1 sideLimit height) (tilesOf width height) 0

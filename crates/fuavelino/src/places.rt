@@ -1,7 +1,7 @@
 // How many places the scores need, for callers who lend them. Each call answers for any numbers: 0 says that no plane of such a side is
 // taken, so that nothing need be lent to be told so.
 ghost use mathlib.Core.Path.{_≡_};
-ghost use Rattle.fuavelino.specs.Places.{within, ssimPlaces, msssimPlaces, msssimSamples};
+ghost use Rattle.fuavelino.specs.Places.{within, ssimPlaces, msssimPlaces, msssimSamples, errorMapPlaces};
 
 fn is_within(least: usize, most: usize, n: usize) -> bool
     ensures { λ r. ⌜ r ≡ within least most n ⌝ }
@@ -42,6 +42,18 @@ pub extern "C" fn fuavelino_msssim_samples(width: usize, height: usize) -> usize
         & is_within(msssim::LEAST_SIDE, plane::SIDE_LIMIT, height)
     {
         msssim::samples_needed(width, height)
+    } else {
+        0
+    }
+}
+
+// The 64-bit places of an error map; 0 where a side is not 1 to 8,192.
+#[no_mangle]
+pub extern "C" fn fuavelino_error_map_places(width: usize, height: usize) -> usize
+    ensures { λ r. ⌜ r ≡ errorMapPlaces width height ⌝ }
+{
+    if is_within(1, plane::SIDE_LIMIT, width) & is_within(1, plane::SIDE_LIMIT, height) {
+        locate::tiles::places(width, height)
     } else {
         0
     }

@@ -102,7 +102,14 @@ fn map_refusal(a8: &[u8], a16: &[u16], b8: &[u8], b16: &[u16], layout: Layout, p
 }
 
 // The map of two planes of either width.
-fn map_answer(a8: &[u8], a16: &[u16], b8: &[u8], b16: &[u16], layout: Layout, map: &mut [u64]) -> Mapped
+fn map_answer(
+    a8: &[u8],
+    a16: &[u16],
+    b8: &[u8],
+    b16: &[u16],
+    layout: Layout,
+    map: &mut [u64],
+) -> Mapped
     ensures { λ r. ⌜ r ≡ mappedOf (planes layout (a8 .entry) (a16 .entry) (b8 .entry) (b16 .entry)) (now (map .entry)) ⌝ }
     ensures { λ _. ⌜ now (map .exit) ≡ mapAfter (planes layout (a8 .entry) (a16 .entry) (b8 .entry) (b16 .entry)) (now (map .entry)) ⌝ }
 {

@@ -115,13 +115,30 @@ fn tile(a8: &[u8], a16: &[u16], b8: &[u8], b16: &[u16], layout: Layout, j: usize
     let columns = tile_length(layout.size.width, i);
     let mut sum: u64 = 0;
     for k in 0..tile_length(layout.size.height, j) {
-        sum += piece(a8, a16, b8, b16, layout, j * TILE_SIDE + k, i * TILE_SIDE, columns);
+        sum += piece(
+            a8,
+            a16,
+            b8,
+            b16,
+            layout,
+            j * TILE_SIDE + k,
+            i * TILE_SIDE,
+            columns,
+        );
     }
     sum
 }
 
 // Row j of tiles, into as many places.
-fn tile_row(a8: &[u8], a16: &[u16], b8: &[u8], b16: &[u16], layout: Layout, j: usize, row: &mut [u64])
+fn tile_row(
+    a8: &[u8],
+    a16: &[u16],
+    b8: &[u8],
+    b16: &[u16],
+    layout: Layout,
+    j: usize,
+    row: &mut [u64],
+)
     requires { ⌜ Walkable (planes layout a8 a16 b8 b16) ⌝ }
     requires { ⌜ (j < tilesAlong (layout .size .height)) × (length (now row) ≡ tilesAlong (layout .size .width)) ⌝ }
     ensures { λ _. ⌜ now (row .exit) ≡ listTo (tileError (planes layout (a8 .entry) (a16 .entry) (b8 .entry) (b16 .entry)) j)
