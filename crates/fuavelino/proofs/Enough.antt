@@ -18,9 +18,10 @@ use Rattle.kernel.specs.Kernel.{mostTaps, lentTotal, lawful}
 use Rattle.ssim.specs.Scratch.{scratchPlaces}
 use Rattle.ssim.specs.Answer.{lentTests, ssimRefusal}
 use Rattle.ssim.proofs.Accept.{taps-count}
+use Rattle.locate.specs.Map.{mapPlaces, mapRefusal}
 use Rattle.msssim.specs.Scratch.{Scratch, placesNeeded, samplesNeeded, scratchSuits}
 use Rattle.msssim.specs.Answer.{leastSide, msssimRefusal}
-use Rattle.fuavelino.specs.Places.{within, ssimPlaces, msssimPlaces, msssimSamples}
+use Rattle.fuavelino.specs.Places.{within, ssimPlaces, msssimPlaces, msssimSamples, errorMapPlaces}
 use Rattle.fuavelino.proofs.Counts.{given}
 
 -- ---- tests that have other numbers than the answer passed
@@ -101,3 +102,16 @@ msssim-enough p s enough enough-a enough-b h =
     let served-b : samplesNeeded width height ≤ length (s .b32) = rw same enough-b in
     let all : scratchSuits (p .size) s ≡ true = both-true (le-leb _ _ served) (both-true (le-leb _ _ served-a) (le-leb _ _ served-b)) in
     true≢false (sym all ∙ last-fails _ (planes .1))
+
+pub error-map-enough : (p : Planes) (places : ℕ) → errorMapPlaces (p .size .width) (p .size .height) ≤ places → mapRefusal p places ≡ scratchNo → ⊥
+unfolding errorMapPlaces
+error-map-enough p places enough h =
+    let width : ℕ = p .size .width in
+    let height : ℕ = p .size .height in
+    let planes = others scratchNo (pairTests p 0) ((scratchNo, leb (mapPlaces p) places) ∷ []) (plane-others p 0) h in
+    let sized = accepted (p .size) (both p) 0 (planes .0) .sized in
+    let wide = is-within 1 sideLimit width (sized .width-least) (sized .width-most) in
+    let high = is-within 1 sideLimit height (sized .height-least) (sized .height-most) in
+    let same : mapPlaces p ≡ errorMapPlaces width height = given _ _ (both-true wide high) in
+    let served : mapPlaces p ≤ places = rw same enough in
+    true≢false (sym (le-leb _ _ served) ∙ last-fails _ (planes .1))

@@ -1,30 +1,33 @@
+-- `fuavelino::places::fuavelino_error_map_places` meets its contract: what both tests say, and `locate::tiles::places` where they pass. Assumes nothing.
+use mathlib.Core.Path.{_∙_}
 use borrow.Author.Needs.{needs}
+use Rattle.plane.specs.Limits.{sideLimit}
+use Rattle.fuavelino.specs.Places.{errorMapPlaces}
+use Rattle.fuavelino.proofs.Counts.{both-say, tested, given, not-given}
 use Rattle.fuavelino.proofs.places.fuavelino_error_map_places.Statement.{statement}
 use Rattle.fuavelino.proofs.places.fuavelino_error_map_places.Tie as tie
-use Rattle.fuavelino.proofs.places.fuavelino_error_map_places.Reads as reads
-use Rattle.fuavelino.proofs.places.fuavelino_error_map_places.Lts as lts
-use Rattle.fuavelino.proofs.places.is_within.Reads as is-within-reads
-use Rattle.locate.proofs.tiles.places.Reads as places-reads
 
--- src/places.rt:55:8
 is-within-requires : tie.Need-is-within-requires
 is-within-requires c κs = search needs
 
--- src/places.rt:55:49
 is-within-requires-2 : tie.Need-is-within-requires-2
 is-within-requires-2 c κs = search needs
 
--- src/places.rt:56:9
 places-requires : tie.Need-places-requires
-places-requires c κs = ?
+unfolding sideLimit
+places-requires c κs =
+    let s = both-say _ _ _ _ _ _ (tested (c .before .before .is-within .ensures) (c .before .is-within2 .ensures) (c .if1 .taken)) in
+    (s .0 .1, s .1 .1)
 
--- src/places.rt:51:1
 returns : tie.Need-returns
-returns c = ?
+unfolding errorMapPlaces sideLimit
+returns c =
+    c .places .ensures
+    ∙ given _ _ (tested (c .before .before .before .is-within .ensures) (c .before .before .is-within2 .ensures) (c .before .if1 .taken))
 
--- src/places.rt:51:1
 returns-2 : tie.Need-returns-2
-returns-2 c = ?
+unfolding errorMapPlaces sideLimit
+returns-2 c = not-given _ _ (tested (c .before .before .is-within .ensures) (c .before .is-within2 .ensures) (c .if1 .left))
 
 pub fuavelino-error-map-places-spec : {M : Type 1} → statement M
 fuavelino-error-map-places-spec =
