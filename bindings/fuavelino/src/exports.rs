@@ -6,6 +6,7 @@
 
 #![allow(unsafe_code)]
 
+use crate::locate::{Place, Tiles};
 use crate::plane::{Pair, Plane, PlaneKind, PsnrMetrics, Shape};
 
 extern "C" {
@@ -13,6 +14,7 @@ extern "C" {
     fn fuavelino_ssim_places(width: usize, taps: usize) -> usize;
     fn fuavelino_msssim_places(width: usize) -> usize;
     fn fuavelino_msssim_samples(width: usize, height: usize) -> usize;
+    fn fuavelino_error_map_places(width: usize, height: usize) -> usize;
     fn fuavelino_root(x: f64, out: &mut f64) -> u8;
     fn fuavelino_series(
         records: *const PsnrMetrics,
@@ -49,6 +51,12 @@ pub fn msssim_places(width: usize) -> usize {
 pub fn msssim_samples(width: usize, height: usize) -> usize {
     // SAFETY: it takes any numbers, and no place.
     unsafe { fuavelino_msssim_samples(width, height) }
+}
+
+#[inline]
+pub fn error_map_places(width: usize, height: usize) -> usize {
+    // SAFETY: it takes any numbers, and no place.
+    unsafe { fuavelino_error_map_places(width, height) }
 }
 
 #[inline]
@@ -94,6 +102,16 @@ pub trait Width: Copy {
 
     fn squared_error(a: Plane<'_, Self>, b: Plane<'_, Self>, shape: Shape, out: &mut PsnrMetrics) -> u8;
 
+    fn first_difference(
+        a: Plane<'_, Self>,
+        b: Plane<'_, Self>,
+        shape: Shape,
+        differs: &mut u8,
+        place: &mut Place,
+    ) -> u8;
+
+    fn error_map(a: Plane<'_, Self>, b: Plane<'_, Self>, shape: Shape, map: &mut [u64], tiles: &mut Tiles) -> u8;
+
     fn ssim(
         a: Plane<'_, Self>,
         b: Plane<'_, Self>,
@@ -118,9 +136,14 @@ pub trait Width: Copy {
 
 /// Declares the exports of one width by their names, and has the width call them.
 macro_rules! width {
-    ($sample:ty, $check:ident, $squared_error:ident, $ssim:ident, $msssim:ident, $hvs_y:ident, $hvs_u:ident, $hvs_v:ident) => {
+    (
+        $sample:ty, $check:ident, $squared_error:ident, $first_difference:ident, $error_map:ident, $ssim:ident, $msssim:ident,
+        $hvs_y:ident, $hvs_u:ident, $hvs_v:ident
+    ) => {
         declare!($sample, $check: least: usize);
         declare!($sample, $squared_error: sq_err: &mut f64, n: &mut u64, sample_max: &mut u32);
+        declare!($sample, $first_difference: differs: &mut u8, row: &mut usize, column: &mut usize);
+        declare!($sample, $error_map: map: *mut u64, places: usize, across: &mut usize, down: &mut usize);
         declare!(
             $sample, $ssim: kernel: *const u16, taps: usize, scratch: *mut i64, places: usize, ssim: &mut f64, cs: &mut f64
         );
@@ -142,6 +165,31 @@ macro_rules! width {
             fn squared_error(a: Plane<'_, Self>, b: Plane<'_, Self>, shape: Shape, out: &mut PsnrMetrics) -> u8 {
                 let PsnrMetrics { sq_err, n_pixels, sample_max } = out;
                 lend!($squared_error, a, b, shape, sq_err, n_pixels, sample_max)
+            }
+
+            #[inline]
+            fn first_difference(
+                a: Plane<'_, Self>,
+                b: Plane<'_, Self>,
+                shape: Shape,
+                differs: &mut u8,
+                place: &mut Place,
+            ) -> u8 {
+                let Place { row, column } = place;
+                lend!($first_difference, a, b, shape, differs, row, column)
+            }
+
+            #[inline]
+            fn error_map(
+                a: Plane<'_, Self>,
+                b: Plane<'_, Self>,
+                shape: Shape,
+                map: &mut [u64],
+                tiles: &mut Tiles,
+            ) -> u8 {
+                let Tiles { across, down } = tiles;
+                let places = map.len();
+                lend!($error_map, a, b, shape, map.as_mut_ptr(), places, across, down)
             }
 
             #[inline]
@@ -221,6 +269,8 @@ width!(
     u8,
     fuavelino_check8,
     fuavelino_squared_error8,
+    fuavelino_first_difference8,
+    fuavelino_error_map8,
     fuavelino_ssim8,
     fuavelino_msssim8,
     fuavelino_psnr_hvs_y8,
@@ -231,6 +281,8 @@ width!(
     u16,
     fuavelino_check16,
     fuavelino_squared_error16,
+    fuavelino_first_difference16,
+    fuavelino_error_map16,
     fuavelino_ssim16,
     fuavelino_msssim16,
     fuavelino_psnr_hvs_y16,

@@ -33,6 +33,7 @@
 
 mod exports;
 mod kernel;
+mod locate;
 pub mod no_alloc;
 mod plane;
 mod refusal;
@@ -41,6 +42,7 @@ mod scratch;
 pub mod video;
 
 pub use kernel::{build_gaussian_kernel, Kernel};
+pub use locate::{error_map, first_difference, ErrorMap, Place, Tile, Tiles, TILE_SIDE};
 pub use plane::{Pair, Plane, PlaneKind, PsnrMetrics, Sample, Shape};
 pub use refusal::Refusal;
 pub use scores::{

@@ -20,6 +20,7 @@
 //! ```
 
 use crate::exports;
+use crate::locate::{Place, Tiles};
 use crate::plane::{Pair, Plane, PlaneKind, PsnrMetrics, Sample, Shape};
 use crate::refusal::{outcome, Refusal};
 
@@ -42,6 +43,37 @@ pub fn squared_error<T: Sample>(
     out: &mut PsnrMetrics,
 ) -> Result<(), Refusal> {
     outcome(T::squared_error(a, b, shape, out))
+}
+
+/// The first sample, row by row, at which two planes differ: `differs` becomes 1 and `place` says where, or it becomes 0 and `place` stays as
+/// it was. Refuses 1 2 4 5 6.
+pub fn first_difference<T: Sample>(
+    a: Plane<'_, T>,
+    b: Plane<'_, T>,
+    shape: Shape,
+    differs: &mut u8,
+    place: &mut Place,
+) -> Result<(), Refusal> {
+    outcome(T::first_difference(a, b, shape, differs, place))
+}
+
+/// The places that the map of [`error_map`] needs, one for each tile. 0 where a side is not 1 to 8,192: such a call is refused by a lower
+/// number than 8, whatever is lent.
+#[inline]
+pub fn error_map_places(width: usize, height: usize) -> usize {
+    exports::error_map_places(width, height)
+}
+
+/// The squared error of each tile, row by row, in the first places of `map`; the rest stay as they were. It needs [`error_map_places`].
+/// Refuses 1 2 4 5 6 8.
+pub fn error_map<T: Sample>(
+    a: Plane<'_, T>,
+    b: Plane<'_, T>,
+    shape: Shape,
+    map: &mut [u64],
+    tiles: &mut Tiles,
+) -> Result<(), Refusal> {
+    outcome(T::error_map(a, b, shape, map, tiles))
 }
 
 /// The total of a run of records. Refuses 10 11.

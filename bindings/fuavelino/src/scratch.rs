@@ -30,7 +30,8 @@ impl Scratch {
     }
 }
 
-fn lengthen<T: Copy + Default>(list: &mut Vec<T>, len: usize) {
+/// Grows a list to this many places, where there is memory for them.
+pub(crate) fn lengthen<T: Copy + Default>(list: &mut Vec<T>, len: usize) {
     let more = len.saturating_sub(list.len());
     if list.try_reserve_exact(more).is_ok() {
         list.resize(list.len() + more, T::default());

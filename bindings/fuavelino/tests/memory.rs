@@ -51,13 +51,15 @@ fn wild_shapes_ask_for_nothing() {
                     refused += usize::from(ssim(plane, plane, shape, &kernel, &mut scratch).is_err());
                     refused += usize::from(msssim(plane, plane, shape, &mut scratch).is_err());
                     refused += usize::from(squared_error(plane, plane, shape).is_err());
+                    refused += usize::from(first_difference(plane, plane, shape).is_err());
+                    refused += usize::from(error_map(plane, plane, shape).is_err());
                     refused += usize::from(psnr_hvs(plane, plane, shape, PlaneKind::U).is_err());
                 }
             }
         }
     });
     assert_eq!(bytes, 0);
-    assert_eq!(refused, 4 * (2 * 9 * 9 * 9 - 9));
+    assert_eq!(refused, 6 * (2 * 9 * 9 * 9 - 9));
 }
 
 #[test]
@@ -72,6 +74,16 @@ fn too_many_taps_ask_for_nothing() {
         });
         assert_eq!(bytes, 0);
     }
+}
+
+/// A map asks for its own places and nothing else, the first difference for nothing.
+#[test]
+fn a_map_asks_for_its_places() {
+    let samples = [7u8; 17 * 9];
+    let plane = Plane { data: &samples[..], stride: 17 };
+    let shape = Shape { width: 17, height: 9, bit_depth: 8 };
+    assert_eq!(asked(|| assert_eq!(first_difference(plane, plane, shape), Ok(None))), 0);
+    assert_eq!(asked(|| assert_eq!(error_map(plane, plane, shape).map(|map| map.total()), Ok(0))), 3 * 2 * 8);
 }
 
 #[test]

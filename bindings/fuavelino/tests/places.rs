@@ -27,6 +27,16 @@ fn of_msssim() {
     }
 }
 
+#[test]
+fn of_the_error_map() {
+    let taken = |side: usize| (1..=8_192).contains(&side);
+    for (width, height) in WILD.iter().flat_map(|w| WILD.iter().map(move |h| (*w, *h))) {
+        let tiles = |side: usize| side / 8 + usize::from(side % 8 > 0);
+        let needed = if taken(width) && taken(height) { tiles(width) * tiles(height) } else { 0 };
+        assert_eq!(no_alloc::error_map_places(width, height), needed, "{} by {}", width, height);
+    }
+}
+
 /// With so many places the score is given, and with one less it is refused.
 #[test]
 fn no_more_and_no_fewer() {

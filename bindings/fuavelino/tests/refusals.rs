@@ -10,13 +10,15 @@ fn plane<T>(data: &[T], stride: usize) -> Plane<'_, T> {
     Plane { data, stride }
 }
 
-/// What each score that takes two planes says: squared error, SSIM, MS-SSIM, PSNR-HVS of each kind, and the check itself.
+/// What each call that takes two planes says: squared error, first difference, error map, SSIM, MS-SSIM, PSNR-HVS of each kind, and the check itself.
 fn all<T: Sample>(a: Plane<'_, T>, b: Plane<'_, T>, shape: Shape) -> Vec<Result<(), Refusal>> {
     let mut scratch = Scratch::new();
     let kernel = Kernel::for_plane(shape.width, shape.height);
     let hvs = |kind| psnr_hvs(a, b, shape, kind).map(|_| ());
     vec![
         squared_error(a, b, shape).map(|_| ()),
+        first_difference(a, b, shape).map(|_| ()),
+        error_map(a, b, shape).map(|_| ()),
         ssim(a, b, shape, &kernel, &mut scratch).map(|_| ()),
         msssim(a, b, shape, &mut scratch).map(|_| ()),
         hvs(PlaneKind::Y),
@@ -29,15 +31,15 @@ fn all<T: Sample>(a: Plane<'_, T>, b: Plane<'_, T>, shape: Shape) -> Vec<Result<
 #[test]
 fn planes_are_taken() {
     let (bytes, words) = ([200u8; 256], [4_095u16; 256]);
-    assert_eq!(all(plane(&bytes, 16), plane(&bytes, 16), SHAPE), [Ok(()); 7]);
-    assert_eq!(all(plane(&words, 16), plane(&words, 16), Shape { bit_depth: 12, ..SHAPE }), [Ok(()); 7]);
+    assert_eq!(all(plane(&bytes, 16), plane(&bytes, 16), SHAPE), [Ok(()); 9]);
+    assert_eq!(all(plane(&words, 16), plane(&words, 16), Shape { bit_depth: 12, ..SHAPE }), [Ok(()); 9]);
 }
 
 #[test]
 fn planes_are_refused_alike() {
     let (bytes, words) = ([200u8; 256], [4_095u16; 256]);
     let (a, w) = (plane(&bytes, 16), plane(&words, 16));
-    let each = |refusal| [Err(refusal); 7];
+    let each = |refusal| [Err(refusal); 9];
     for bit_depth in [0, 9, 16, u32::MAX] {
         assert_eq!(all(a, a, Shape { bit_depth, ..SHAPE }), each(Refusal::Depth));
     }
@@ -67,7 +69,7 @@ fn padding_is_not_read() {
     let seen = vec![99u16; 256];
     padded.iter_mut().skip(16).step_by(17).for_each(|s| *s = u16::MAX);
     let shape = Shape { bit_depth: 10, ..SHAPE };
-    assert_eq!(all(plane(&padded, 17), plane(&seen, 16), shape), [Ok(()); 7]);
+    assert_eq!(all(plane(&padded, 17), plane(&seen, 16), shape), [Ok(()); 9]);
     assert!(squared_error(plane(&padded, 17), plane(&seen, 16), shape).unwrap().is_identical());
 }
 
