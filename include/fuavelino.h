@@ -39,7 +39,7 @@ enum fuavelino_refusal {
     FUAVELINO_SHORT = 5,       /* a plane has fewer than stride * (height - 1) + width samples */
     FUAVELINO_SAMPLE = 6,      /* a visible sample is above 2^depth - 1 */
     FUAVELINO_KERNEL = 7,      /* the kernel is unlawful */
-    FUAVELINO_SCRATCH = 8,     /* lent scratch is too short */
+    FUAVELINO_SCRATCH = 8,     /* lent scratch or a lent map is too short */
     FUAVELINO_NOT_FINITE = 9,  /* nothing else applies, and the defined score is infinite or not a number */
     FUAVELINO_RECORD = 10,     /* a series of none or over 65536 records, or with a bad one */
     FUAVELINO_TOTAL = 11,      /* a series whose exact total is above 2^53 */
@@ -58,7 +58,7 @@ static inline const char *fuavelino_refusal_text(unsigned number) {
     case FUAVELINO_SHORT: return "a plane has too few samples";
     case FUAVELINO_SAMPLE: return "a visible sample is above the depth's largest";
     case FUAVELINO_KERNEL: return "the kernel is unlawful";
-    case FUAVELINO_SCRATCH: return "lent scratch is too short";
+    case FUAVELINO_SCRATCH: return "lent scratch or a lent map is too short";
     case FUAVELINO_NOT_FINITE: return "the score is infinite or not a number";
     case FUAVELINO_RECORD: return "a series of no records, of too many, or with a bad one";
     case FUAVELINO_TOTAL: return "the exact total of a series is above 2^53";
@@ -91,6 +91,29 @@ uint8_t fuavelino_squared_error8(const uint8_t *a, size_t a_len, const uint8_t *
 uint8_t fuavelino_squared_error16(const uint16_t *a, size_t a_len, const uint16_t *b, size_t b_len, size_t width, size_t height,
                                   size_t stride_a, size_t stride_b, uint32_t depth, double *sq_err, uint64_t *n,
                                   uint32_t *sample_max);
+
+/* The first sample, row by row, at which two planes differ: *differs is 1, and *row and *column, from 0 on, are its own; or *differs is 0, and
+ * those two stay as they were. Refuses 1 2 4 5 6. */
+uint8_t fuavelino_first_difference8(const uint8_t *a, size_t a_len, const uint8_t *b, size_t b_len, size_t width, size_t height,
+                                    size_t stride_a, size_t stride_b, uint32_t depth, uint8_t *differs, size_t *row,
+                                    size_t *column);
+uint8_t fuavelino_first_difference16(const uint16_t *a, size_t a_len, const uint16_t *b, size_t b_len, size_t width, size_t height,
+                                     size_t stride_a, size_t stride_b, uint32_t depth, uint8_t *differs, size_t *row,
+                                     size_t *column);
+
+/* The squared error of each tile of 8 by 8 samples, smaller at the right and at the bottom edge: that of the tile that starts at row 8 * j and
+ * column 8 * i goes to map[j * *across + i]. *across and *down are how many tiles there are that way. `map` has at least
+ * fuavelino_error_map_places(width, height) places; those past them stay as they were. Refuses 1 2 4 5 6 8. */
+uint8_t fuavelino_error_map8(const uint8_t *a, size_t a_len, const uint8_t *b, size_t b_len, size_t width, size_t height,
+                             size_t stride_a, size_t stride_b, uint32_t depth, uint64_t *map, size_t places, size_t *across,
+                             size_t *down);
+uint8_t fuavelino_error_map16(const uint16_t *a, size_t a_len, const uint16_t *b, size_t b_len, size_t width, size_t height,
+                              size_t stride_a, size_t stride_b, uint32_t depth, uint64_t *map, size_t places, size_t *across,
+                              size_t *down);
+
+/* The places that the map must have, one for each tile. 0 where a side is not 1 to 8192: such a call is refused by a lower number, whatever
+ * is lent. */
+size_t fuavelino_error_map_places(size_t width, size_t height);
 
 /* Adds up the errors and counts of a run of records, under their one sample_max. Refuses 10 11. */
 uint8_t fuavelino_series(const fuavelino_record *records, size_t count, double *sq_err, uint64_t *n, uint32_t *sample_max);

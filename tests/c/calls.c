@@ -137,6 +137,95 @@ static void squared_error(void) {
     EXPECT(error == 0 && n == WIDTH && max == 4095);
 }
 
+static void first_difference(void) {
+    static const uint8_t x[] = {7, 7, 7, 9, 7, 7}, y[] = {7, 7, 7, 8, 6, 7, 7};
+    uint8_t differs = 77;
+    size_t row = 88, column = 99;
+    /* refused, and nothing written: also at a sample that comes after the first difference */
+    EXPECT(CALL(fuavelino_first_difference8, (BYTES(WIDTH, HEIGHT, 9), &differs, &row, &column)) == FUAVELINO_DEPTH);
+    EXPECT(CALL(fuavelino_first_difference8, (BYTES(WIDTH, 8193, 8), &differs, &row, &column)) == FUAVELINO_SIZE);
+    EXPECT(CALL(fuavelino_first_difference8, (BYTES(STRIDE + 1, HEIGHT, 8), &differs, &row, &column)) == FUAVELINO_STRIDE);
+    EXPECT(CALL(fuavelino_first_difference16, (WORDS(WIDTH, HEIGHT + 1, 10), &differs, &row, &column)) == FUAVELINO_SHORT);
+    EXPECT(CALL(fuavelino_first_difference16, (WORDS(WIDTH, HEIGHT, 9), &differs, &row, &column)) == FUAVELINO_SAMPLE);
+    EXPECT(differs == 77 && row == 88 && column == 99);
+    /* none: what is not seen differs, and the place stays */
+    EXPECT(CALL(fuavelino_first_difference8, (x, 6, y, 7, 2, 2, 4, 5, 8, &differs, &row, &column)) == 0);
+    EXPECT(differs == 0 && row == 88 && column == 99);
+    EXPECT(CALL(fuavelino_first_difference8, (x, 6, y, 6, 3, 2, 3, 3, 8, &differs, &row, &column)) == 0);
+    EXPECT(differs == 1 && row == 1 && column == 0);
+    differs = 77;
+    EXPECT(CALL(fuavelino_first_difference8, (BYTES(WIDTH, HEIGHT, 8), &differs, &row, &column)) == 0);
+    EXPECT(differs == 1 && row == 0 && column == 1);
+    EXPECT(CALL(fuavelino_first_difference16, (a16, LEN, a16, LEN, WIDTH, HEIGHT, STRIDE, STRIDE, 10, &differs, &row, &column)) == 0);
+    EXPECT(differs == 0 && row == 0 && column == 1);
+    /* from the second row on: sample 24 there is 24 % 7 off */
+    EXPECT(CALL(fuavelino_first_difference16, (a16 + STRIDE, LEN - STRIDE, b16 + STRIDE, LEN - STRIDE, WIDTH, HEIGHT - 1, STRIDE, STRIDE, 10, &differs, &row, &column)) == 0);
+    EXPECT(differs == 1 && row == 0 && column == 0);
+}
+
+/* The tiles of the pictures, and some more places. */
+enum { ACROSS = 3, DOWN = 3, TILES = ACROSS * DOWN, SPARE = 2 };
+
+static uint64_t map[TILES + SPARE];
+
+static void soil_map(void) {
+    size_t i;
+    for (i = 0; i < COUNT(map); i++) map[i] = 5;
+}
+
+/* Whether the map from this place on is still as it was soiled. */
+static int kept_from(size_t i) {
+    while (i < COUNT(map) && map[i] == 5) i++;
+    return i == COUNT(map);
+}
+
+/* The error of the pictures' tile in this place of the map, sample by sample. */
+static uint64_t of_tile(size_t place) {
+    const size_t top = place / ACROSS * 8, left = place % ACROSS * 8;
+    uint64_t sum = 0;
+    size_t x, y;
+    for (y = top; y < top + 8 && y < HEIGHT; y++) {
+        for (x = left; x < left + 8 && x < WIDTH; x++) {
+            const int off = a8[y * STRIDE + x] - b8[y * STRIDE + x];
+            sum += (uint64_t)(off * off);
+        }
+    }
+    return sum;
+}
+
+/* Whether the map is the pictures', with their squared error in all. */
+static int mapped(void) {
+    uint64_t total = 0;
+    size_t i;
+    for (i = 0; i < TILES && map[i] == of_tile(i); i++) total += map[i];
+    return i == TILES && total == 4306;
+}
+
+static void error_map(void) {
+    static const uint8_t x[] = {9, 9, 9, 9, 9, 9, 9, 9, 9}, y[] = {9, 9, 9, 9, 9, 9, 9, 8, 7};
+    size_t across = 88, down = 99;
+    soil_map();
+    EXPECT(CALL(fuavelino_error_map8, (BYTES(WIDTH, HEIGHT, 0), map, TILES, &across, &down)) == FUAVELINO_DEPTH);
+    EXPECT(CALL(fuavelino_error_map8, (BYTES(0, HEIGHT, 8), map, TILES, &across, &down)) == FUAVELINO_SIZE);
+    EXPECT(CALL(fuavelino_error_map8, (BYTES(STRIDE + 1, HEIGHT, 8), map, TILES, &across, &down)) == FUAVELINO_STRIDE);
+    EXPECT(CALL(fuavelino_error_map16, (WORDS(WIDTH, HEIGHT + 1, 10), map, TILES, &across, &down)) == FUAVELINO_SHORT);
+    EXPECT(CALL(fuavelino_error_map16, (WORDS(WIDTH, HEIGHT, 9), map, 0, &across, &down)) == FUAVELINO_SAMPLE);
+    EXPECT(CALL(fuavelino_error_map8, (BYTES(WIDTH, HEIGHT, 8), map, TILES - 1, &across, &down)) == FUAVELINO_SCRATCH);
+    EXPECT(CALL(fuavelino_error_map16, (WORDS(WIDTH, HEIGHT, 10), map, 0, &across, &down)) == FUAVELINO_SCRATCH);
+    EXPECT(across == 88 && down == 99 && kept_from(0));
+    EXPECT(CALL(fuavelino_error_map8, (BYTES(WIDTH, HEIGHT, 8), map, TILES, &across, &down)) == 0);
+    EXPECT(across == ACROSS && down == DOWN && mapped() && kept_from(TILES));
+    across = down = 77, soil_map();
+    EXPECT(CALL(fuavelino_error_map16, (WORDS(WIDTH, HEIGHT, 10), map, COUNT(map), &across, &down)) == 0);
+    EXPECT(across == ACROSS && down == DOWN && mapped() && kept_from(TILES));
+    /* one row of nine, and one column */
+    soil_map();
+    EXPECT(CALL(fuavelino_error_map8, (x, 9, y, 9, 9, 1, 9, 9, 8, map, 2, &across, &down)) == 0);
+    EXPECT(across == 2 && down == 1 && map[0] == 1 && map[1] == 4 && kept_from(2));
+    EXPECT(CALL(fuavelino_error_map8, (x, 9, y, 9, 1, 9, 1, 1, 8, map, 2, &across, &down)) == 0);
+    EXPECT(across == 1 && down == 2 && map[0] == 1 && map[1] == 4 && kept_from(2));
+}
+
 static void series(void) {
     const double most = 67108864.0 * 4095 * 4095, two_to_53 = 9007199254740992.0;
     fuavelino_record run[10];
@@ -198,6 +287,11 @@ static void places(void) {
     EXPECT(PLACES(fuavelino_msssim_places, (WIDTH)) == SCALES_NEED);
     EXPECT(PLACES(fuavelino_msssim_places, (16)) == 96 * 16 && PLACES(fuavelino_msssim_places, (8192)) == 96 * 8192);
     EXPECT(PLACES(fuavelino_msssim_places, (15)) == 0 && PLACES(fuavelino_msssim_places, (8193)) == 0);
+    EXPECT(PLACES(fuavelino_error_map_places, (WIDTH, HEIGHT)) == TILES && PLACES(fuavelino_error_map_places, (1, 1)) == 1);
+    EXPECT(PLACES(fuavelino_error_map_places, (8, 9)) == 2 && PLACES(fuavelino_error_map_places, (9, 8)) == 2);
+    EXPECT(PLACES(fuavelino_error_map_places, (8192, 8192)) == (size_t)1024 * 1024);
+    EXPECT(PLACES(fuavelino_error_map_places, (0, 8)) == 0 && PLACES(fuavelino_error_map_places, (8, 0)) == 0);
+    EXPECT(PLACES(fuavelino_error_map_places, (8193, 8)) == 0 && PLACES(fuavelino_error_map_places, (8, SIZE_MAX)) == 0);
     EXPECT(PLACES(fuavelino_msssim_samples, (WIDTH, HEIGHT)) == ROOM_NEED);
     EXPECT(PLACES(fuavelino_msssim_samples, (8192, 8192)) == (size_t)8192 * 8192);
     EXPECT(PLACES(fuavelino_msssim_samples, (15, 16)) == 0 && PLACES(fuavelino_msssim_samples, (16, 15)) == 0);
@@ -366,6 +460,8 @@ int main(void) {
     root();
     check();
     squared_error();
+    first_difference();
+    error_map();
     series();
     ssim();
     msssim();

@@ -20,7 +20,7 @@ pub enum Refusal {
     Sample = 6,
     /// 7: the lent kernel is unlawful.
     Kernel = 7,
-    /// 8: lent scratch is too short.
+    /// 8: lent scratch or a lent map is too short.
     Scratch = 8,
     /// 9: nothing else applies, and the defined score is infinite or not a number.
     NotFinite = 9,
@@ -43,7 +43,7 @@ const RULES: [(Refusal, &str); 13] = [
     (Refusal::Short, "a plane has too few samples"),
     (Refusal::Sample, "a visible sample is above the depth's largest"),
     (Refusal::Kernel, "the kernel is unlawful"),
-    (Refusal::Scratch, "lent scratch is too short"),
+    (Refusal::Scratch, "lent scratch or a lent map is too short"),
     (Refusal::NotFinite, "the score is infinite or not a number"),
     (Refusal::Record, "a series of no records, of too many, or with a bad one"),
     (Refusal::Total, "the exact total of a series is above 2^53"),
