@@ -9,6 +9,7 @@ mod five;
 mod hvs;
 mod hvs_ways;
 mod lifting;
+mod located;
 mod model;
 mod plane;
 mod published_numbers;
@@ -30,12 +31,13 @@ use std::process::exit;
 /// A family's name, and what runs it.
 type Named = (&'static str, fn(Run) -> bool);
 
-const FAMILIES: [Named; 12] = [
+const FAMILIES: [Named; 13] = [
     ("published", published_numbers::compare),
     ("root", root::compare),
     ("plane", plane::compare),
     ("transform", transform::compare),
     ("squared", squared::compare),
+    ("located", located::compare),
     ("series", series::compare),
     ("ssim", ssim::compare),
     ("hvs", hvs::compare),

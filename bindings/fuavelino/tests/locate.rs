@@ -2,10 +2,10 @@
 
 use fuavelino::*;
 
-/// 19 by 11 samples, so that tiles are cut short at both edges, with strides of their own.
+/// 19 by 11 samples, so that tiles are cut short at both edges, with padding of their own.
 const SHAPE: Shape = Shape { width: 19, height: 11, bit_depth: 8 };
 const WIDE: Shape = Shape { bit_depth: 10, ..SHAPE };
-const STRIDES: [usize; 2] = [19, 23];
+const STRIDES: [usize; 2] = [22, 27];
 
 /// What the lent places hold before a call.
 const DIFFERS: u8 = 77;
