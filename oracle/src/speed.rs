@@ -1,13 +1,14 @@
-//! The product beside the published Rust, in one run: each side's best time of many rounds, taken in turn, and the ratio. And what the
-//! product's scores cost as planes and kernels grow.
+//! The product beside the published Rust, or plain Rust where that has no such call, in one run: each side's best time of many rounds, taken in
+//! turn, and the ratio. And what the product's scores cost as planes and kernels grow.
 //!
 //! speed [NAME..]
 
 mod five;
+mod plain;
 #[allow(dead_code)]
 mod random;
 
-use fuavelino::{no_alloc, Pair, PlaneKind, PsnrMetrics, Sample, Shape};
+use fuavelino::{no_alloc, Pair, Place, PlaneKind, PsnrMetrics, Sample, Shape, Tiles};
 use published::plane::Plane;
 use published::video::pixel::Pixel;
 use published::video::{psnr, psnr_hvs, ssim};
@@ -26,10 +27,12 @@ const PATIENCE: Duration = Duration::from_secs(6);
 
 type Named = (&'static str, fn());
 
-const ALL: [Named; 7] = [
+const ALL: [Named; 9] = [
     ("root", root),
     ("forward", forward),
     ("squared", || at_both_sizes(squared, squared)),
+    ("first", || at_both_sizes(first, first)),
+    ("map", || at_both_sizes(map, map)),
     ("ssim", || at_both_sizes(similarity, similarity)),
     ("hvs", || at_both_sizes(visual, visual)),
     ("scales", || at_both_sizes(scales, scales)),
@@ -142,6 +145,18 @@ impl<T: Sample + Pixel> Scene<T> {
         self.shape.width * self.shape.height
     }
 
+    /// Its first plane twice, but for the last sample.
+    fn but_last(&self) -> Scene<T>
+    where
+        T: PartialEq,
+    {
+        let a = &self.planes[0];
+        let mut b = a.clone();
+        let last = b.data.len() - 1;
+        b.data[last] = *a.data.iter().find(|s| **s != a.data[last]).expect("no picture is flat");
+        Scene { planes: [a.clone(), b], shape: self.shape }
+    }
+
     /// The planes and their shape as the product takes them.
     fn lent(&self) -> [fuavelino::Plane<'_, T>; 2] {
         [&self.planes[0], &self.planes[1]].map(|plane| fuavelino::Plane { data: &plane.data, stride: plane.cfg.stride })
@@ -186,6 +201,34 @@ fn run_squared<T: Sample + Pixel>(scene: &Scene<T>) -> impl FnMut() + '_ {
         assert_eq!(no_alloc::squared_error(x, y, black_box(scene.shape), &mut record), Ok(()));
         black_box(record);
     }
+}
+
+/// Where the last sample is the first that differs.
+fn first<T: Sample + Pixel + PartialEq>(scene: &Scene<T>) {
+    let scene = scene.but_last();
+    let ([a, b], [x, y], Shape { width, height, .. }) = (&scene.planes, scene.lent(), scene.shape);
+    let product = || {
+        let (mut differs, mut place) = (0, Place::default());
+        assert_eq!(no_alloc::first_difference(x, y, black_box(scene.shape), &mut differs, &mut place), Ok(()));
+        assert_eq!((differs, place), (1, Place { row: height - 1, column: width - 1 }));
+    };
+    let other = || {
+        let found = plain::first_difference(black_box(&a.data[..]), black_box(&b.data[..]), black_box(width));
+        assert_eq!(found, Some((height - 1, width - 1)));
+    };
+    beside(&scene.show(), scene.count(), "plain Rust", product, other);
+}
+
+fn map<T: Sample + Pixel + Into<i32>>(scene: &Scene<T>) {
+    let ([a, b], [x, y], Shape { width, height, .. }) = (&scene.planes, scene.lent(), scene.shape);
+    let mut maps = [(); 2].map(|()| vec![0u64; no_alloc::error_map_places(width, height)]);
+    let [ours, theirs] = &mut maps;
+    let product = || {
+        assert_eq!(no_alloc::error_map(x, y, black_box(scene.shape), ours, &mut Tiles::default()), Ok(()));
+    };
+    let other = || plain::error_map(black_box(&a.data[..]), black_box(&b.data[..]), black_box(width), theirs);
+    beside(&scene.show(), scene.count(), "plain Rust", product, other);
+    assert_eq!(maps[0], maps[1]);
 }
 
 /// With the 15 taps that the published code builds for 405 rows. It is lent planes of wider samples, made beforehand.

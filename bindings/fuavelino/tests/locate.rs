@@ -2,7 +2,7 @@
 
 use fuavelino::*;
 
-/// 19 by 11 samples, so that tiles are cut short at both edges, with padding of their own.
+/// 19 by 11 samples, so that tiles are cut short at both edges; each plane has padding of its own.
 const SHAPE: Shape = Shape { width: 19, height: 11, bit_depth: 8 };
 const WIDE: Shape = Shape { bit_depth: 10, ..SHAPE };
 const STRIDES: [usize; 2] = [22, 27];
