@@ -20,6 +20,9 @@ const TILES: Tiles = Tiles { across: 0xBEEF_0003, down: 0xBEEF_0004 };
 /// The lent map stands in the middle of a longer run, so that places that were not lent are seen too.
 const MARGIN: usize = 2;
 
+/// So many places fewer that none are left.
+const NONE_LEFT: isize = isize::MIN / 2;
+
 /// Sides about those of a tile.
 const SIDES: [usize; 5] = [1, 7, 8, 9, 17];
 
@@ -76,7 +79,7 @@ impl Family for Located {
             Some(case) => case.clone(),
             None => {
                 let pair = if r.once_in(4) { Pair::of(&any(r, 0)) } else { marked(r) };
-                Case { pair, over: r.pick(&[0, 0, 0, 1, 2, 9, -1, -1, -2, isize::MIN / 2]) }
+                Case { pair, over: r.pick(&[0, 0, 0, 1, 2, 9, -1, -1, -2, NONE_LEFT]) }
             }
         }
     }

@@ -179,7 +179,7 @@ static int kept_from(size_t i) {
     return i == COUNT(map);
 }
 
-/* The error of the pictures' tile in this place of the map, sample by sample. */
+/* The error of the pictures' tile in this place of the map, sample by sample. Words are as far off as bytes. */
 static uint64_t of_tile(size_t place) {
     const size_t top = place / ACROSS * 8, left = place % ACROSS * 8;
     uint64_t sum = 0;
