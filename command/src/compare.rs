@@ -1,16 +1,15 @@
 //! `fuavelino compare`: reads both files frame by frame, scores, reports, and judges.
 
-use crate::args::{Compare, Form, To};
+use crate::args::{Compare, Form};
 use crate::csv::Csv;
-use crate::format::Format;
 use crate::frames::Source;
-use crate::input::{identity, named, shown, Stored};
+use crate::input::Stored;
 use crate::jobs;
 use crate::json::Json;
 use crate::messages::Messages;
-use crate::notes::notes;
+use crate::opened::{output, progress, Count, Opened, Subject};
 use crate::output::Output;
-use crate::progress::{is_terminal, say, Progress, STANDARD_OUTPUT};
+use crate::progress::{say, Progress};
 use crate::report::{End, Job, Report, Worst};
 use crate::score::FrameScores;
 use crate::stop::{Fault, Stop, BROKEN, FAULT, PASSED};
@@ -18,7 +17,6 @@ use crate::summary::Summary;
 use crate::table::Table;
 use crate::thresholds::{self, Broken};
 use crate::totals::Run;
-use std::fs;
 use std::io::{self, Write};
 
 /// How a comparison ended that was reported.
@@ -39,17 +37,16 @@ pub fn compare(asked: &Compare) -> Result<u8, Stop> {
 
 /// Compares two files.
 pub fn one(asked: &Compare) -> Result<Ended, Stop> {
-    let mut out = output(asked)?;
-    let mut report = report(asked.form);
-    let rows_are_seen = matches!(asked.output, To::Standard) && is_terminal(STANDARD_OUTPUT);
+    let mut out = output(&asked.common, || unfinished(asked))?;
+    let mut report = report(asked.common.form);
     let mut walk = Walk {
         asked,
         report: &mut *report,
         out: &mut out,
-        progress: Progress::new(!rows_are_seen && !asked.quiet),
+        progress: progress(&asked.common),
         worst: Worst::default(),
         summary: Summary::default(),
-        messages: Messages::new(asked.quiet),
+        messages: Messages::new(asked.common.quiet),
         frames: 0,
         broken: 0,
     };
@@ -67,22 +64,15 @@ fn report(form: Form) -> Box<dyn Report> {
     }
 }
 
-/// Begins a report, with the files' format where that is known, and with notes on them.
-fn begin(
-    report: &mut dyn Report,
-    to: &mut dyn Write,
-    asked: &Compare,
-    (format, notes): (Option<Format>, &[String]),
-) -> io::Result<()> {
-    let (original, decoded) = (&named(&asked.original)[..], &named(&asked.decoded)[..]);
-    report.begin(to, &Job { original, decoded, format, metrics: asked.metrics, thresholds: &asked.thresholds, notes })
+fn begin(report: &mut dyn Report, to: &mut dyn Write, asked: &Compare, subject: Subject<'_>) -> io::Result<()> {
+    report.begin(to, &Job { subject, metrics: asked.metrics, thresholds: &asked.thresholds })
 }
 
 /// What stands in the report's file until the run has ended: a whole report of a run that did not pass.
 pub fn unfinished(asked: &Compare) -> io::Result<Vec<u8>> {
     let mut text = Vec::new();
-    let mut report = report(asked.form);
-    begin(&mut *report, &mut text, asked, (None, &[]))?;
+    let mut report = report(asked.common.form);
+    begin(&mut *report, &mut text, asked, Subject::unknown(&asked.common))?;
     let fault = Fault::unfinished();
     let (worst, fault, status) = (&Worst::default(), Some(&fault), FAULT);
     let none = End { frames: 0, run: None, run_broken: &[], summary: None, worst, broken: 0, fault, status };
@@ -90,55 +80,13 @@ pub fn unfinished(asked: &Compare) -> io::Result<Vec<u8>> {
     Ok(text)
 }
 
-/// Opens both files, which must be alike.
-fn open(asked: &Compare) -> Result<[Source; 2], Fault> {
-    if let Some(format) = asked.raw {
-        format.judge().map_err(|refusal| Fault::refused(&format.show(), refusal))?;
-    }
-    let sources = [Source::open(&asked.original, asked.raw)?, Source::open(&asked.decoded, asked.raw)?];
-    alike(&sources[0], &sources[1])?;
+/// A limit for a plane that is not there would never be held.
+fn fit(asked: &Compare, sources: &[Source; 2]) -> Result<(), Fault> {
     let planes = sources[0].format.shapes().len();
     match asked.thresholds.iter().find(|held| held.is_never_held(planes)) {
         Some(held) => Err(Fault::new(format!("{}: {} has no such plane", held.show(), sources[0].name()))),
-        None => Ok(sources),
+        None => Ok(()),
     }
-}
-
-/// Rate, aspect and the rest of a header have no bearing on the scores: where they differ is noted, and no more.
-fn alike(a: &Source, b: &Source) -> Result<(), Fault> {
-    if a.format == b.format {
-        return Ok(());
-    }
-    let (this, other) = (a.format, b.format);
-    let mut unlike = Vec::new();
-    if (this.width, this.height) != (other.width, other.height) {
-        unlike.push("size");
-    }
-    if this.depth != other.depth {
-        unlike.push("depth");
-    }
-    if this.chroma != other.chroma {
-        unlike.push("chroma");
-    }
-    let (first, second) = (this.show(), other.show());
-    let what = format!("{} is {}, {} is {}", a.name(), first, b.name(), second);
-    Err(Fault::new(format!("the files differ in {}: {}", unlike.join(" and "), what)))
-}
-
-/// Makes the report's file, but never over a file that is to be read.
-fn output(asked: &Compare) -> Result<Output, Stop> {
-    let path = match &asked.output {
-        To::File(path) => path,
-        To::Standard if asked.quiet && asked.form == Form::Table => return Ok(Output::nowhere()),
-        To::Standard => return Output::standard(),
-        To::Nowhere => return Ok(Output::nowhere()),
-    };
-    let target = fs::metadata(path).ok().filter(|target| target.is_file()).and_then(|_| identity(path));
-    if target.is_some() && [&asked.original, &asked.decoded].iter().any(|input| identity(input) == target) {
-        return Err(Stop::Usage("--output names a file that is to be compared".to_string()));
-    }
-    let first = unfinished(asked).map_err(|error| Stop::unwritten(&shown(path), &error))?;
-    Output::replace(path, &first)
 }
 
 /// The walk over all frames.
@@ -157,16 +105,10 @@ struct Walk<'a> {
 impl Walk<'_> {
     /// Begins the report, and walks where there is something to walk over.
     fn whole(&mut self) -> Result<FrameScores, Stop> {
-        let opened = open(self.asked);
         let (report, asked) = (&mut *self.report, self.asked);
-        let format = opened.as_ref().ok().map(|sources| sources[0].format);
-        let notes = opened.as_ref().map_or(Vec::new(), |sources| notes(asked, sources));
-        self.out.write(|to| begin(report, to, asked, (format, &notes)))?;
-        notes.iter().filter(|_| !asked.quiet).for_each(|note| say(&format!("note: {}", note)));
-        let sources = opened?;
-        if let (Some(note), true) = (notes.first(), asked.strict) {
-            return Err(Fault::new(format!("{} (--strict)", note)).into());
-        }
+        let opened = Opened::new(&asked.common, |sources| fit(asked, sources));
+        self.out.write(|to| begin(report, to, asked, opened.subject(&asked.common)))?;
+        let sources = opened.sources(&asked.common)?;
         let walked = if sources[0].format.wide() { self.walk::<u16>(sources) } else { self.walk::<u8>(sources) };
         self.progress.clear();
         walked
@@ -205,24 +147,15 @@ impl Walk<'_> {
     fn walk<T: Stored>(&mut self, sources: [Source; 2]) -> Result<FrameScores, Stop> {
         let format = sources[0].format;
         let names = [sources[0].name().to_string(), sources[1].name().to_string()];
-        let files = names.join(" and ");
-        let wanted = self.asked.frames;
+        let count = Count::new(&self.asked.common, &names);
         let mut run = Run::new(format.shapes().len(), format.chroma.get_chroma_weight());
         jobs::each::<T>(sources, self.asked.metrics, self.asked.jobs, |scored| {
-            if wanted == Some(self.frames) {
-                return Err(Fault::new(format!("{} have more than {} frames (--frames)", files, self.frames)).into());
-            }
+            count.another(self.frames)?;
             let scores = scored.map_err(|refused| refused.of_files(self.frames, &names, &format))?;
             run.add(&scores).map_err(|refused| refused.at("the run"))?;
             self.tell(&scores)
         })?;
-        match (self.frames, wanted) {
-            (0, _) => Err(Fault::new(format!("{} have no frames", files)))?,
-            (count, Some(wanted)) if count != wanted => {
-                Err(Fault::new(format!("{} have {} frames, not {} (--frames)", files, count, wanted)))?
-            }
-            _ => {}
-        }
+        count.end(self.frames)?;
         Ok(run.end().map_err(|refused| refused.at("the run"))?)
     }
 

@@ -38,7 +38,7 @@ pub fn clear(folder: &Path, each: &Compare) -> Result<(), Stop> {
     let first = unfinished(each).map_err(unwritten(folder))?;
     // the first word of a report, whatever its files and its version
     let word = first.iter().position(|byte| b":,".contains(byte)).map_or(&first[..], |end| &first[..=end]);
-    for path in named_as_reports(folder, each.form).map_err(unwritten(folder))? {
+    for path in named_as_reports(folder, each.common.form).map_err(unwritten(folder))? {
         if begins(&path, word).map_err(unwritten(&path))? {
             fs::remove_file(&path).map_err(unwritten(&path))?;
         }
@@ -57,7 +57,7 @@ fn begins(path: &Path, word: &[u8]) -> io::Result<bool> {
 
 /// Puts a report that did not pass in each pair's place, until its own is whole, but over no file that is to be compared.
 pub fn prepare(folder: &Path, form: Form, jobs: &[Compare]) -> Result<(), Stop> {
-    let inputs = jobs.iter().flat_map(|job| [identity(&job.original), identity(&job.decoded)]);
+    let inputs = jobs.iter().flat_map(|job| [identity(&job.common.original), identity(&job.common.decoded)]);
     let inputs: HashSet<(u64, u64)> = inputs.flatten().collect();
     let compared = |path: &PathBuf| identity(path).map_or(false, |known| inputs.contains(&known));
     let found = named_as_reports(folder, form).map_err(|error| Stop::unwritten(&shown(folder), &error))?;
@@ -69,7 +69,7 @@ pub fn prepare(folder: &Path, form: Form, jobs: &[Compare]) -> Result<(), Stop> 
 }
 
 fn put_unfinished(job: &Compare) {
-    if let (To::File(path), Ok(first)) = (&job.output, unfinished(job)) {
+    if let (To::File(path), Ok(first)) = (&job.common.output, unfinished(job)) {
         // what cannot be written now is told when the pair's turn comes
         drop(Output::replace(path, &first));
     }

@@ -1,6 +1,7 @@
 //! The report as one JSON object, written as the frames are scored.
 
 use crate::format::{Format, COMBINED};
+use crate::opened::Subject;
 use crate::report::{metric_of, values, End, Job, Place, Report, Value, FIELDS};
 use crate::score::{FrameScores, Metrics, Scores};
 use crate::stop::{Fault, PASSED};
@@ -19,16 +20,10 @@ impl Report for Json {
     fn begin(&mut self, out: &mut dyn Write, job: &Job<'_>) -> io::Result<()> {
         self.asked = job.metrics.asked();
         let json = &mut self.json;
-        json.object().lines();
-        json.field("fuavelino", env!("CARGO_PKG_VERSION"));
-        json.field("original", job.original).field("decoded", job.decoded);
-        format(json.name("format"), job.format);
+        head(json, &job.subject);
         asked(json, &job.metrics, job.thresholds);
-        json.name("notes").list();
-        for note in job.notes {
-            json.value(&note[..]);
-        }
-        json.close().name("frames").list().lines();
+        notes(json, &job.subject);
+        json.name("frames").list().lines();
         self.out(out)
     }
 
@@ -83,6 +78,22 @@ impl Json {
         broken.iter().for_each(|one| breach(&mut self.json, one));
         self.json.close();
     }
+}
+
+/// Opens the report's object, and tells which files it is about.
+pub fn head(json: &mut Writer, subject: &Subject<'_>) {
+    json.object().lines();
+    json.field("fuavelino", env!("CARGO_PKG_VERSION"));
+    json.field("original", &subject.original[..]).field("decoded", &subject.decoded[..]);
+    format(json.name("format"), subject.format);
+}
+
+pub fn notes(json: &mut Writer, subject: &Subject<'_>) {
+    json.name("notes").list();
+    for note in subject.notes {
+        json.value(&note[..]);
+    }
+    json.close();
 }
 
 /// What was asked: scores and thresholds.

@@ -10,12 +10,14 @@ mod descriptor;
 mod folder;
 mod format;
 mod frames;
+mod help;
 mod input;
 mod jobs;
 mod json;
 mod list;
 mod messages;
 mod notes;
+mod opened;
 mod output;
 mod overview;
 mod pairs;
@@ -28,6 +30,7 @@ mod summary;
 mod table;
 mod thresholds;
 mod totals;
+mod words;
 mod writer;
 mod y4m;
 
@@ -46,7 +49,7 @@ fn main() -> ExitCode {
 
 fn done() -> Result<u8, Stop> {
     match args::parse(std::env::args_os().skip(1))? {
-        Asked::Help => Output::standard()?.write(|to| to.write_all(args::HELP.as_bytes()))?,
+        Asked::Help => Output::standard()?.write(|to| to.write_all(help::HELP.as_bytes()))?,
         Asked::Version => Output::standard()?.write(|to| writeln!(to, "fuavelino {}", env!("CARGO_PKG_VERSION")))?,
         Asked::Compare(asked) => return compare::compare(&asked),
         Asked::Pairs(asked) => return pairs::pairs(&asked),

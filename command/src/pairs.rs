@@ -1,6 +1,6 @@
 //! `fuavelino compare --pairs`: a list of pairs, each compared by itself, and what they come to as a whole.
 
-use crate::args::{Compare, Form, Pairs, To};
+use crate::args::{Common, Compare, Form, Pairs, To};
 use crate::compare::{one, Ended};
 use crate::folder::{clear, name, prepare, summary};
 use crate::input::{identity, named, shown};
@@ -16,7 +16,7 @@ use std::path::Path;
 /// Compares each pair of the list, and gives the worst of their statuses.
 pub fn pairs(asked: &Pairs) -> Result<u8, Stop> {
     let mut out = output(asked)?;
-    let mut overview = overview(asked.each.form);
+    let mut overview = overview(asked.each.common.form);
     let mut counts = Counts::default();
     let list = named(&asked.list);
     out.write(|to| overview.begin(to, &list, &asked.each))?;
@@ -40,7 +40,7 @@ fn walk(asked: &Pairs, overview: &mut dyn Overview, out: &mut Output, counts: &m
         Some(folder) => {
             clear(folder, &asked.each)?;
             let jobs = jobs(asked, &list::read(&asked.list)?);
-            prepare(folder, asked.each.form, &jobs)?;
+            prepare(folder, asked.each.common.form, &jobs)?;
             jobs
         }
         None => jobs(asked, &list::read(&asked.list)?),
@@ -51,8 +51,8 @@ fn walk(asked: &Pairs, overview: &mut dyn Overview, out: &mut Output, counts: &m
         label(&format!("pair {}: ", number));
         let ended = one(job).unwrap_or_else(lost);
         label("");
-        let (original, decoded) = (&named(&job.original)[..], &named(&job.decoded)[..]);
-        let report = name(asked.each.form, number);
+        let (original, decoded) = (&named(&job.common.original)[..], &named(&job.common.decoded)[..]);
+        let report = name(asked.each.common.form, number);
         let report = asked.folder().map(|_| &report[..]);
         out.write(|to| overview.pair(to, &Row { number, original, decoded, report, ended: &ended }))?;
         counts.add(ended.status);
@@ -69,7 +69,7 @@ fn lost(stop: Stop) -> Ended {
 
 impl Pairs {
     fn folder(&self) -> Option<&Path> {
-        match &self.each.output {
+        match &self.each.common.output {
             To::File(folder) => Some(folder),
             _ => None,
         }
@@ -80,10 +80,12 @@ impl Pairs {
 fn jobs(asked: &Pairs, list: &[Pair]) -> Vec<Compare> {
     let job = |(at, pair): (usize, &Pair)| {
         let output = match asked.folder() {
-            Some(folder) => To::File(folder.join(name(asked.each.form, at + 1))),
+            Some(folder) => To::File(folder.join(name(asked.each.common.form, at + 1))),
             None => To::Nowhere,
         };
-        Compare { original: pair.original.clone(), decoded: pair.decoded.clone(), output, ..asked.each.clone() }
+        let (original, decoded) = (pair.original.clone(), pair.decoded.clone());
+        let common = Common { original, decoded, output, ..asked.each.common.clone() };
+        Compare { common, ..asked.each.clone() }
     };
     list.iter().enumerate().map(job).collect()
 }
@@ -92,10 +94,10 @@ fn jobs(asked: &Pairs, list: &[Pair]) -> Vec<Compare> {
 fn output(asked: &Pairs) -> Result<Output, Stop> {
     let folder = match asked.folder() {
         Some(folder) => folder,
-        None if asked.each.quiet && asked.each.form == Form::Table => return Ok(Output::nowhere()),
+        None if asked.each.common.quiet && asked.each.common.form == Form::Table => return Ok(Output::nowhere()),
         None => return Output::standard(),
     };
-    let path = folder.join(summary(asked.each.form));
+    let path = folder.join(summary(asked.each.common.form));
     let unwritten = |error| Stop::unwritten(&shown(&path), &error);
     fs::create_dir_all(folder).map_err(unwritten)?;
     if identity(&path).is_some() && identity(&path) == identity(&asked.list) {
@@ -108,7 +110,7 @@ fn output(asked: &Pairs) -> Result<Output, Stop> {
 /// What stands there until all pairs have ended.
 fn first(asked: &Pairs) -> io::Result<Vec<u8>> {
     let mut text = Vec::new();
-    let mut overview = overview(asked.each.form);
+    let mut overview = overview(asked.each.common.form);
     overview.begin(&mut text, &named(&asked.list), &asked.each)?;
     overview.end(&mut text, &Total { counts: &Counts::default(), fault: Some(&Fault::unfinished()), status: FAULT })?;
     Ok(text)

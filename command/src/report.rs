@@ -1,7 +1,7 @@
 //! What every form of report tells: the job, each frame as it is scored, and the end.
 
 use crate::decibels::{mean_error, Decibels};
-use crate::format::Format;
+use crate::opened::Subject;
 use crate::score::{FrameScores, Metrics, Scores};
 use crate::stop::Fault;
 use crate::summary::Summary;
@@ -10,14 +10,9 @@ use std::io::{self, Write};
 
 /// What is compared, and what is asked.
 pub struct Job<'a> {
-    pub original: &'a str,
-    pub decoded: &'a str,
-    /// What the files are, once both are known to be alike.
-    pub format: Option<Format>,
+    pub subject: Subject<'a>,
     pub metrics: Metrics,
     pub thresholds: &'a [Threshold],
-    /// What is to be said of the files.
-    pub notes: &'a [String],
 }
 
 /// How it ended.

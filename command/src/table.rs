@@ -1,6 +1,7 @@
 //! The report for people: a row for each plane of each frame, then the run, then what its frames come to and where it was worst.
 
 use crate::decibels::Decibels;
+use crate::opened::Subject;
 use crate::report::{metric_of, values, End, Job, Place, Report, Value, FIELDS};
 use crate::score::{FrameScores, Scores};
 use crate::stop::PASSED;
@@ -54,12 +55,8 @@ impl Report for Table {
     fn begin(&mut self, out: &mut dyn Write, job: &Job<'_>) -> io::Result<()> {
         self.asked = job.metrics.asked();
         self.thresholds = job.thresholds.len();
-        let format = job.format.map_or("not known".to_string(), |format| format.show());
-        writeln!(out, "original: {}\ndecoded:  {}\nformat:   {}", job.original, job.decoded, format)?;
-        for note in job.notes {
-            writeln!(out, "note:     {}", note)?;
-        }
-        writeln!(out, "\n{}", self.row("frame", "plane", |_, column| column.1.to_string()))
+        head(out, &job.subject)?;
+        writeln!(out, "{}", self.row("frame", "plane", |_, column| column.1.to_string()))
     }
 
     fn frame(&mut self, out: &mut dyn Write, number: u64, scores: &FrameScores, broken: &[Broken]) -> io::Result<()> {
@@ -83,6 +80,16 @@ impl Report for Table {
         }
         Ok(())
     }
+}
+
+/// The files, and a line before the rows.
+pub fn head(out: &mut dyn Write, subject: &Subject<'_>) -> io::Result<()> {
+    let format = subject.format.map_or("not known".to_string(), |format| format.show());
+    writeln!(out, "original: {}\ndecoded:  {}\nformat:   {}", subject.original, subject.decoded, format)?;
+    for note in subject.notes {
+        writeln!(out, "note:     {}", note)?;
+    }
+    writeln!(out)
 }
 
 impl Table {
