@@ -50,6 +50,12 @@ pub struct Compare {
     pub thresholds: Vec<Threshold>,
 }
 
+pub struct Where {
+    pub common: Common,
+    /// The folder of the pictures, if they are asked for.
+    pub map: Option<PathBuf>,
+}
+
 /// A list of pairs, and how each is compared. What the report's file would be is their folder.
 pub struct Pairs {
     pub list: PathBuf,
@@ -61,6 +67,7 @@ pub enum Asked {
     Version,
     Compare(Box<Compare>),
     Pairs(Box<Pairs>),
+    Where(Where),
     Clip(Clip),
 }
 
@@ -75,8 +82,9 @@ pub fn parse(words: impl Iterator<Item = OsString>) -> Result<Asked, Stop> {
         Some("--help" | "-h" | "help") => Ok(Asked::Help),
         Some("--version" | "-V") => Ok(Asked::Version),
         Some("compare") => compare(Words::of(words, &known())?),
+        Some("where") => locate(Words::of(words, WHERE)?),
         Some("clip") => clip(Words::of(words, CLIP)?),
-        _ => Err(usage(&format!("no command {:?}; there are compare and clip", first))),
+        _ => Err(usage(&format!("no command {:?}; there are compare, where and clip", first))),
     }
 }
 
@@ -104,6 +112,20 @@ fn known() -> Vec<Known> {
     COMPARE.iter().copied().chain(thresholds).collect()
 }
 
+const WHERE: &[Known] = &[
+    ("--help", false),
+    ("--json", false),
+    ("--size", true),
+    ("--depth", true),
+    ("--chroma", true),
+    ("--output", true),
+    ("--frames", true),
+    ("--map", true),
+    ("--strict", false),
+    ("--quiet", false),
+    ("-h", false),
+];
+
 const CLIP: &[Known] =
     &[("--help", false), ("--size", true), ("--depth", true), ("--chroma", true), ("--frames", true), ("-h", false)];
 
@@ -121,6 +143,18 @@ fn compare(words: Words) -> Result<Asked, Stop> {
         Some(list) => Asked::Pairs(Box::new(Pairs { list: PathBuf::from(list), each })),
         None => Asked::Compare(Box::new(each)),
     })
+}
+
+fn locate(words: Words) -> Result<Asked, Stop> {
+    if words.wants_help()? {
+        return Ok(Asked::Help);
+    }
+    let common = common(&words, "where")?;
+    match words.get("--map") {
+        // a variable that is not set would fill the folder in which the command runs
+        Some(folder) if folder.is_empty() => Err(usage("--map takes a folder's name, not \"\"")),
+        folder => Ok(Asked::Where(Where { common, map: folder.map(PathBuf::from) })),
+    }
 }
 
 fn common(words: &Words, command: &str) -> Result<Common, Stop> {

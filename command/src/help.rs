@@ -34,11 +34,21 @@ fuavelino: compares a decoded video with its original, and passes only what is s
       --run-min-msssim X, --run-min-msssim-db X, --run-max-hvs X, --run-min-hvs-db X
                          the same of the whole run's figures
 
+  fuavelino where ORIGINAL DECODED [options]
+      Tells of each plane of each frame that differs where it does: the first sample, row by row, and the worst tile of 8 by 8.
+      --size WxH --depth D --chroma 420|422|444|400
+                         both files are raw, of this format, as for compare
+      --json             for programs; without it a table for people
+      --map FOLDER       a grey picture (PGM) of each plane that differs, a pixel for each tile, brighter where it is worse; the
+                         folder is made where it is missing, and no file in it is written over
+      --output FILE, --frames N, --strict, --quiet
+                         as for compare
+
   fuavelino clip pattern|damaged FILE [--size WxH] [--depth D] [--chroma C] [--frames N]
       Writes a small Y4M clip: a moving pattern, or the same with a damaged patch in one plane of one frame.
 
   fuavelino --help, fuavelino --version
 
-Status: 0 every asked score was given and every threshold met; 1 a threshold is broken; 2 wrong use; 3 a refusal, an unreadable,
-short or unlike file, no frames, or a report that could not be written.
+Status: 0 every asked score was given and every threshold met, or no sample differs; 1 a threshold is broken, or a sample
+differs; 2 wrong use; 3 a refusal, an unreadable, short or unlike file, no frames, or a report or picture that could not be written.
 ";

@@ -7,6 +7,7 @@ mod compare;
 mod csv;
 mod decibels;
 mod descriptor;
+mod difference;
 mod folder;
 mod format;
 mod frames;
@@ -15,6 +16,7 @@ mod input;
 mod jobs;
 mod json;
 mod list;
+mod locate;
 mod messages;
 mod notes;
 mod opened;
@@ -22,6 +24,8 @@ mod output;
 mod overview;
 mod pairs;
 mod part;
+mod picture;
+mod places;
 mod progress;
 mod report;
 mod score;
@@ -53,6 +57,7 @@ fn done() -> Result<u8, Stop> {
         Asked::Version => Output::standard()?.write(|to| writeln!(to, "fuavelino {}", env!("CARGO_PKG_VERSION")))?,
         Asked::Compare(asked) => return compare::compare(&asked),
         Asked::Pairs(asked) => return pairs::pairs(&asked),
+        Asked::Where(asked) => return locate::locate(&asked),
         Asked::Clip(clip) => clip::write(&clip)?,
     }
     Ok(PASSED)

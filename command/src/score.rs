@@ -73,8 +73,16 @@ impl Refused {
         move |refusal| Refused { plane, score, refusal: Some(refusal), above: None }
     }
 
-    fn no_number(plane: &'static str, score: &'static str) -> impl FnOnce() -> Refused {
+    pub fn no_number(plane: &'static str, score: &'static str) -> impl FnOnce() -> Refused {
         move || Refused { plane, score, refusal: None, above: None }
+    }
+
+    /// With the sample that it is about, where it is about one.
+    pub fn with_sample<T: Stored>(mut self, planes: [&[T]; 2], shape: Shape) -> Refused {
+        if self.refusal == Some(Refusal::Sample) {
+            self.above = Above::find(planes, shape);
+        }
+        self
     }
 
     /// With where it was: a frame, or the run.
@@ -120,13 +128,8 @@ impl Scorer {
             let stride = self.shapes[number].width;
             let a = Plane { data: &original.planes[number][..], stride };
             let b = Plane { data: &decoded.planes[number][..], stride };
-            let scores = self.plane(number, a, b).map_err(|mut refused| {
-                if refused.refusal == Some(Refusal::Sample) {
-                    refused.above = Above::find([a.data, b.data], self.shapes[number]);
-                }
-                refused
-            });
-            planes.push(scores?);
+            let scores = self.plane(number, a, b);
+            planes.push(scores.map_err(|refused| refused.with_sample([a.data, b.data], self.shapes[number]))?);
         }
         let records: Option<Vec<PsnrMetrics>> = planes.iter().map(|plane| plane.error).collect();
         let total = records.map(|records| fuavelino::series(&records).map_err(Refused::of(COMBINED, "squared error")));
