@@ -6,7 +6,7 @@ use crate::part::synced;
 use crate::stop::Fault;
 use fuavelino::{ErrorMap, TILE_SIDE};
 use std::fs::{self, File, OpenOptions};
-use std::io::{self, ErrorKind, Write};
+use std::io::{self, BufWriter, ErrorKind, Write};
 use std::path::Path;
 
 /// The worst tile's.
@@ -32,22 +32,25 @@ pub fn write(folder: &Path, frame: u64, difference: &Difference) -> Result<(), F
         ErrorKind::AlreadyExists => unwritten("it is there already, and is left as it is"),
         _ => unwritten(&error.to_string()),
     })?;
-    filled(file, &pgm(&difference.map, difference.worst.error)).map_err(|error| {
+    filled(file, difference).map_err(|error| {
         // a part of a picture is of no use; what this run made, it may take away
         let _ = fs::remove_file(&path);
         unwritten(&error.to_string())
     })
 }
 
-fn filled(mut file: File, bytes: &[u8]) -> io::Result<()> {
-    file.write_all(bytes)?;
-    synced(&file)
+fn filled(file: File, difference: &Difference) -> io::Result<()> {
+    let mut to = BufWriter::new(file);
+    draw(&mut to, &difference.map, difference.worst.error)?;
+    to.flush()?;
+    synced(to.get_ref())
 }
 
-fn pgm(map: &ErrorMap, worst: u64) -> Vec<u8> {
-    let scale = format!("# squared error of {0}x{0} tiles: {1} is {2}, linear, rounded up", TILE_SIDE, WHITE, worst);
-    let head = format!("P5\n{}\n{} {}\n{}\n", scale, map.across(), map.down(), WHITE);
-    head.bytes().chain(map.errors().iter().map(|error| shade(*error, worst))).collect()
+/// A binary PGM, whose comment tells the scale.
+fn draw(to: &mut dyn Write, map: &ErrorMap, worst: u64) -> io::Result<()> {
+    let scale = format!("squared error of {0}x{0} tiles: {1} is {2}, linear, rounded up", TILE_SIDE, WHITE, worst);
+    write!(to, "P5\n# {}\n{} {}\n{}\n", scale, map.across(), map.down(), WHITE)?;
+    map.errors().iter().try_for_each(|error| to.write_all(&[shade(*error, worst)]))
 }
 
 /// 255 × error / worst, rounded up: no error is black, the worst is white, and the least error is not black.

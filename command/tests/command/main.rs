@@ -2,14 +2,17 @@
 
 mod closed;
 mod documented;
+mod faults;
 mod files;
 mod guards;
 mod hostile;
 mod jobs;
 mod json;
 mod limits;
+mod locate;
 mod messages;
 mod pairs;
+mod pictures;
 mod published;
 mod reports;
 mod run;

@@ -9,7 +9,7 @@ use crate::words;
 fn wrong(a: &str) -> Vec<(Vec<&str>, &'static str)> {
     vec![
         (vec![], "--help"),
-        (vec!["judge"], "no command"),
+        (vec!["judge"], "no command \"judge\"; there are compare, where and clip"),
         (vec!["--help", a], "beside other words"),
         (vec!["help", "compare"], "beside other words"),
         (vec!["-h", "--version"], "beside other words"),
@@ -59,6 +59,21 @@ fn wrong(a: &str) -> Vec<(Vec<&str>, &'static str)> {
         (vec!["compare", a, a, "--frames", "-1"], "--frames takes"),
         (vec!["compare", a, a, "--frames", ""], "--frames takes"),
         (vec!["compare", a, a, "--strict=no"], "takes no value"),
+        (vec!["where"], "where takes two files"),
+        (vec!["where", a], "where takes two files"),
+        (vec!["where", a, a, a], "where takes two files"),
+        (vec!["where", "-", "-"], "standard input"),
+        (vec!["where", a, a, "--help"], "beside other words"),
+        (vec!["where", a, a, "--csv"], "no option \"--csv\""),
+        (vec!["where", a, a, "--min-ssim", "1"], "no option \"--min-ssim\""),
+        (vec!["where", a, a, "--pairs", a], "no option \"--pairs\""),
+        (vec!["where", a, a, "--map"], "--map takes a value"),
+        (vec!["where", a, a, "--map="], "--map takes a folder's name"),
+        (vec!["where", a, a, "--map", "x", "--map", "y"], "--map is given twice"),
+        (vec!["where", a, a, "--json=1"], "takes no value"),
+        (vec!["where", a, a, "--frames", "0"], "--frames takes"),
+        (vec!["where", a, a, "--size", "8x8"], "need all of"),
+        (vec!["where", a, a, "--output", a], "--output names a file that is to be compared"),
         (vec!["clip", "pattern"], "clip takes"),
         (vec!["clip", "noise", "x"], "a clip is"),
         (vec!["clip", "pattern", "x", "--depth", "11"], "no name for depth 11"),
@@ -107,6 +122,7 @@ fn help_and_version() {
         assert!(run(&[word]).passes().contains("fuavelino compare ORIGINAL DECODED"));
     }
     assert!(run(&["compare", "--help"]).passes().contains("--min-ssim"));
+    assert!(run(&["where", "--help"]).passes().contains("--map FOLDER"));
     assert!(run(&["clip", "--help"]).passes().contains("damaged"));
     assert!(run(&["--version"]).passes().starts_with("fuavelino 0."));
 }
