@@ -1,7 +1,7 @@
-//! docs/COMMAND.md names every option, column and field.
+//! docs/COMMAND.md names every command, option, column and field, and its example is what the command prints.
 
 use crate::json::Json;
-use crate::run::{run, Room};
+use crate::run::{run, run_in, Room};
 use crate::video::Video;
 use crate::words;
 
@@ -46,6 +46,45 @@ fn every_field_is_documented() {
     names(&Json::read(&run(&words!["compare", "--pairs", &list, "--json", "--max-error=0"]).out));
     let csv = run(&words!["compare", "--pairs", &list, "--csv"]);
     csv.out.lines().next().unwrap().split(',').take(9).for_each(named);
+    // with a fault, so that its fields are there too
+    let map = room.path("map");
+    std::fs::write(&map, "a file in the place of the folder").unwrap();
+    names(&Json::read(&run(&words!["where", &a, &b, "--json"]).out));
+    names(&Json::read(&run(&words!["where", &a, &b, "--json", "--map", &map]).out));
+}
+
+#[test]
+fn every_command_is_documented() {
+    let help = run(&["--help"]);
+    let commands = help.passes().lines().filter_map(|line| line.strip_prefix("  fuavelino "));
+    let commands: Vec<&str> = commands.filter_map(|line| line.split([' ', ',']).next()).collect();
+    assert_eq!(commands, ["compare", "where", "clip", "--help"]);
+    for command in commands {
+        assert!(
+            DOCUMENT.contains(&format!("\n    fuavelino {}", command)),
+            "docs/COMMAND.md does not show {}",
+            command
+        );
+    }
+}
+
+/// The clips are those of tools/demo.
+#[test]
+fn the_example_of_where_is_what_it_prints() {
+    let room = Room::new("example");
+    let script = "cd \"$1\" && \"$0\" clip pattern original.y4m && \"$0\" clip damaged decoded.y4m && \
+                  \"$0\" where original.y4m decoded.y4m --map errors";
+    let ended = run_in(script, &[room.path("")]);
+    assert_eq!((ended.status, &ended.err[..]), (1, ""));
+    let indented = |line: &str| if line.is_empty() { "\n".to_string() } else { format!("    {}\n", line) };
+    let shown: String = ended.out.lines().map(indented).collect();
+    assert!(DOCUMENT.contains(&shown), "docs/COMMAND.md does not show\n{}", shown);
+    let pictures = std::fs::read_dir(room.path("errors")).unwrap().map(|entry| entry.unwrap());
+    let pictures: Vec<_> = pictures.map(|entry| (entry.file_name(), std::fs::read(entry.path()).unwrap())).collect();
+    assert_eq!(pictures.len(), 1);
+    named(pictures[0].0.to_str().unwrap());
+    let scale = String::from_utf8(pictures[0].1.split(|byte| *byte == b'\n').nth(1).unwrap().to_vec()).unwrap();
+    assert!(DOCUMENT.contains(&indented(&scale)), "docs/COMMAND.md does not show {}", scale);
 }
 
 fn names(json: &Json) {
