@@ -55,7 +55,11 @@ impl Places for Table {
 
     fn end(&mut self, out: &mut dyn Write, end: &End<'_>) -> io::Result<()> {
         if self.begun {
-            writeln!(out, "\nAll are counted from 0. Tiles have {0} by {0} samples, fewer at the edges.", TILE_SIDE)?;
+            writeln!(
+                out,
+                "\nFrames, rows and columns are counted from 0. A tile has {0} by {0} samples, fewer at the edges.",
+                TILE_SIDE
+            )?;
         }
         let frames = if end.frames == 1 { "frame" } else { "frames" };
         let differ = match end.differing {
