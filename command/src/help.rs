@@ -35,7 +35,7 @@ fuavelino: compares a decoded video with its original, and passes only what is s
                          the same of the whole run's figures
 
   fuavelino where ORIGINAL DECODED [options]
-      Tells of each plane of each frame that differs where it does: the first sample, row by row, and the worst tile of 8 by 8.
+      Two files as for compare; of each plane of each frame that differs, the first sample, row by row, and the worst tile of 8x8.
       --size WxH --depth D --chroma 420|422|444|400
                          both files are raw, of this format, as for compare
       --json             for programs; without it a table for people

@@ -57,7 +57,7 @@ fn every_field_is_documented() {
 fn every_command_is_documented() {
     let help = run(&["--help"]);
     let commands = help.passes().lines().filter_map(|line| line.strip_prefix("  fuavelino "));
-    let commands: Vec<&str> = commands.filter_map(|line| line.split([' ', ',']).next()).collect();
+    let commands: Vec<&str> = commands.filter_map(|line| line.split(|c| " ,".contains(c)).next()).collect();
     assert_eq!(commands, ["compare", "where", "clip", "--help"]);
     for command in commands {
         assert!(

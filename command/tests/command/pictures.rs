@@ -18,7 +18,7 @@ struct Picture {
     pixels: Vec<u8>,
 }
 
-/// Takes a binary PGM of 255 greys with one comment after its first word, and nothing else.
+/// Takes a binary PGM with a byte for a pixel and one comment after its first word, and nothing else.
 fn read(path: &Path) -> Picture {
     let bytes = fs::read(path).unwrap();
     let mut parts = bytes.splitn(5, |byte| *byte == b'\n');

@@ -59,6 +59,16 @@ fn wrong(a: &str) -> Vec<(Vec<&str>, &'static str)> {
         (vec!["compare", a, a, "--frames", "-1"], "--frames takes"),
         (vec!["compare", a, a, "--frames", ""], "--frames takes"),
         (vec!["compare", a, a, "--strict=no"], "takes no value"),
+        (vec!["clip", "pattern"], "clip takes"),
+        (vec!["clip", "noise", "x"], "a clip is"),
+        (vec!["clip", "pattern", "x", "--depth", "11"], "no name for depth 11"),
+        (vec!["clip", "pattern", "x", "--frames", "0"], "--frames takes"),
+        (vec!["clip", "pattern", "x", "--size", "0x5"], "refusal 2"),
+    ]
+}
+
+fn wrong_of_where(a: &str) -> Vec<(Vec<&str>, &'static str)> {
+    vec![
         (vec!["where"], "where takes two files"),
         (vec!["where", a], "where takes two files"),
         (vec!["where", a, a, a], "where takes two files"),
@@ -74,11 +84,6 @@ fn wrong(a: &str) -> Vec<(Vec<&str>, &'static str)> {
         (vec!["where", a, a, "--frames", "0"], "--frames takes"),
         (vec!["where", a, a, "--size", "8x8"], "need all of"),
         (vec!["where", a, a, "--output", a], "--output names a file that is to be compared"),
-        (vec!["clip", "pattern"], "clip takes"),
-        (vec!["clip", "noise", "x"], "a clip is"),
-        (vec!["clip", "pattern", "x", "--depth", "11"], "no name for depth 11"),
-        (vec!["clip", "pattern", "x", "--frames", "0"], "--frames takes"),
-        (vec!["clip", "pattern", "x", "--size", "0x5"], "refusal 2"),
     ]
 }
 
@@ -88,7 +93,7 @@ fn wrong_words_are_told() {
     let bytes = Video::new(32, 32, 8, "420", 1, 31).y4m();
     let a = room.file("a.y4m", &bytes);
     let a = a.to_str().unwrap();
-    for (words, message) in wrong(a) {
+    for (words, message) in wrong(a).into_iter().chain(wrong_of_where(a)) {
         let ended = run(&words);
         ended.says(2, &[message]);
         assert_eq!(ended.out, "");
