@@ -97,13 +97,15 @@ fn piece(
     let from_a = y * layout.stride_a + x;
     let from_b = y * layout.stride_b + x;
     if layout.size.wide {
+        if n == TILE_SIDE {
+            return piece16(a16, b16, from_a, from_b, TILE_SIDE);
+        }
         return piece16(a16, b16, from_a, from_b, n);
     }
     if n == TILE_SIDE {
-        piece8(a8, b8, from_a, from_b, TILE_SIDE) as u64
-    } else {
-        piece8(a8, b8, from_a, from_b, n) as u64
+        return piece8(a8, b8, from_a, from_b, TILE_SIDE) as u64;
     }
+    piece8(a8, b8, from_a, from_b, n) as u64
 }
 
 // The squared error of the tile in row j and column i of tiles.

@@ -50,27 +50,46 @@ mul-from-b c = let lent = c .before .before in omega (arith, second-piece (lent 
 add-from-b : tie.Need-add-from-b
 add-from-b c = let lent = c .before .before in omega (arith, second-piece (lent .before .before .before .before), second-fits lent)
 
+-- of words: a full row of a tile, and a shorter one
 piece16-requires : tie.Need-piece16-requires
+unfolding tileSide
 piece16-requires c κs =
-    let lent = c .before .before .before in
+    let lent = c .before .before .before .before in
     let s = lent .before .before .before .before in
-    (rw (c .if1 .taken) at (first-piece s), rw (c .if1 .taken) at (second-piece s), s .pre .1 .2)
+    let wide = c .before .if1 .taken in
+    let full = c .if2 .taken in
+    (rw (wide, full) at (first-piece s), rw (wide, full) at (second-piece s), omega arith)
 
 returns : tie.Need-returns
-returns c = (rw (piece-is, c .before .if1 .taken) (c .piece16 .ensures .0), c .piece16 .ensures .1)
+unfolding tileSide
+returns c = (rw (piece-is, c .before .before .if1 .taken, c .before .if2 .taken) (c .piece16 .ensures .0), c .piece16 .ensures .1)
 
--- a full row of a tile, and a shorter one
+piece16-requires-2 : tie.Need-piece16-requires-2
+piece16-requires-2 c κs =
+    let lent = c .before .before .before .before in
+    let s = lent .before .before .before .before in
+    let wide = c .before .if1 .taken in
+    (rw wide at (first-piece s), rw wide at (second-piece s), s .pre .1 .2)
+
+returns-2 : tie.Need-returns-2
+returns-2 c = (rw (piece-is, c .before .before .if1 .taken) (c .piece162 .ensures .0), c .piece162 .ensures .1)
+
+-- of bytes
 piece8-requires : tie.Need-piece8-requires
 unfolding tileSide
 piece8-requires c κs =
     let lent = c .before .before .before .before in
     let s = lent .before .before .before .before in
     let narrow = c .before .if1 .left in
-    let full = c .if2 .taken in
+    let full = c .if3 .taken in
     (rw (narrow, full) at (first-piece s), rw (narrow, full) at (second-piece s), omega arith)
 
 cast-result : tie.Need-cast-result
 cast-result c = search needs
+
+returns-3 : tie.Need-returns-3
+unfolding tileSide
+returns-3 c = (rw (piece-is, c .before .before .if1 .left, c .before .if3 .taken) (c .piece8 .ensures), omega arith)
 
 piece8-requires-2 : tie.Need-piece8-requires-2
 piece8-requires-2 c κs =
@@ -82,13 +101,9 @@ piece8-requires-2 c κs =
 cast-result-2 : tie.Need-cast-result-2
 cast-result-2 c = search needs
 
-returns-2 : tie.Need-returns-2
+returns-4 : tie.Need-returns-4
 unfolding tileSide
-returns-2 c = (rw (piece-is, c .before .before .if1 .left, c .before .if2 .taken) (c .piece8 .ensures), omega arith)
-
-returns-3 : tie.Need-returns-3
-unfolding tileSide
-returns-3 c = (rw (piece-is, c .before .before .if1 .left) (c .piece82 .ensures), omega arith)
+returns-4 c = (rw (piece-is, c .before .before .if1 .left) (c .piece82 .ensures), omega arith)
 
 pub piece-spec : {M : Type 1} → statement M
 piece-spec =
@@ -100,9 +115,11 @@ piece-spec =
     add-from-b
     piece16-requires
     returns
+    piece16-requires-2
+    returns-2
     piece8-requires
     cast-result
+    returns-3
     piece8-requires-2
     cast-result-2
-    returns-2
-    returns-3)
+    returns-4)
