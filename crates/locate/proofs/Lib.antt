@@ -3,3 +3,5 @@ mod Sides
 mod Sums
 mod Rows
 mod Accept
+pub mod Found
+pub mod Total

@@ -84,7 +84,7 @@ sum-swap f (suc m) n = rw (sum-swap f m n) (sym (sum-add _ (f m) n))
 
 module _ (f : ℕ → ℕ) where
   -- a sum in two parts
-  sum-split : (a b : ℕ) → sumTo f (a + b) ≡ sumTo f a + sumTo (λ (k : ℕ). f (a + k)) b
+  pub sum-split : (a b : ℕ) → sumTo f (a + b) ≡ sumTo f a + sumTo (λ (k : ℕ). f (a + k)) b
   unfolding sumTo
   sum-split a zero = rw (add-zero, add-zero)
   sum-split a (suc b) = rw add-suc (omega (arith, sum-split a b))

@@ -29,7 +29,7 @@ square-same : (a : ℕ) → squareOf a a ≡ 0
 unfolding squareOf
 square-same a = let z : a - a + (a - a) ≡ 0 = omega arith in rw z
 
-square-swap : (a b : ℕ) → squareOf a b ≡ squareOf b a
+pub square-swap : (a b : ℕ) → squareOf a b ≡ squareOf b a
 unfolding squareOf
 square-swap a b = let z : a - b + (b - a) ≡ b - a + (a - b) = omega arith in rw z
 
