@@ -6,6 +6,7 @@ use mathlib.Core.List.{List, [], _∷_, _++_}
 use Prim.Native.Nat.{ℕ, zero, suc, min, _+_, _-_, _*_, _/_, _≤_, _<_}
 use native.Mathlib.Nat.{not-suc-le-zero, mul-le-mul-right, zero-mul, suc-mul, le-of-lt}
 use native.Mathlib.Decide.{decLt}
+use native.Mathlib.Numerals.{add-one}
 use native.Mathlib.Omega.{arith}
 use lib.ListN.{length, getD, drop, List·getD-append}
 use lib.Seq.{getD-append-add}
@@ -70,3 +71,55 @@ sum-grid g (suc m) n = rw (suc-mul, sum-split g (m * n) n, sum-grid g m n)
 tiles-cover : (side t : ℕ) → min side ((t + 1) * tileSide) ≡ min side (t * tileSide) + tileLength side t
 unfolding tileLength tileSide
 tiles-cover side t = omega arith
+
+-- all tiles have all samples
+tiles-all : (side : ℕ) → min side (tilesAlong side * tileSide) ≡ side
+unfolding tilesAlong tileSide
+tiles-all side = omega arith
+
+-- a tile that has a sample begins where the tiles before it end
+tile-begins : (side t x : ℕ) → x < tileLength side t → min side (t * tileSide) ≡ t * tileSide
+unfolding tileLength tileSide
+tile-begins side t x l = omega (arith, l)
+
+tiles-sum : (f : ℕ → ℕ) (side t : ℕ)
+    → sumTo f (min side (t * tileSide)) ≡ sumTo (λ (k : ℕ). sumTo (λ (x : ℕ). f (k * tileSide + x)) (tileLength side k)) t
+unfolding sumTo
+tiles-sum f side zero = let z : min side (0 * tileSide) ≡ 0 = omega (arith, zero-mul tileSide) in rw z (sum-none f)
+tiles-sum f side (suc t) =
+    let more : min side (suc t * tileSide) ≡ min side (t * tileSide) + tileLength side t = rw add-one at (tiles-cover side t) in
+    let last : sumTo (λ (x : ℕ). f (min side (t * tileSide) + x)) (tileLength side t) ≡ sumTo (λ (x : ℕ). f (t * tileSide + x)) (tileLength side t) =
+    sum-ext _ _ (tileLength side t) (λ x l. ap (λ (b : ℕ). f (b + x)) (tile-begins side t x l)) in
+    rw (more, sum-split f (min side (t * tileSide)) (tileLength side t), tiles-sum f side t, last)
+
+-- a sum over a side, tile by tile
+pub sum-tiles : (f : ℕ → ℕ) (side : ℕ)
+    → sumTo f side ≡ sumTo (λ (k : ℕ). sumTo (λ (x : ℕ). f (k * tileSide + x)) (tileLength side k)) (tilesAlong side)
+sum-tiles f side = ap (sumTo f) (sym (tiles-all side)) ∙ tiles-sum f side (tilesAlong side)
+
+module _ (p : Planes) where
+  -- a row of samples, tile by tile
+  row-pieces : (y : ℕ) → rowError p (p .size .width) y
+      ≡ sumTo (λ (i : ℕ). pieceError p (i * tileSide) (tileLength (p .size .width) i) y) (acrossOf p)
+  unfolding rowError pieceError
+  row-pieces y = sum-tiles _ (p .size .width)
+
+  -- the rows of samples in row j of tiles
+  band : (j : ℕ) → sumTo (λ (k : ℕ). rowError p (p .size .width) (j * tileSide + k)) (tileLength (p .size .height) j)
+      ≡ sumTo (tileError p j) (acrossOf p)
+  unfolding tileErrorTo
+  band j =
+      let rows : ℕ = tileLength (p .size .height) j in
+      sum-ext _ _ rows (λ k l. row-pieces (j * tileSide + k)) ∙ sum-swap _ rows (acrossOf p)
+
+  -- the squared error, tile by tile
+  by-tiles : squaredErrorScore p ≡ sumTo (λ (j : ℕ). sumTo (tileError p j) (acrossOf p)) (downOf p)
+  unfolding errorTo
+  by-tiles = sum-tiles (rowError p (p .size .width)) (p .size .height) ∙ sum-ext _ _ (downOf p) (λ j l. band j)
+
+  -- the map's total is the squared error
+  pub map-total : sumTo (at (mapOf p)) (mapPlaces p) ≡ squaredErrorScore p
+  map-total =
+      sum-grid (at (mapOf p)) (downOf p) (acrossOf p)
+      ∙ sum-ext _ _ (downOf p) (λ j lj. sum-ext _ _ (acrossOf p) (λ i li. map-entry p j i lj li))
+      ∙ sym by-tiles
