@@ -201,6 +201,7 @@ module _ (p : Planes) where
       no-error : (n : ℕ) → errorAnswer n (recordOf p) ≡ Identical (recordOf p) → n ≡ 0
       no-error zero t = refl
       no-error (suc n) t = cc
+
       go : (n : ℕ) → byRefusal n (errorAnswer (squaredErrorScore p) (recordOf p)) (compared.Refused n) ≡ Identical (recordOf p)
           → byRefusal n (firstDifference p) (Refused n) ≡ Alike
       go zero t = zero-alike (no-error (squaredErrorScore p) t)

@@ -4,7 +4,7 @@ ghost use Prim.Native.Nat.{_+_, _≤_};
 ghost use lib.ListN.{length};
 ghost use Rattle.plane.specs.Inner.Lent.{planes};
 ghost use Rattle.psnr.specs.Inner.Walk.{Walkable};
-ghost use Rattle.locate.specs.Where.{firstDifference};
+ghost use Rattle.locate.specs.Where.{firstDifference, locatedOf};
 ghost use Rattle.locate.specs.Inner.Walk.{alikeFrom, laid};
 use crate::Located;
 use plane::Layout;
@@ -40,14 +40,14 @@ fn first8(a: &[u8], b: &[u8], layout: Layout) -> Located
 {
     let width = layout.size.width;
     let mut place = Located::Alike;
-    'walk: for y in 0..layout.size.height {
+    'bytes: for y in 0..layout.size.height {
         let from_a = y * layout.stride_a;
         let from_b = y * layout.stride_b;
         if !alike8(a, b, from_a, from_b, width) {
             for x in 0..width {
                 if a[from_a + x] != b[from_b + x] {
                     place = Located::At { row: y, column: x };
-                    break 'walk;
+                    break 'bytes;
                 }
             }
         }
@@ -62,14 +62,14 @@ fn first16(a: &[u16], b: &[u16], layout: Layout) -> Located
 {
     let width = layout.size.width;
     let mut place = Located::Alike;
-    'walk: for y in 0..layout.size.height {
+    'words: for y in 0..layout.size.height {
         let from_a = y * layout.stride_a;
         let from_b = y * layout.stride_b;
         if !alike16(a, b, from_a, from_b, width) {
             for x in 0..width {
                 if a[from_a + x] != b[from_b + x] {
                     place = Located::At { row: y, column: x };
-                    break 'walk;
+                    break 'words;
                 }
             }
         }
@@ -78,7 +78,7 @@ fn first16(a: &[u16], b: &[u16], layout: Layout) -> Located
 }
 
 // Of planes of either width.
-pub fn first(a8: &[u8], a16: &[u16], b8: &[u8], b16: &[u16], layout: Layout) -> Located
+fn first(a8: &[u8], a16: &[u16], b8: &[u8], b16: &[u16], layout: Layout) -> Located
     requires { ⌜ Walkable (planes layout a8 a16 b8 b16) ⌝ }
     ensures { λ r. ⌜ r ≡ firstDifference (planes layout (a8 .entry) (a16 .entry) (b8 .entry) (b16 .entry)) ⌝ }
 {
@@ -87,4 +87,15 @@ pub fn first(a8: &[u8], a16: &[u16], b8: &[u8], b16: &[u16], layout: Layout) -> 
     } else {
         first8(a8, b8, layout)
     }
+}
+
+// The first place at which two planes of either width differ. Every sample is judged before the walk may leave early.
+pub fn answer(a8: &[u8], a16: &[u16], b8: &[u8], b16: &[u16], layout: Layout) -> Located
+    ensures { λ r. ⌜ r ≡ locatedOf (planes layout (a8 .entry) (a16 .entry) (b8 .entry) (b16 .entry)) ⌝ }
+{
+    let no = plane::check(a8, a16, b8, b16, layout, 0);
+    if no != 0 {
+        return Located::Refused(no);
+    }
+    first(a8, a16, b8, b16, layout)
 }

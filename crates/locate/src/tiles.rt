@@ -8,14 +8,16 @@ ghost use Rattle.plane.specs.Inner.Lent.{planes};
 ghost use Rattle.psnr.specs.Squared.{squareOf};
 ghost use Rattle.psnr.specs.Inner.Walk.{wordMost, Walkable, squaresFrom};
 ghost use Rattle.locate.specs.Map.{tileSide, tilesAlong, tilesOf, tileLength, pieceError, tileError, mapPlaces, mapOf};
+ghost use Rattle.locate.specs.Map.{mapRefusal, mappedOf, mapAfter};
 ghost use Rattle.locate.specs.Inner.Walk.{pieceMost};
+use crate::Mapped;
 use plane::Layout;
 
 // The side of a tile.
-pub const TILE_SIDE: usize = 8;
+const TILE_SIDE: usize = 8;
 
 // How many tiles lie along a side.
-pub fn tiles_along(side: usize) -> usize
+fn tiles_along(side: usize) -> usize
     requires { ⌜ side ≤ sideLimit ⌝ }
     ensures { λ r. ⌜ r ≡ tilesAlong side ⌝ }
 {
@@ -152,7 +154,7 @@ fn tile_row(
 }
 
 // All rows of tiles, one after another, into as many places as there are tiles.
-pub fn tiles(a8: &[u8], a16: &[u16], b8: &[u8], b16: &[u16], layout: Layout, map: &mut [u64])
+fn tiles(a8: &[u8], a16: &[u16], b8: &[u8], b16: &[u16], layout: Layout, map: &mut [u64])
     requires { ⌜ Walkable (planes layout a8 a16 b8 b16) ⌝ }
     requires { ⌜ length (now map) ≡ mapPlaces (planes layout a8 a16 b8 b16) ⌝ }
     ensures { λ _. ⌜ now (map .exit) ≡ mapOf (planes layout (a8 .entry) (a16 .entry) (b8 .entry) (b16 .entry)) ⌝ }
@@ -161,5 +163,45 @@ pub fn tiles(a8: &[u8], a16: &[u16], b8: &[u8], b16: &[u16], layout: Layout, map
     for j in 0..tiles_along(layout.size.height) {
         let from = j * across;
         tile_row(a8, a16, b8, b16, layout, j, &mut map[from..from + across]);
+    }
+}
+
+// The lowest of 1 2 4 5 6 8 that applies, and 0 where none does. `lent` is how many places there are.
+fn refusal(a8: &[u8], a16: &[u16], b8: &[u8], b16: &[u16], layout: Layout, lent: usize) -> u8
+    ensures { λ r. ⌜ r ≡ mapRefusal (planes layout (a8 .entry) (a16 .entry) (b8 .entry) (b16 .entry)) lent ⌝ }
+{
+    let no = plane::check(a8, a16, b8, b16, layout, 0);
+    if no != 0 {
+        return no;
+    }
+    if lent < places(layout.size.width, layout.size.height) {
+        return refusal::SCRATCH;
+    }
+    0
+}
+
+// The map of two planes of either width.
+pub fn answer(
+    a8: &[u8],
+    a16: &[u16],
+    b8: &[u8],
+    b16: &[u16],
+    layout: Layout,
+    map: &mut [u64],
+) -> Mapped
+    ensures { λ r. ⌜ r ≡ mappedOf (planes layout (a8 .entry) (a16 .entry) (b8 .entry) (b16 .entry)) (now (map .entry)) ⌝ }
+    ensures { λ _. ⌜ now (map .exit) ≡ mapAfter (planes layout (a8 .entry) (a16 .entry) (b8 .entry) (b16 .entry)) (now (map .entry)) ⌝ }
+{
+    let no = refusal(a8, a16, b8, b16, layout, map.len());
+    if no != 0 {
+        return Mapped::Refused(no);
+    }
+    let width = layout.size.width;
+    let height = layout.size.height;
+    let need = places(width, height);
+    tiles(a8, a16, b8, b16, layout, &mut map[..need]);
+    Mapped::Tiles {
+        across: tiles_along(width),
+        down: tiles_along(height),
     }
 }

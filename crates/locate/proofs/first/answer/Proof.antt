@@ -1,12 +1,12 @@
--- `locate::place_answer` meets its contract. Assumes nothing.
+-- `locate::first::answer` meets its contract. Assumes nothing.
 use mathlib.Core.Path.{_≡_, sym, _∙_}
 use borrow.Author.Needs.{needs}
 use Rattle.refusal.proofs.Chain.{refused}
 use Rattle.plane.proofs.Accept.{accepted}
 use Rattle.psnr.proofs.Squares.{walkable}
 use Rattle.locate.specs.Where.{locatedOf}
-use Rattle.locate.proofs.place_answer.Statement.{statement}
-use Rattle.locate.proofs.place_answer.Tie as tie
+use Rattle.locate.proofs.first.answer.Statement.{statement}
+use Rattle.locate.proofs.first.answer.Tie as tie
 
 check-requires : tie.Need-check-requires
 check-requires c κs = search needs
@@ -22,5 +22,5 @@ returns-2 : tie.Need-returns-2
 unfolding locatedOf
 returns-2 c = rw (sym (c .before .before .check .ensures) ∙ c .before .if1 .left) (c .first .ensures)
 
-pub place-answer-spec : {M : Type 1} → statement M
-place-answer-spec = tie.close (tie.spec check-requires returns first-requires returns-2)
+pub answer-spec : {M : Type 1} → statement M
+answer-spec = tie.close (tie.spec check-requires returns first-requires returns-2)

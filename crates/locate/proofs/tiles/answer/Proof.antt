@@ -1,4 +1,4 @@
--- `locate::map_answer` meets its contract. Assumes nothing.
+-- `locate::tiles::answer` meets its contract. Assumes nothing.
 use mathlib.Core.Path.{_≡_, sym, _∙_}
 use Prim.Native.Nat.{_≤_}
 use native.Mathlib.Omega.{arith}
@@ -13,8 +13,8 @@ use Rattle.plane.specs.Inner.Lawful.{AcceptedPair}
 use Rattle.psnr.proofs.Squares.{walkable}
 use Rattle.locate.specs.Map.{mapPlaces, mappedOf, mapAfter}
 use Rattle.locate.proofs.Accept.{map-taken, mapped-is, after-is}
-use Rattle.locate.proofs.map_answer.Statement.{statement}
-use Rattle.locate.proofs.map_answer.Tie as tie
+use Rattle.locate.proofs.tiles.answer.Statement.{statement}
+use Rattle.locate.proofs.tiles.answer.Tie as tie
 
 -- the two planes, and the function's start, from where no test refuses
 abbrev both : tie.Start → Planes
@@ -25,14 +25,14 @@ start c = let known = c .before .before in known .before .before .before .before
 
 -- there the planes are lawful, and the places enough
 taken : (c : tie.Else1) → AcceptedPair (both (start c)) 0 × (mapPlaces (both (start c)) ≤ length (now (start c .args .map)))
-taken c = map-taken _ _ (c .before .map-refusal .ensures) (c .if1 .left)
+taken c = map-taken _ _ (c .before .refusal .ensures) (c .if1 .left)
 
-map-refusal-requires : tie.Need-map-refusal-requires
-map-refusal-requires c κs = search needs
+refusal-requires : tie.Need-refusal-requires
+refusal-requires c κs = search needs
 
 returns : tie.Need-returns
 unfolding mappedOf mapAfter
-returns c = rw (← (c .before .map-refusal .ensures)) (refused _ _ _ (c .if1 .taken), refused _ _ _ (c .if1 .taken))
+returns c = rw (← (c .before .refusal .ensures)) (refused _ _ _ (c .if1 .taken), refused _ _ _ (c .if1 .taken))
 
 places-requires : tie.Need-places-requires
 places-requires c κs = let sized = taken c .0 .sized in (sized .width-most, sized .height-most)
@@ -70,17 +70,17 @@ returns-2 : tie.Need-returns-2
 returns-2 c =
     let back = c .before .before in
     let n = past back in
-    let e = n .before .map-refusal .ensures in
+    let e = n .before .refusal .ensures in
     let z = n .if1 .left in (
       mapped-is _ _ e z (c .before .tiles-along .ensures) (c .tiles-along2 .ensures),
       after-is _ _ e z (back .before .before .before .before .places .ensures) (back .before .before .tiles .ensures),
     )
 
-pub map-answer-spec : {M : Type 1} → statement M
-map-answer-spec =
+pub answer-spec : {M : Type 1} → statement M
+answer-spec =
     tie.close
     (tie.spec
-    map-refusal-requires
+    refusal-requires
     returns
     places-requires
     slice-relend-prefix-tiles

@@ -1,10 +1,10 @@
--- `locate::map_refusal` meets its contract. Assumes nothing.
+-- `locate::tiles::refusal` meets its contract. Assumes nothing.
 use mathlib.Core.Path.{sym, _∙_}
 use borrow.Author.Needs.{needs}
 use Rattle.plane.proofs.Accept.{accepted}
 use Rattle.locate.proofs.Accept.{planes-refuse, places-refuse, none-refuses}
-use Rattle.locate.proofs.map_refusal.Statement.{statement}
-use Rattle.locate.proofs.map_refusal.Tie as tie
+use Rattle.locate.proofs.tiles.refusal.Statement.{statement}
+use Rattle.locate.proofs.tiles.refusal.Tie as tie
 
 check-requires : tie.Need-check-requires
 check-requires c κs = search needs
@@ -26,5 +26,5 @@ returns-3 c =
     none-refuses _ _ (c .before .before .before .check .ensures) (c .before .before .if1 .left)
     (rw (c .before .places .ensures) at (c .if2 .left))
 
-pub map-refusal-spec : {M : Type 1} → statement M
-map-refusal-spec = tie.close (tie.spec check-requires returns places-requires returns-2 returns-3)
+pub refusal-spec : {M : Type 1} → statement M
+refusal-spec = tie.close (tie.spec check-requires returns places-requires returns-2 returns-3)
