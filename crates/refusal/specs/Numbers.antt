@@ -29,7 +29,7 @@ sampleNo = 6
 abbrev pub kernelNo : ℕ
 kernelNo = 7
 
--- any lent scratch too short
+-- any lent scratch or a lent map too short
 abbrev pub scratchNo : ℕ
 scratchNo = 8
 

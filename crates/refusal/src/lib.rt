@@ -15,7 +15,7 @@ pub const SHORT: u8 = 5;
 pub const SAMPLE: u8 = 6;
 // The lent kernel is unlawful.
 pub const KERNEL: u8 = 7;
-// Lent scratch is too short.
+// Lent scratch or a lent map is too short.
 pub const SCRATCH: u8 = 8;
 // The defined score is infinite or not a number.
 pub const NOT_FINITE: u8 = 9;
