@@ -39,4 +39,5 @@ module _ (p : Planes) where
       let start : length (take (j * n) map) ≡ j * n = length-take-le (j * n) map (omega arith) in
       let count : length row ≡ n = ap length said ∙ list-length (tileError p j) (acrossOf p) ∙ sym e in
       let both : length (take (j * n) map ++ row) ≡ j * n + n = rw (length-append, start, count) in
-      rw (rows-next j n, ← (append-assoc (take (j * n) map) row (postOf (j * n) (j * n + n - j * n) map)), take-at _ (postOf (j * n) (j * n + n - j * n) map) _ both, held, said, add-one)
+      let rest : List ℕ = postOf (j * n) (j * n + n - j * n) map in
+      rw (rows-next j n, ← (append-assoc (take (j * n) map) row rest), take-at _ rest _ both, held, said, add-one)

@@ -1,7 +1,5 @@
 -- Tiles along a side: each lies inside it, and there are few. Assumes nothing.
-use mathlib.Core.Path.{_≡_, refl, sym}
-use Prim.Native.Nat.{ℕ, min, _+_, _-_, _*_, _/_, _≤_, _<_}
-use native.Mathlib.Nat.{min-eq-left, min-eq-right}
+use Prim.Native.Nat.{ℕ, _+_, _*_, _≤_, _<_}
 use native.Mathlib.Omega.{arith}
 use Rattle.locate.specs.Map.{tileSide, tilesAlong, tileLength}
 

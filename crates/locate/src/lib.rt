@@ -87,7 +87,8 @@ pub fn error_map8(
     map: &mut [u64],
 ) -> Mapped
     ensures { λ r. ⌜ r ≡ mappedOf (called false (a .entry) (b .entry) width height «stride_a» «stride_b» depth) (now (map .entry)) ⌝ }
-    ensures { λ _. ⌜ now (map .exit) ≡ mapAfter (called false (a .entry) (b .entry) width height «stride_a» «stride_b» depth) (now (map .entry)) ⌝ }
+    ensures { λ _. ⌜ now (map .exit) ≡ mapAfter
+        (called false (a .entry) (b .entry) width height «stride_a» «stride_b» depth) (now (map .entry)) ⌝ }
 {
     let size = Size {
         wide: false,
@@ -115,7 +116,8 @@ pub fn error_map16(
     map: &mut [u64],
 ) -> Mapped
     ensures { λ r. ⌜ r ≡ mappedOf (called true (a .entry) (b .entry) width height «stride_a» «stride_b» depth) (now (map .entry)) ⌝ }
-    ensures { λ _. ⌜ now (map .exit) ≡ mapAfter (called true (a .entry) (b .entry) width height «stride_a» «stride_b» depth) (now (map .entry)) ⌝ }
+    ensures { λ _. ⌜ now (map .exit) ≡ mapAfter
+        (called true (a .entry) (b .entry) width height «stride_a» «stride_b» depth) (now (map .entry)) ⌝ }
 {
     let size = Size {
         wide: true,

@@ -3,7 +3,7 @@ use mathlib.Core.Bool.{Bool}
 use mathlib.Core.List.{List}
 use Prim.Native.Nat.{ℕ, _+_, _*_}
 use lib.Dec.{eqb}
-use Rattle.plane.specs.Plane.{Plane, Planes, planesOf, planeOf, at, allTo}
+use Rattle.plane.specs.Plane.{Planes, planesOf, planeOf, at, allTo}
 use Rattle.plane.specs.declared.Layout.{Layout}
 use Rattle.psnr.specs.Inner.Walk.{wordMost}
 use Rattle.locate.specs.Map.{tileSide}

@@ -1,5 +1,5 @@
 -- `locate::first::answer` meets its contract. Assumes nothing.
-use mathlib.Core.Path.{_≡_, sym, _∙_}
+use mathlib.Core.Path.{sym, _∙_}
 use borrow.Author.Needs.{needs}
 use Rattle.refusal.proofs.Chain.{refused}
 use Rattle.plane.proofs.Accept.{accepted}

@@ -1,7 +1,5 @@
 -- `locate::tiles::places` meets its contract. Assumes nothing.
-use mathlib.Core.Path.{_≡_}
 use native.Mathlib.Nat.{le-trans}
-use native.Mathlib.Omega.{arith}
 use borrow.Author.Needs.{needs}
 use Rattle.plane.proofs.Limits.{area-fits}
 use Rattle.locate.proofs.Sides.{along-most}

@@ -37,7 +37,7 @@ abbrev measured : tie.At-loop Inv-loop μ-loop → tie.After-tile-length2 Inv-lo
 measured l = l .before
 
 abbrev start : tie.At-loop Inv-loop μ-loop → tie.Start Inv-loop μ-loop
-start l = measured l .before .before .before .before .before .before
+start l = let lent = measured l .before .before in lent .before .before .before .before
 
 tile-length-requires : tie.Need-tile-length-requires Inv-loop μ-loop
 tile-length-requires c κs = le-of-lt (column (c .before .before .before .before))

@@ -1,6 +1,6 @@
 -- `locate::tiles::tiles` meets its contract. The loop's invariant: the first places have the rows of tiles passed. Assumes nothing.
 use mathlib.Core.Path.{_≡_, refl, sym, ap, ap₂, _∙_}
-use Prim.Native.Nat.{ℕ, _+_, _-_, _*_, _≤_, _<_}
+use Prim.Native.Nat.{ℕ, _+_, _-_, _*_, _≤_}
 use native.Mathlib.Nat.{mul-le-mul-right}
 use native.Mathlib.Omega.{arith}
 use borrow.Author.Needs.{needs}
@@ -79,7 +79,10 @@ tile-row-requires c κs =
     let s = start (counted l) in
     let across = counted l .before .tiles-along in (
       s .pre .0,
-      (omega (arith, counted l .tiles-along2 .ensures), part-length (l .loop .j * across .result) (across .result) (l .loop .map) (room (c .before)) ∙ across .ensures),
+      (
+        omega (arith, counted l .tiles-along2 .ensures),
+        part-length (l .loop .j * across .result) (across .result) (l .loop .map) (room (c .before)) ∙ across .ensures,
+      ),
     )
 
 add-j : tie.Need-add-j Inv-loop μ-loop
