@@ -2,24 +2,16 @@
 use mathlib.Core.Path.{_≡_, sym, ap, _∙_}
 use mathlib.Core.List.{List, _++_, append-assoc}
 use Prim.Native.Nat.{ℕ, zero, suc, _+_, _-_, _*_, _≤_}
-use native.Mathlib.Nat.{zero-mul, add-mul, one-mul, suc-mul}
+use native.Mathlib.Nat.{zero-mul, suc-mul}
 use native.Mathlib.Numerals.{add-one}
 use native.Mathlib.Omega.{arith}
 use borrow.Rule.Slice.PartMut.{putMid, postOf}
-use lib.ListN.{length, take, drop, length-append, length-take, length-drop}
+use lib.ListN.{length, take, length-append}
 use lib.Seq.{take-at, length-take-le}
 use Rattle.number.specs.Steps.{listTo}
 use Rattle.number.proofs.Lists.{list-length}
 use Rattle.plane.specs.Plane.{Planes}
 use Rattle.locate.specs.Map.{acrossOf, tileError, mapTo}
-
--- so many rows of tiles, and one more
-pub rows-next : (j n : ℕ) → (j + 1) * n ≡ j * n + n
-rows-next j n = rw (add-mul j 1 n, one-mul n)
-
--- the places of a row of tiles are as many as its tiles
-pub part-length : (from n : ℕ) (map : List ℕ) → from + n ≤ length map → length (take (from + n - from) (drop from map)) ≡ n
-part-length from n map room = simp (length-take, length-drop) (omega arith)
 
 module _ (p : Planes) where
   pub map-length : (n : ℕ) → length (mapTo p n) ≡ n * acrossOf p
@@ -40,4 +32,4 @@ module _ (p : Planes) where
       let count : length row ≡ n = ap length said ∙ list-length (tileError p j) (acrossOf p) ∙ sym e in
       let both : length (take (j * n) map ++ row) ≡ j * n + n = rw (length-append, start, count) in
       let rest : List ℕ = postOf (j * n) (j * n + n - j * n) map in
-      rw (rows-next j n, ← (append-assoc (take (j * n) map) row rest), take-at _ rest _ both, held, said, add-one)
+      rw (add-one, suc-mul, ← (append-assoc (take (j * n) map) row rest), take-at _ rest _ both, held, said)

@@ -1,7 +1,7 @@
 -- `locate::tiles::tiles` meets its contract. The loop's invariant: the first places have the rows of tiles passed. Assumes nothing.
 use mathlib.Core.Path.{_≡_, refl, sym, ap, ap₂, _∙_}
-use Prim.Native.Nat.{ℕ, _+_, _-_, _*_, _≤_}
-use native.Mathlib.Nat.{mul-le-mul-right}
+use Prim.Native.Nat.{ℕ, suc, _+_, _-_, _*_, _≤_}
+use native.Mathlib.Nat.{mul-le-mul-right, suc-mul}
 use native.Mathlib.Omega.{arith}
 use borrow.Author.Needs.{needs}
 use borrow.Rule.Slice.PartMut.{same-len-mid}
@@ -10,8 +10,9 @@ use lib.ListN.{length, take}
 use lib.Seq.{take-all}
 use Rattle.plane.specs.Plane.{Planes}
 use Rattle.plane.specs.Inner.Lent.{planesIn, planes}
+use Rattle.plane.proofs.Rows.{part-length}
 use Rattle.locate.specs.Map.{tilesAlong, mapTo}
-use Rattle.locate.proofs.Rows.{rows-next, part-length, map-none, map-more}
+use Rattle.locate.proofs.Rows.{map-none, map-more}
 use Rattle.locate.proofs.tiles.tiles.Statement.{statement}
 use Rattle.locate.proofs.tiles.tiles.Tie as tie
 
@@ -52,8 +53,8 @@ room : (c : tie.In-loop Inv-loop μ-loop) → let across = counted (c .before) .
 room c =
     let l = c .before in
     let across = counted l .before .tiles-along .result in
-    let less : l .loop .j + 1 ≤ counted l .tiles-along2 .result = omega arith in
-    omega (arith, mul-le-mul-right across less, rows-next (l .loop .j) across, places (counted l), l .loop .inv .1)
+    let less : suc (l .loop .j) ≤ counted l .tiles-along2 .result = omega arith in
+    omega (arith, mul-le-mul-right across less, suc-mul (l .loop .j) across, places (counted l), l .loop .inv .1)
 
 mul-from : tie.Need-mul-from Inv-loop μ-loop
 mul-from c = omega (arith, room c)
@@ -81,7 +82,7 @@ tile-row-requires c κs =
       s .pre .0,
       (
         omega (arith, counted l .tiles-along2 .ensures),
-        part-length (l .loop .j * across .result) (across .result) (l .loop .map) (room (c .before)) ∙ across .ensures,
+        part-length (l .loop .map) (across .result) (across .result) (l .loop .j) (room (c .before)) ∙ across .ensures,
       ),
     )
 
