@@ -1,7 +1,7 @@
 -- What each test says where it passes; `accepted`: where no test refuses, every fact of `Accepted` holds; and `passes`, the other way
 -- round: where they hold, no test refuses. Assumes nothing.
 use mathlib.Core.Path.{_≡_, refl}
-use mathlib.Core.Bool.{Bool, true, _&&_}
+use mathlib.Core.Bool.{true, _&&_}
 use mathlib.Core.List.{List, [], _∷_}
 use Prim.Native.Nat.{ℕ, _≤_, _<_}
 use borrow.Author.Tests.{leb-true, le-leb}
@@ -52,7 +52,7 @@ module _ (size : Size) (p : Plane) where
       record { stride-least = stride .0; stride-most = stride .1; bounded = record { long = long-says l; small = samples-say m } }
 
 -- 1, 2 and 3
-sized : (size : Size) (least : ℕ) → depthSuits (size .wide) (size .depth) ≡ true → sidesSuit (size .width) (size .height) ≡ true
+pub sized : (size : Size) (least : ℕ) → depthSuits (size .wide) (size .depth) ≡ true → sidesSuit (size .width) (size .height) ≡ true
     → sidesReach least (size .width) (size .height) ≡ true → Sized size least
 sized size least d s r =
     let depths = depth-says (size .wide) (size .depth) d in

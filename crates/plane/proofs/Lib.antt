@@ -5,4 +5,5 @@ pub mod Depth
 pub mod Rows
 pub mod Accept
 pub mod Several
+pub mod Unread
 pub mod Exchange

@@ -35,7 +35,7 @@ module _ (samples : List ℕ) (stride width y : ℕ) where
       let e : y * stride + width - y * stride ≡ width = omega arith in
       rw e (length-take-le width (drop (y * stride) samples) (simp length-drop (omega arith)))
 
-  part-at : (x : ℕ) → x < width → at (part samples stride width y) x ≡ sampleAt (planeOf samples stride) y x
+  pub part-at : (x : ℕ) → x < width → at (part samples stride width y) x ≡ sampleAt (planeOf samples stride) y x
   part-at x l =
       let e : y * stride + width - y * stride ≡ width = omega arith in
       rw (e, getD-take width (drop (y * stride) samples) x 0 l, getD-drop (y * stride) samples x 0)

@@ -43,15 +43,15 @@ unfolding layoutTests
 one-more size p q more =
     simp and-true (both (strideSuits (size .width) (p .stride)) (longEnough size p) (samplesSuit size p) _ _ _)
 
--- ---- after `size_refusal`, which answered n
+-- ---- after `size_refusal`, which answered n: `more` are the tests of the planes
 module _ {n : ℕ} (size : Size) (least : ℕ) (e : n ≡ firstBroken (sizeTests size least)) where
   -- it refused: that is the answer
-  pub sizes-stop : (planes : List Plane) → (n ≡ 0 → ⊥) → n ≡ planeRefusal size planes least
-  sizes-stop planes h = stop (sizeTests size least) (layoutTests size planes) e h
+  pub sizes-stop : (more : List (ℕ × Bool)) → (n ≡ 0 → ⊥) → n ≡ firstBroken (sizeTests size least ++ more)
+  sizes-stop more h = stop (sizeTests size least) more e h
 
-  -- it did not: the answer is that of the tests of the planes
-  pub sizes-pass : {m : ℕ} (planes : List Plane) → n ≡ 0 → m ≡ firstBroken (layoutTests size planes) → m ≡ planeRefusal size planes least
-  sizes-pass planes z f = go-on (sizeTests size least) (layoutTests size planes) (size-named size least) e z f
+  -- it did not: the answer is theirs
+  pub sizes-pass : {m : ℕ} (more : List (ℕ × Bool)) → n ≡ 0 → m ≡ firstBroken more → m ≡ firstBroken (sizeTests size least ++ more)
+  sizes-pass more z f = go-on (sizeTests size least) more (size-named size least) e z f
 
   -- and these may count on so much
   pub sizes-say : n ≡ 0 → (depthSuits (size .wide) (size .depth) ≡ true) × (1 ≤ size .width)

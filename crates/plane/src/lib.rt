@@ -9,6 +9,7 @@ ghost use Rattle.refusal.specs.First.{firstBroken};
 ghost use Rattle.plane.specs.Limits.{mostDepth};
 ghost use Rattle.plane.specs.Plane.{called, maxOf, at, allTo};
 ghost use Rattle.plane.specs.Inner.Lent.{samplesOf, lent, planes, Long, lowerOf};
+ghost use Rattle.plane.specs.Inner.Unread.{lentTests, unreadRefusal};
 ghost use Rattle.plane.specs.Tests.{depthSuits, sidesSuit, sidesReach, strideSuits, longEnough};
 ghost use Rattle.plane.specs.Tests.{noneAbove, rowSuits, samplesSuit, sizeTests, layoutTests, pairRefusal};
 
@@ -35,7 +36,7 @@ pub struct Layout {
 }
 
 // The largest byte.
-const BYTE_MAX: u32 = 255;
+pub const BYTE_MAX: u32 = 255;
 
 // Test 1. Bytes carry depths 1 to 8, words carry 9 to 12.
 pub fn depth_suits(wide: bool, depth: u32) -> bool
@@ -111,7 +112,7 @@ pub fn long_enough(bytes: &[u8], words: &[u16], size: Size, stride: usize) -> bo
 }
 
 // Whether no sample of a row is above `max`. A row is walked to its end, whatever it holds: such a loop is vectorised.
-fn row_suits8(row: &[u8], max: u8) -> bool
+pub fn row_suits8(row: &[u8], max: u8) -> bool
     ensures { λ r. ⌜ r ≡ noneAbove max (at (now (row .entry))) (length (now (row .entry))) ⌝ }
 {
     let mut ok = true;
@@ -190,17 +191,29 @@ pub fn size_refusal(size: Size, least: usize) -> u8
     0
 }
 
-// The lowest of 4, 5 and 6 that applies to one plane, and 0 where none does.
-pub fn layout_refusal(bytes: &[u8], words: &[u16], size: Size, stride: usize) -> u8
-    requires { ⌜ depthSuits (size .wide) (size .depth) ≡ true ⌝ }
+// The lowest of 4 and 5 that applies to one plane, and 0 where none does.
+fn lent_refusal(bytes: &[u8], words: &[u16], size: Size, stride: usize) -> u8
     requires { ⌜ 1 ≤ size .width ⌝ }
-    ensures { λ r. ⌜ r ≡ firstBroken (layoutTests size (lent size (bytes .entry) (words .entry) stride ∷ [])) ⌝ }
+    ensures { λ r. ⌜ r ≡ firstBroken (lentTests size (lent size (bytes .entry) (words .entry) stride ∷ [])) ⌝ }
 {
     if !stride_suits(size.width, stride) {
         return refusal::STRIDE;
     }
     if !long_enough(bytes, words, size, stride) {
         return refusal::SHORT;
+    }
+    0
+}
+
+// The lowest of 4, 5 and 6 that applies to one plane, and 0 where none does.
+pub fn layout_refusal(bytes: &[u8], words: &[u16], size: Size, stride: usize) -> u8
+    requires { ⌜ depthSuits (size .wide) (size .depth) ≡ true ⌝ }
+    requires { ⌜ 1 ≤ size .width ⌝ }
+    ensures { λ r. ⌜ r ≡ firstBroken (layoutTests size (lent size (bytes .entry) (words .entry) stride ∷ [])) ⌝ }
+{
+    let no = lent_refusal(bytes, words, size, stride);
+    if no != 0 {
+        return no;
     }
     if !samples_suit(bytes, words, size, stride) {
         return refusal::SAMPLE;
@@ -232,6 +245,26 @@ pub fn check(a8: &[u8], a16: &[u16], b8: &[u8], b16: &[u16], layout: Layout, lea
     let no_a = layout_refusal(a8, a16, layout.size, layout.stride_a);
     let no_b = layout_refusal(b8, b16, layout.size, layout.stride_b);
     lower(no_a, no_b)
+}
+
+// The lowest of 1 to 5 that applies to them, and 0 where none does: for a call that judges 6 while it reads.
+pub fn check_unread(
+    a8: &[u8],
+    a16: &[u16],
+    b8: &[u8],
+    b16: &[u16],
+    layout: Layout,
+    least: usize,
+) -> u8
+    ensures { λ r. ⌜ r ≡ unreadRefusal (planes layout (a8 .entry) (a16 .entry) (b8 .entry) (b16 .entry)) least ⌝ }
+{
+    let no = size_refusal(layout.size, least);
+    if no != 0 {
+        return no;
+    }
+    let first = lent_refusal(a8, a16, layout.size, layout.stride_a);
+    let second = lent_refusal(b8, b16, layout.size, layout.stride_b);
+    lower(first, second)
 }
 
 // The lowest of 1 to 6 that applies to two planes of bytes, and 0 where none does. `least` is the least side of the call, 0 where 3 is
