@@ -1,4 +1,6 @@
 pub mod Squares
+mod Parts
+mod Walks
 mod Whole
 mod Records
 pub mod Fold

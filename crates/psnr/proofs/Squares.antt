@@ -47,7 +47,7 @@ unfolding squareOf
 square-le m a b la lb = let l : apart a b ≤ m = omega arith in mul-le-mul l l
 
 -- none of the first n samples of row y is above m
-abbrev SmallRow : ℕ → ℕ → Plane → ℕ → Type 0
+abbrev pub SmallRow : ℕ → ℕ → Plane → ℕ → Type 0
 SmallRow m n p y = (x : ℕ) → x < n → sampleAt p y x ≤ m
 
 row-le : (m : ℕ) (p : Planes) (n y : ℕ) → SmallRow m n (p .a) y → SmallRow m n (p .b) y → rowError p n y ≤ n * (m * m)
@@ -75,17 +75,17 @@ unfolding totalLimit
 total-fits = lit< tt
 
 -- so that the double is exact
-module _ {p : Planes} {y : ℕ} (w : Walkable p) (l : y ≤ p .size .height) where
-  pub error-below : errorTo p y < totalLimit
-  error-below =
-      lt-of-le-of-lt
-      (error-le sampleLimit p y
-      (λ k lk x lx. w .bounded .first .small k x (omega arith) lx)
-      (λ k lk x lx. w .bounded .second .small k x (omega arith) lx))
-      (lt-of-le-of-lt (mul-le-mul (le-trans l (w .height-most)) (mul-le-mul-right top (w .width-most))) limits-fit)
+pub total-below : (p : Planes) (n : ℕ) → p .size .width ≤ sideLimit → n ≤ sideLimit
+    → ((y : ℕ) → y < n → SmallRow sampleLimit (p .size .width) (p .a) y) → ((y : ℕ) → y < n → SmallRow sampleLimit (p .size .width) (p .b) y)
+    → errorTo p n < totalLimit
+total-below p n w l sa sb =
+    lt-of-le-of-lt (error-le sampleLimit p n sa sb) (lt-of-le-of-lt (mul-le-mul l (mul-le-mul-right top w)) limits-fit)
 
-  pub error-room : errorTo p y < 2 ^ 64
-  error-room = omega (arith, error-below, total-fits)
+pub error-below : {p : Planes} {y : ℕ} → Walkable p → y ≤ p .size .height → errorTo p y < totalLimit
+error-below {p} {y} w l =
+    total-below p y (w .width-most) (le-trans l (w .height-most))
+    (λ k lk x lx. w .bounded .first .small k x (omega arith) lx)
+    (λ k lk x lx. w .bounded .second .small k x (omega arith) lx)
 
 -- ---- what the walk may count on
 -- no sample of a depth is above the largest of any

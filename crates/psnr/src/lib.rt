@@ -3,11 +3,12 @@ ghost use mathlib.Core.Path.{_≡_};
 ghost use mathlib.Core.Bool.{true, false};
 ghost use Rattle.plane.specs.Plane.{called};
 ghost use Rattle.plane.specs.Inner.Lent.{planes};
-ghost use Rattle.psnr.specs.Squared.{squaredErrorRefusal, squaredErrorOf};
+ghost use Rattle.psnr.specs.Squared.{squaredErrorOf};
 ghost use Rattle.psnr.specs.Series.{seriesOf};
 ghost use Rattle.psnr.specs.Inner.Fold.{runWith, runStart, runStep, runFinish};
 use plane::Layout;
 use plane::Size;
+use walk::Walked;
 
 pub mod judge;
 pub mod walk;
@@ -61,33 +62,30 @@ pub enum Run {
     Spoiled,
 }
 
-// The lowest of 1 2 4 5 6 that applies, and 0 where none does.
-fn refusal(a8: &[u8], a16: &[u16], b8: &[u8], b16: &[u16], layout: Layout) -> u8
-    ensures { λ r. ⌜ r ≡ squaredErrorRefusal (planes layout (a8 .entry) (a16 .entry) (b8 .entry) (b16 .entry)) ⌝ }
-{
-    plane::check(a8, a16, b8, b16, layout, 0)
-}
-
-// The answer for two planes of either width, the samples of each as bytes and as words.
+// The answer for two planes of either width, the samples of each as bytes and as words. 6, the last of its refusals, is judged on the walk.
 fn answer(a8: &[u8], a16: &[u16], b8: &[u8], b16: &[u16], layout: Layout) -> SquaredError
     ensures { λ r. ⌜ r ≡ squaredErrorOf (planes layout (a8 .entry) (a16 .entry) (b8 .entry) (b16 .entry)) ⌝ }
 {
-    let no = refusal(a8, a16, b8, b16, layout);
+    let no = plane::check_unread(a8, a16, b8, b16, layout, 0);
     if no != 0 {
         return SquaredError::Refused(no);
     }
     let width = layout.size.width;
     let height = layout.size.height;
-    let error = walk::score(a8, a16, b8, b16, layout);
-    let record = Record {
-        sq_err: number::exact(error),
-        n: (width * height) as u64,
-        sample_max: plane::sample_max(layout.size.depth),
-    };
-    if error == 0 {
-        SquaredError::Identical(record)
-    } else {
-        SquaredError::Differs(record)
+    match walk::rows(a8, a16, b8, b16, layout) {
+        Walked::Sum(error) => {
+            let record = Record {
+                sq_err: number::exact(error),
+                n: (width * height) as u64,
+                sample_max: plane::sample_max(layout.size.depth),
+            };
+            if error == 0 {
+                SquaredError::Identical(record)
+            } else {
+                SquaredError::Differs(record)
+            }
+        }
+        Walked::Above => SquaredError::Refused(refusal::SAMPLE),
     }
 }
 

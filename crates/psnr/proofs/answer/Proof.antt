@@ -1,4 +1,4 @@
--- `psnr::answer` meets its contract. Assumes nothing.
+-- `psnr::answer` meets its contract: 1 to 5 are judged first, 6 on the walk. Assumes nothing.
 use mathlib.Core.Path.{_≡_, refl, sym, _∙_}
 use Prim.Native.Nat.{ℕ, zero, suc}
 use native.Mathlib.Nat.{le-of-lt, le-refl}
@@ -11,11 +11,13 @@ use Rattle.plane.specs.Inner.Lawful.{AcceptedPair}
 use Rattle.plane.proofs.Accept.{accepted}
 use Rattle.plane.proofs.Depth.{depth-small}
 use Rattle.plane.proofs.Limits.{area-fits}
+use Rattle.plane.proofs.Unread.{unread-stop, unread-broken, unread-passed}
 use Rattle.psnr.specs.declared.Record.{Record}
 use Rattle.psnr.specs.declared.SquaredError.the-variants.{Differs, Identical}
 use Rattle.psnr.specs.Limits.{totalLimit}
-use Rattle.psnr.specs.Squared.{errorAnswer, squaredErrorRefusal, squaredErrorOf}
+use Rattle.psnr.specs.Squared.{errorAnswer, squaredErrorRefusal, squaredErrorScore, squaredErrorOf}
 use Rattle.psnr.proofs.Squares.{walkable, error-below}
+use Rattle.psnr.proofs.Walks.{readable, whole-says, whole-breaks}
 use Rattle.psnr.proofs.answer.Statement.{statement}
 use Rattle.psnr.proofs.answer.Tie as tie
 
@@ -32,65 +34,92 @@ differs (suc e) r n = refl
 abbrev both : tie.Start → Planes
 both s = planes (s .args .layout) (s .args .a8) (s .args .a16) (s .args .b8) (s .args .b16)
 
--- the function's start, from the refusal's number and from past the first branch
-abbrev begun : tie.After-refusal → tie.Start
+-- the function's start, from the number of 1 to 5, and from where the walk has answered
+abbrev begun : tie.After-check-unread → tie.Start
 begun c = c .before .before .before .before .before
 
-abbrev start : tie.Else1 → tie.Start
-start c = begun (c .before)
+abbrev start : tie.After-rows → tie.Start
+start c = begun (c .before .before)
 
--- there no test refuses the planes
-none : (c : tie.Else1) → squaredErrorRefusal (both (start c)) ≡ 0
-none c = sym (c .before .refusal .ensures) ∙ c .if1 .left
+-- where a sum was found, no test refuses the planes, and it is their squared error
+none : (c : tie.After-error) → squaredErrorRefusal (both (start (c .before .before))) ≡ 0
+none c =
+    let r = c .before .before in
+    let no = r .before in
+    let found = whole-says (both (start r)) (r .rows .ensures) (c .error .given .1) in
+    unread-passed (both (start r)) 0 (no .before .check-unread .ensures) (no .if1 .left) (found .0)
 
-taken : (c : tie.Else1) → AcceptedPair (both (start c)) 0
+score : (c : tie.After-error) → squaredErrorScore (both (start (c .before .before))) ≡ c .error .given .0 .0
+score c =
+    let r = c .before .before in whole-says (both (start r)) (r .rows .ensures) (c .error .given .1) .1
+
+taken : (c : tie.After-error) → AcceptedPair (both (start (c .before .before))) 0
 taken c = accepted _ _ _ (none c)
 
-refusal-requires : tie.Need-refusal-requires
-refusal-requires c κs = search needs
+check-unread-requires : tie.Need-check-unread-requires
+check-unread-requires c κs = search needs
 
 returns : tie.Need-returns
 unfolding squaredErrorOf
-returns c = rw (← (c .before .refusal .ensures)) (refused _ _ _ (c .if1 .taken))
+returns c =
+    rw (← (unread-stop (both (begun (c .before))) 0 (c .before .check-unread .ensures) (c .if1 .taken))) (refused _ _ _ (c .if1 .taken))
 
-score-requires : tie.Need-score-requires
-score-requires c κs = walkable (taken c)
+rows-requires : tie.Need-rows-requires
+rows-requires c κs = readable _ 0 (c .before .check-unread .ensures) (c .if1 .left)
+
+enum-known-error : tie.Need-enum-known-error
+enum-known-error c = search needs
 
 exact-requires : tie.Need-exact-requires
 unfolding totalLimit
-exact-requires c κs = rw (c .score .ensures) (le-of-lt (error-below (walkable (taken (c .before))) (le-refl _)))
+exact-requires c κs = let e = c .before in rw (← (score e)) (le-of-lt (error-below (walkable (taken e)) (le-refl _)))
 
-mul-t13 : tie.Need-mul-t13
-mul-t13 c =
+mul-t15 : tie.Need-mul-t15
+mul-t15 c =
     let a = taken (c .before .before) .sized in record { fits = area-fits (a .width-most) (a .height-most) }
 
 sample-max-requires : tie.Need-sample-max-requires
 sample-max-requires c κs =
-    let e = c .before .before in omega (arith, taken e .sized .depth-most, depth-small (start e .args .layout .size .wide))
+    let e = c .before .before in
+    omega (arith, taken e .sized .depth-most, depth-small (start (e .before .before) .args .layout .size .wide))
+
+enum-told : tie.Need-enum-told
+enum-told c = search needs
 
 returns-2 : tie.Need-returns-2
 unfolding squaredErrorOf
 returns-2 c =
-    let s = c .before .before .before in
-    rw (none (s .before), c .before .before .exact .ensures, c .before .sample-max .ensures, ← (s .score .ensures))
-    (identical _ _ (c .if2 .taken))
+    let m = c .before in
+    let e = m .before .before .before in
+    rw (none e, m .before .exact .ensures, m .sample-max .ensures, ← (score e)) (identical _ _ (score e ∙ c .if2 .taken))
 
 returns-3 : tie.Need-returns-3
 unfolding squaredErrorOf
 returns-3 c =
-    let s = c .before .before .before in
-    rw (none (s .before), c .before .before .exact .ensures, c .before .sample-max .ensures, ← (s .score .ensures))
-    (differs _ _ (c .if2 .left))
+    let m = c .before in
+    let e = m .before .before .before in
+    rw (none e, m .before .exact .ensures, m .sample-max .ensures, ← (score e)) (differs _ _ (λ z. c .if2 .left (sym (score e) ∙ z)))
+
+returns-4 : tie.Need-returns-4
+unfolding squaredErrorOf
+returns-4 c =
+    let r = c .before .before in
+    let no = r .before in
+    let broken = whole-breaks (both (start r)) (r .rows .ensures) (c .enum-told .given .1) in
+    rw (← (unread-broken (both (start r)) 0 (no .before .check-unread .ensures) (no .if1 .left) broken))
 
 pub answer-spec : {M : Type 1} → statement M
 answer-spec =
     tie.close
     (tie.spec
-    refusal-requires
+    check-unread-requires
     returns
-    score-requires
+    rows-requires
+    enum-known-error
     exact-requires
-    mul-t13
+    mul-t15
     sample-max-requires
+    enum-told
     returns-2
-    returns-3)
+    returns-3
+    returns-4)
