@@ -5,13 +5,13 @@ ghost use lib.ListN.{length};
 ghost use Rattle.number.specs.Steps.{listTo};
 ghost use Rattle.plane.specs.Limits.{sideLimit};
 ghost use Rattle.plane.specs.Inner.Lent.{planes};
-ghost use Rattle.psnr.specs.Squared.{squareOf};
-ghost use Rattle.psnr.specs.Inner.Walk.{wordMost, Walkable, squaresFrom};
+ghost use Rattle.psnr.specs.Inner.Walk.{Walkable, squaresFrom};
 ghost use Rattle.locate.specs.Map.{tileSide, tilesAlong, tilesOf, tileLength, pieceError, tileError, mapPlaces, mapOf};
 ghost use Rattle.locate.specs.Map.{mapRefusal, mappedOf, mapAfter};
 ghost use Rattle.locate.specs.Inner.Walk.{pieceMost};
 use crate::Mapped;
 use plane::Layout;
+use psnr::walk;
 
 // The side of a tile.
 const TILE_SIDE: usize = 8;
@@ -41,21 +41,6 @@ fn tile_length(side: usize, k: usize) -> usize
     if rest < TILE_SIDE { rest } else { TILE_SIDE }
 }
 
-// (a - b)², of bytes and of words.
-fn square8(a: u8, b: u8) -> u32
-    ensures { λ r. ⌜ (r ≡ squareOf a b) × (r ≤ wordMost) ⌝ }
-{
-    let d = if a < b { b - a } else { a - b };
-    (d as u32) * (d as u32)
-}
-
-fn square16(a: u16, b: u16) -> u64
-    ensures { λ r. ⌜ (r ≡ squareOf a b) × (r ≤ wordMost * wordMost) ⌝ }
-{
-    let d = if a < b { b - a } else { a - b };
-    (d as u64) * (d as u64)
-}
-
 // The sum over n bytes of each plane. So few fit 32 bits.
 fn piece8(a: &[u8], b: &[u8], from_a: usize, from_b: usize, n: usize) -> u32
     requires { ⌜ («from_a» + n ≤ length (now a)) × («from_b» + n ≤ length (now b)) × (n ≤ tileSide) ⌝ }
@@ -63,7 +48,7 @@ fn piece8(a: &[u8], b: &[u8], from_a: usize, from_b: usize, n: usize) -> u32
 {
     let mut sum: u32 = 0;
     for x in 0..n {
-        sum += square8(a[from_a + x], b[from_b + x]);
+        sum += walk::square8(a[from_a + x], b[from_b + x]);
     }
     sum
 }
@@ -75,7 +60,7 @@ fn piece16(a: &[u16], b: &[u16], from_a: usize, from_b: usize, n: usize) -> u64
 {
     let mut sum: u64 = 0;
     for x in 0..n {
-        sum += square16(a[from_a + x], b[from_b + x]);
+        sum += walk::square16(a[from_a + x], b[from_b + x]) as u64;
     }
     sum
 }

@@ -49,6 +49,9 @@ square16-requires c κs = search needs
 abbrev head : tie.After-square16 Inv-loop μ-loop → tie.At-loop Inv-loop μ-loop
 head c = c .before .before .before .before
 
+cast-sum : tie.Need-cast-sum Inv-loop μ-loop
+cast-sum c = search needs
+
 add-sum : tie.Need-add-sum Inv-loop μ-loop
 unfolding tileSide
 add-sum c = let l = head c in omega (arith, c .square16 .ensures .1, l .loop .inv .2, start l .pre .2)
@@ -88,6 +91,7 @@ piece16-spec =
     mul-square16-2
     shared-slice-read-square16-2
     square16-requires
+    cast-sum
     add-sum
     add-x
     loop-less
