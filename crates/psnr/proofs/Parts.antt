@@ -1,6 +1,6 @@
 -- Laws of the sums and bits of two rows, of their parts, and of what a walk over them finds. Assumes nothing.
 use mathlib.Core.Path.{_≡_, refl, sym, ap, ap₂, subst, _∙_}
-use mathlib.Core.Bool.{Bool, true, false, _&&_}
+use mathlib.Core.Bool.{Bool, true, false}
 use mathlib.Core.List.{List}
 use Prim.Native.Nat.{ℕ, zero, suc, _+_, _-_, _*_, _^_, _%_, _≤_, _<_}
 use native.Mathlib.Nat.{mul-le-mul, mul-le-mul-right, mul-lt-mul-of-pos-left, mul-lt-mul-of-pos-right, mod-add-mod, mod-eq-of-lt}
@@ -9,7 +9,7 @@ use native.Mathlib.Numerals.{add-one}
 use native.Mathlib.Decide.{decLt}
 use native.Mathlib.Omega.{arith}
 use lib.Dec.{lit<}
-use lib.Bits.{bitOr, bitAnd, or-lt, or-add-and, and-le-l, and-le-r}
+use lib.Bits.{bitOr, or-lt, or-add-and, and-le-l, and-le-r}
 use lib.ListN.{length, take, drop, length-drop}
 use lib.Pow.{pow-pos, pow-mono, pow-add, le-ones, lt-of-le-ones, shl-exact}
 use lib.Seq.{length-take-le, getD-take, getD-drop}
@@ -22,7 +22,6 @@ use Rattle.plane.proofs.All.{none-none, none-at, none-holds}
 use Rattle.plane.proofs.Depth.{max-small}
 use Rattle.plane.proofs.Limits.{side-small}
 use Rattle.plane.proofs.Sums.{sum-none, sum-more, sum-ext, sum-split, sum-bound}
-use Rattle.psnr.specs.declared.walk.Walked.{Walked}
 use Rattle.psnr.specs.declared.walk.Walked.the-variants.{Sum, Above}
 use Rattle.psnr.specs.Squared.{squareOf}
 use Rattle.psnr.specs.Inner.Walk.{squaresIn, bitsIn, partLength, walkedIf, pairSuits}
@@ -40,7 +39,8 @@ module _ (row : List ℕ) (from to : ℕ) where
   cut-at i l = getD-take (to - from) (drop from row) i 0 l ∙ getD-drop from row i 0
 
 -- of two rows of one length
-pub cut-pair : (a b : List ℕ) (from to : ℕ) → length a ≡ length b → from ≤ to → to ≤ length a → length (cut a from to) ≡ length (cut b from to)
+pub cut-pair : (a b : List ℕ) (from to : ℕ) → length a ≡ length b → from ≤ to → to ≤ length a
+    → length (cut a from to) ≡ length (cut b from to)
 cut-pair a b from to same l m = cut-length a from to l m ∙ sym (cut-length b from to l (omega arith))
 
 -- ---- the sum
@@ -53,7 +53,8 @@ module _ (a b : List ℕ) where
   unfolding squaresIn
   in-more x = sum-more _ x
 
-  pub in-next : (x : ℕ) {sum square : ℕ} → sum ≡ squaresIn a b x → square ≡ squareOf (at a x) (at b x) → sum + square ≡ squaresIn a b (x + 1)
+  pub in-next : (x : ℕ) {sum square : ℕ} → sum ≡ squaresIn a b x → square ≡ squareOf (at a x) (at b x)
+      → sum + square ≡ squaresIn a b (x + 1)
   in-next x s q = ap₂ (λ (t u : ℕ). t + u) s q ∙ sym (in-more x)
 
   -- with a part more
@@ -70,7 +71,11 @@ module _ (a b : List ℕ) where
   -- with a sample more, in a word that wraps round
   pub in-wrapped : (x : ℕ) {sum square more : ℕ} → sum ≡ squaresIn a b x % 2 ^ 32 → square ≡ squareOf (at a x) (at b x)
       → more ≡ (sum + square) % 2 ^ 32 → more ≡ squaresIn a b (x + 1) % 2 ^ 32
-  in-wrapped x s q m = m ∙ ap₂ (λ (t u : ℕ). (t + u) % 2 ^ 32) s q ∙ mod-add-mod (squaresIn a b x) (2 ^ 32) _ ∙ ap (λ (t : ℕ). t % 2 ^ 32) (sym (in-more x))
+  in-wrapped x s q m =
+      m
+      ∙ ap₂ (λ (t u : ℕ). (t + u) % 2 ^ 32) s q
+      ∙ mod-add-mod (squaresIn a b x) (2 ^ 32) _
+      ∙ ap (λ (t : ℕ). t % 2 ^ 32) (sym (in-more x))
 
   -- where no sample is above m
   in-le : (m n : ℕ) → ((i : ℕ) → i < n → (at a i ≤ m) × (at b i ≤ m)) → squaresIn a b n ≤ n * (m * m)
@@ -141,7 +146,8 @@ part-room depth l =
     ap (λ (t : ℕ). 2 ^ (32 - 2 * depth) * t) (sym (pow-add 2 depth depth))
     ∙ sym (pow-add 2 (32 - 2 * depth) (depth + depth))
     ∙ ap (λ (t : ℕ). 2 ^ t) sum in
-    subst (λ (t : ℕ). 2 ^ (32 - 2 * depth) * ((2 ^ depth - 1) * (2 ^ depth - 1)) < t) whole (mul-lt-mul-of-pos-left less (pow-pos (32 - 2 * depth)))
+    let m = 2 ^ depth - 1 in
+    subst (λ (t : ℕ). 2 ^ (32 - 2 * depth) * (m * m) < t) whole (mul-lt-mul-of-pos-left less (pow-pos (32 - 2 * depth)))
 
 -- ---- what is found
 module _ (depth : ℕ) (a b : List ℕ) where

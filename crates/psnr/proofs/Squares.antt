@@ -1,5 +1,5 @@
 -- How large the squared error can be, and that planes which no test refuses can be walked. Assumes nothing.
-use mathlib.Core.Path.{_≡_, refl}
+use mathlib.Core.Path.{_≡_}
 use mathlib.Core.Bool.{true}
 use mathlib.Core.List.{List}
 use Prim.Native.Nat.{ℕ, _+_, _-_, _*_, _^_, _≤_, _<_}
@@ -28,11 +28,6 @@ module _ (a b : List ℕ) (i j : ℕ) where
   squares-more x = sum-more _ x
 
 module _ (p : Planes) where
-  -- a row is so many samples from its start on
-  pub row-is : (n y : ℕ) → rowError p n y ≡ squaresFrom (p .a .samples) (p .b .samples) (y * p .a .stride) (y * p .b .stride) n
-  unfolding rowError squaresFrom
-  row-is n y = refl
-
   pub error-none : errorTo p 0 ≡ 0
   unfolding errorTo
   error-none = sum-none _

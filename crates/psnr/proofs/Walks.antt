@@ -3,11 +3,9 @@ use mathlib.Core.Path.{_≡_, refl, sym, ap, ap₂, _∙_}
 use mathlib.Core.Bool.{Bool, true, false, _&&_, true≢false}
 use mathlib.Core.List.{List}
 use Prim.Native.Nat.{ℕ, _+_, _*_, _≤_, _<_}
-use native.Mathlib.Nat.{le-trans, le-refl}
-use native.Mathlib.Omega.{arith}
+use native.Mathlib.Nat.{le-trans}
 use lib.ListN.{length}
 use Rattle.refusal.proofs.Chain.{and-left, and-right}
-use Rattle.plane.specs.Limits.{mostDepth}
 use Rattle.plane.specs.declared.Size.{Size}
 use Rattle.plane.specs.Plane.{Plane, Planes, maxOf, sampleLimit, at, sampleAt, allTo}
 use Rattle.plane.specs.Tests.{rowSuits, samplesSuit}
@@ -23,7 +21,7 @@ use Rattle.psnr.specs.declared.walk.Walked.the-variants.{Sum, Above}
 use Rattle.psnr.specs.Limits.{totalLimit}
 use Rattle.psnr.specs.Squared.{squareOf, rowError, errorTo, squaredErrorScore}
 use Rattle.psnr.specs.Inner.Walk.{Readable, squaresIn, walkedIf, rowWalked, walkedAt, walkedOf}
-use Rattle.psnr.proofs.Squares.{SmallRow, error-none, error-more, total-below}
+use Rattle.psnr.proofs.Squares.{SmallRow, error-more, total-below}
 use Rattle.psnr.proofs.Parts.{found-above, found-sum}
 
 -- ---- what was found, as facts
@@ -70,7 +68,10 @@ module _ (p : Planes) where
       (sum-ext _ _ width (λ x l. ap₂ squareOf (first x l) (second x l))))
 
   -- ---- row after row
-  -- no sample of the first n rows is above sample_max
+  -- no sample of row y is above sample_max, and none of the first n rows
+  abbrev suitAt : ℕ → Bool
+  suitAt y = rowSuits max (size .width) (p .a) y && rowSuits max (size .width) (p .b) y
+
   abbrev pub suitTo : ℕ → Bool
   suitTo n = allTo (rowSuits max (size .width) (p .a)) n && allTo (rowSuits max (size .width) (p .b)) n
 
@@ -78,7 +79,7 @@ module _ (p : Planes) where
   suit-none = rw (all-none (rowSuits max (size .width) (p .a)), all-none (rowSuits max (size .width) (p .b)))
 
   -- both rows y suit, and all before
-  suit-more : (y : ℕ) → suitTo y ≡ true → (rowSuits max (size .width) (p .a) y && rowSuits max (size .width) (p .b) y) ≡ true → suitTo (y + 1) ≡ true
+  suit-more : (y : ℕ) → suitTo y ≡ true → suitAt y ≡ true → suitTo (y + 1) ≡ true
   suit-more y s r =
       let a = rowSuits max (size .width) (p .a) in
       let b = rowSuits max (size .width) (p .b) in
@@ -91,13 +92,13 @@ module _ (p : Planes) where
         and-right (a y) (b y) r,
       )
 
-  suit-at : (n : ℕ) → suitTo n ≡ true → (y : ℕ) → y < n → (rowSuits max (size .width) (p .a) y && rowSuits max (size .width) (p .b) y) ≡ true
+  suit-at : (n : ℕ) → suitTo n ≡ true → (y : ℕ) → y < n → suitAt y ≡ true
   suit-at n s y l =
       let a = rowSuits max (size .width) (p .a) in
       rw (all-at a n (and-left _ _ s) y l, all-at (rowSuits max (size .width) (p .b)) n (and-right (allTo a n) _ s) y l)
 
-  pub row-adds : (y : ℕ) {found : Walked} {sum error : ℕ} → sum ≡ errorTo p y → suitTo y ≡ true → found ≡ walkedAt p y → found ≡ Sum error
-      → (sum + error ≡ errorTo p (y + 1)) × (suitTo (y + 1) ≡ true)
+  pub row-adds : (y : ℕ) {found : Walked} {sum error : ℕ} → sum ≡ errorTo p y → suitTo y ≡ true → found ≡ walkedAt p y
+      → found ≡ Sum error → (sum + error ≡ errorTo p (y + 1)) × (suitTo (y + 1) ≡ true)
   unfolding walkedAt
   row-adds y {found} {sum} {error} e s w f =
       let says = sum-says _ (rowError p (size .width) y) error (sym w ∙ f) in
@@ -113,7 +114,8 @@ module _ (p : Planes) where
   rows-end e s = found-sum s e
 
   -- ---- the sum has room
-  row-small : Readable p → (q : Plane) (n : ℕ) → allTo (rowSuits max (size .width) q) n ≡ true → (y : ℕ) → y < n → SmallRow sampleLimit (size .width) q y
+  row-small : Readable p → (q : Plane) (n : ℕ) → allTo (rowSuits max (size .width) q) n ≡ true
+      → (y : ℕ) → y < n → SmallRow sampleLimit (size .width) q y
   unfolding rowSuits
   row-small r q n s y l x k =
       let depth = le-trans (depth-says (size .wide) (size .depth) (r .depth-suits) .1) (deepest (size .wide)) in
@@ -126,7 +128,8 @@ module _ (p : Planes) where
 
   -- ---- the whole
   module _ {found : Walked} (w : found ≡ walkedOf p) where
-    pub whole-says : {error : ℕ} → found ≡ Sum error → ((samplesSuit size (p .a) && samplesSuit size (p .b)) ≡ true) × (squaredErrorScore p ≡ error)
+    pub whole-says : {error : ℕ} → found ≡ Sum error
+        → ((samplesSuit size (p .a) && samplesSuit size (p .b)) ≡ true) × (squaredErrorScore p ≡ error)
     unfolding walkedOf
     whole-says f = sum-says _ _ _ (sym w ∙ f)
 

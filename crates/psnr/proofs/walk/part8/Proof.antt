@@ -1,7 +1,7 @@
 -- `psnr::walk::part8` meets its contract. The loop's invariant: the sum is that of the samples passed, and no larger than so many words.
 -- Assumes nothing.
 use mathlib.Core.Path.{_≡_, sym}
-use Prim.Native.Nat.{_+_, _*_, _-_, _≤_}
+use Prim.Native.Nat.{_*_, _-_, _≤_}
 use native.Mathlib.Omega.{arith}
 use borrow.Author.Needs.{needs}
 use denote.Ref.{now}

@@ -127,7 +127,8 @@ row16-requires c κs =
     let t = c .before .before in
     let s = start (t .before) in
     let e = t .if1 .taken in
-    asked _ _ _ _ (s .args .layout .size .width) (s .args .y) (first-row s (first-words s e)) (second-row s (second-words s e)) (s .pre .0 .width-most) (deep s e)
+    asked _ _ _ _ (s .args .layout .size .width) (s .args .y) (first-row s (first-words s e)) (second-row s (second-words s e))
+    (s .pre .0 .width-most) (deep s e)
 
 sub-row8 : tie.Need-sub-row8
 sub-row8 c = search needs
@@ -152,7 +153,8 @@ row8-requires c κs =
     let t = c .before .before in
     let s = start (t .before) in
     let e = t .if1 .left in
-    asked _ _ _ _ (s .args .layout .size .width) (s .args .y) (first-row s (first-bytes s e)) (second-row s (second-bytes s e)) (s .pre .0 .width-most) (deep s e)
+    asked _ _ _ _ (s .args .layout .size .width) (s .args .y) (first-row s (first-bytes s e)) (second-row s (second-bytes s e))
+    (s .pre .0 .width-most) (deep s e)
 
 returns : tie.Need-returns
 returns c =

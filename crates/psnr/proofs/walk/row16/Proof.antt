@@ -1,7 +1,7 @@
 -- `psnr::walk::row16` meets its contract. The loop's invariant: no sample passed is above sample_max, and the sum is theirs. Assumes nothing.
 use mathlib.Core.Path.{_≡_, sym, _∙_}
 use mathlib.Core.Bool.{true}
-use Prim.Native.Nat.{_+_, _*_, _-_, _≤_}
+use Prim.Native.Nat.{_-_, _≤_}
 use native.Mathlib.Omega.{arith}
 use borrow.Author.Needs.{needs}
 use denote.Ref.{now}
@@ -107,7 +107,8 @@ returns c =
     let f = c .before .before in
     let l = lessened f in
     let s = start (l .before .before) in
-    found-above _ _ (cut-breaks (s .args .depth) (now (s .args .a)) (now (s .args .b)) (l .before .before .loop .x) (l .least .result) (ends l .0) (ends l .1)
+    let from = l .before .before .loop .x in
+    found-above _ _ (cut-breaks (s .args .depth) (now (s .args .a)) (now (s .args .b)) from (l .least .result) (ends l .0) (ends l .1)
     (omega (arith, c .if1 .taken, f .part16 .ensures .1, l .before .before .before .before .sample-max .ensures)))
 
 cast-sum : tie.Need-cast-sum Inv-loop μ-loop

@@ -1,7 +1,7 @@
 -- `psnr::walk::sum8` meets its contract. The loop's invariant: the sum is that of the parts passed, and no larger than so many words.
 -- Assumes nothing.
 use mathlib.Core.Path.{_≡_, sym}
-use Prim.Native.Nat.{_+_, _*_, _-_, _≤_}
+use Prim.Native.Nat.{ℕ, _+_, _*_, _-_, _≤_}
 use native.Mathlib.Nat.{le-refl}
 use native.Mathlib.Omega.{arith}
 use borrow.Author.Needs.{needs}
@@ -12,6 +12,10 @@ use Rattle.psnr.specs.Inner.Walk.{wordMost, squaresIn}
 use Rattle.psnr.proofs.Parts.{cut-length, cut-pair, in-none, in-cut}
 use Rattle.psnr.proofs.walk.sum8.Statement.{statement}
 use Rattle.psnr.proofs.walk.sum8.Tie as tie
+
+-- how many bytes are added up at a time, as in the code
+abbrev stretch : ℕ
+stretch = 128
 
 abbrev Inv-loop : tie.InvT-loop
 Inv-loop a b n sum₀ x₀ sum x = (x ≤ n) × (sum ≡ squaresIn a b x) × (sum ≤ x * wordMost)
@@ -27,10 +31,10 @@ abbrev start : tie.At-loop Inv-loop μ-loop → tie.Start Inv-loop μ-loop
 start l = l .before .before .before
 
 -- a part's sum is no larger than so many words
-small : (c : tie.After-part8 Inv-loop μ-loop) → c .part8 .result ≤ 128 * wordMost
+small : (c : tie.After-part8 Inv-loop μ-loop) → c .part8 .result ≤ stretch * wordMost
 small c =
     let l = head c in
-    let e = cut-length (now (start l .args .a)) (l .loop .x) (l .loop .x + 128) (omega arith) (omega arith) in
+    let e = cut-length (now (start l .args .a)) (l .loop .x) (l .loop .x + stretch) (omega arith) (omega arith) in
     omega (arith, e, c .part8 .ensures .1)
 
 loop-holds : tie.Need-loop-holds Inv-loop μ-loop
@@ -67,7 +71,7 @@ part8-requires : tie.Need-part8-requires Inv-loop μ-loop
 part8-requires c κs =
     let l = c .before .before .before in
     let s = start l in
-    let e = cut-length (now (s .args .a)) (l .loop .x) (l .loop .x + 128) (omega arith) (omega arith) in
+    let e = cut-length (now (s .args .a)) (l .loop .x) (l .loop .x + stretch) (omega arith) (omega arith) in
     (cut-pair _ _ (l .loop .x) _ (s .pre .0) (omega arith) (omega arith), omega (arith, e, s .pre .1))
 
 add-sum : tie.Need-add-sum Inv-loop μ-loop
