@@ -95,7 +95,8 @@ fn sides(r: &mut Random) -> (usize, usize) {
         0 => (r.within(8_190, 8_192), r.within(1, 3)),
         1 => (r.within(1, 3), r.within(8_190, 8_192)),
         2 => (r.within(100, 300), r.within(50, 200)),
-        3..=40 => (r.within(1, 64), r.within(1, 64)),
+        3..=6 => (r.within(1, 1_100), r.within(1, 4)),
+        7..=40 => (r.within(1, 64), r.within(1, 64)),
         41..=80 => (r.within(1, 4), r.within(1, 4)),
         _ => (r.within(1, 16), r.within(1, 16)),
     }
@@ -112,6 +113,27 @@ fn listed() -> Vec<Pair> {
         let max = (1 << depth) - 1;
         list.push(Pair::plain(depth, 64, [vec![max; 64 * 48], vec![0; 64 * 48]]));
         list.push(Pair::plain(depth, 64, [vec![0; 64 * 48], vec![max; 64 * 48]]));
+        list.extend(WIDTHS.iter().flat_map(|width| at_width(depth, *width)));
+    }
+    list
+}
+
+/// About as long as a walk may make the parts of a row that it adds up in a smaller word, at the largest difference of
+/// some depth.
+const WIDTHS: [usize; 14] = [127, 128, 129, 255, 256, 257, 1_023, 1_024, 1_025, 4_095, 4_096, 4_097, 8_191, 8_192];
+
+/// Two rows with the largest error; and the same with one sample too large, by one or as large as its width allows, at
+/// either end of the last row of either plane.
+fn at_width(depth: u32, width: usize) -> Vec<Pair> {
+    let (max, top) = ((1 << depth) - 1, if depth > 8 { u16::MAX } else { 255 });
+    let whole = Pair::plain(depth, width, [vec![max; 2 * width], vec![0; 2 * width]]);
+    let mut list = vec![whole.clone()];
+    for (plane, place) in [(0, width), (0, 2 * width - 1), (1, width), (1, 2 * width - 1)] {
+        for value in [max + 1, top].into_iter().filter(|value| *value > max && *value <= top) {
+            let mut pair = whole.clone();
+            pair.samples[plane][place] = value;
+            list.push(pair);
+        }
     }
     list
 }

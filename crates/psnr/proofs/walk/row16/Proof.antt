@@ -136,7 +136,8 @@ loop-again c =
     let s = start h in
     let e = ends l in
     let bits = low (c .before) in
-    let whole = cut-whole (s .args .depth) _ (now (s .args .b)) (h .loop .x) (l .least .result) (e .0) (e .1) (depth-half (s .pre .2)) (short l) bits in (
+    let half = depth-half (s .pre .2) in
+    let whole = cut-whole (s .args .depth) _ (now (s .args .b)) (h .loop .x) (l .least .result) (e .0) (e .1) half (short l) bits in (
       e .1,
       in-cut _ _ (h .loop .x) _ (e .0) (e .1) (h .loop .inv .1) (f .part16 .ensures .0 ∙ whole),
       cut-suits (s .args .depth) _ _ (h .loop .x) (l .least .result) (e .0) (e .1) (h .loop .inv .2) bits,

@@ -37,8 +37,9 @@ row-suits8-requires-2 c κs = search needs
 
 returns-2 : tie.Need-returns-2
 returns-2 c =
-    let s = c .before .before .before .before .before .before in
-    let top = c .before .before .before .sample-max .ensures in
+    let m = c .before .before .before in
+    let s = m .before .before .before in
+    let top = m .sample-max .ensures in
     ap₂ _&&_ (c .before .row-suits8 .ensures ∙ ap (λ t. noneAbove t (at (now (s .args .a))) (length (now (s .args .a)))) top)
     (c .row-suits82 .ensures ∙ ap₂ (λ t u. noneAbove t (at (now (s .args .b))) u) top (sym (s .pre .0)))
 
