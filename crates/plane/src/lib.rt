@@ -1,5 +1,5 @@
-// What a plane may be, after docs/SCOPE.md: its limits, the tests 1 to 6 that a call makes before it reads, and the samples of a plane
-// of either width. A plane's samples come as two slices, bytes and words: `wide` says which is the plane, and the other is not read.
+// What a plane may be, after docs/SCOPE.md: its limits, the tests 1 to 6 of a call, and the samples of a plane of either width. A plane's
+// samples come as two slices, bytes and words: `wide` says which is the plane, and the other is not read.
 ghost use mathlib.Core.Path.{_≡_};
 ghost use mathlib.Core.Bool.{true, false};
 ghost use mathlib.Core.List.{[], _∷_};
