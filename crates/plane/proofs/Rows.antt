@@ -25,20 +25,29 @@ row-inside width stride {height} {n} {y} long l =
 pub inside : {width height n x y : ℕ} (stride : ℕ) → needed width height stride ≤ n → x < width → y < height → y * stride + x < n
 inside {width} stride long lx ly = omega (arith, row-inside width stride long ly)
 
--- ---- row y as a part of a slice, `&samples[start..start + width]` with start = y * stride
+-- ---- a part of a slice, `&samples[from..to]`
+abbrev pub cut : List ℕ → ℕ → ℕ → List ℕ
+cut samples from to = take (to - from) (drop from samples)
+
+module _ (samples : List ℕ) (from to : ℕ) where
+  pub cut-length : from ≤ to → to ≤ length samples → length (cut samples from to) ≡ to - from
+  cut-length l m = length-take-le (to - from) (drop from samples) (simp length-drop (omega arith))
+
+  pub cut-at : (i : ℕ) → i < to - from → at (cut samples from to) i ≡ at samples (from + i)
+  cut-at i l = getD-take (to - from) (drop from samples) i 0 l ∙ getD-drop from samples i 0
+
+-- row y as such a part
 abbrev pub part : List ℕ → ℕ → ℕ → ℕ → List ℕ
-part samples stride width y = take (y * stride + width - y * stride) (drop (y * stride) samples)
+part samples stride width y = cut samples (y * stride) (y * stride + width)
 
 module _ (samples : List ℕ) (stride width y : ℕ) where
   pub part-length : y * stride + width ≤ length samples → length (part samples stride width y) ≡ width
   part-length h =
       let e : y * stride + width - y * stride ≡ width = omega arith in
-      rw e (length-take-le width (drop (y * stride) samples) (simp length-drop (omega arith)))
+      cut-length samples (y * stride) (y * stride + width) (omega arith) h ∙ e
 
   pub part-at : (x : ℕ) → x < width → at (part samples stride width y) x ≡ sampleAt (planeOf samples stride) y x
-  part-at x l =
-      let e : y * stride + width - y * stride ≡ width = omega arith in
-      rw (e, getD-take width (drop (y * stride) samples) x 0 l, getD-drop (y * stride) samples x 0)
+  part-at x l = cut-at samples (y * stride) (y * stride + width) x (omega arith)
 
 -- the samples of either width are as few as a slice can hold
 pub count-fits : (wide : Bool) (bytes words : List ℕ) → length bytes < 2 ^ 64 → length words < 2 ^ 64

@@ -10,9 +10,8 @@ use native.Mathlib.Decide.{decLt}
 use native.Mathlib.Omega.{arith}
 use lib.Dec.{lit<}
 use lib.Bits.{bitOr, or-lt, or-add-and, and-le-l, and-le-r}
-use lib.ListN.{length, take, drop, length-drop}
+use lib.ListN.{length}
 use lib.Pow.{pow-pos, pow-mono, pow-add, le-ones, lt-of-le-ones, shl-exact}
-use lib.Seq.{length-take-le, getD-take, getD-drop}
 use Rattle.refusal.proofs.Chain.{and-left, and-right}
 use Rattle.plane.specs.Limits.{sideLimit, mostDepth}
 use Rattle.plane.specs.Plane.{at, maxOf}
@@ -21,24 +20,14 @@ use Rattle.plane.specs.Tests.{noneAbove}
 use Rattle.plane.proofs.All.{none-none, none-at, none-holds}
 use Rattle.plane.proofs.Depth.{max-small}
 use Rattle.plane.proofs.Limits.{side-small}
+use Rattle.plane.proofs.Rows.{cut, cut-length, cut-at}
 use Rattle.plane.proofs.Sums.{sum-none, sum-more, sum-ext, sum-split, sum-bound}
 use Rattle.psnr.specs.declared.walk.Walked.the-variants.{Sum, Above}
 use Rattle.psnr.specs.Squared.{squareOf}
 use Rattle.psnr.specs.Inner.Walk.{squaresIn, bitsIn, partLength, walkedIf, pairSuits}
 use Rattle.psnr.proofs.Squares.{square-le}
 
--- ---- a part of a row, `&row[from..to]`
-abbrev pub cut : List ℕ → ℕ → ℕ → List ℕ
-cut row from to = take (to - from) (drop from row)
-
-module _ (row : List ℕ) (from to : ℕ) where
-  pub cut-length : from ≤ to → to ≤ length row → length (cut row from to) ≡ to - from
-  cut-length l m = length-take-le (to - from) (drop from row) (simp length-drop (omega arith))
-
-  cut-at : (i : ℕ) → i < to - from → at (cut row from to) i ≡ at row (from + i)
-  cut-at i l = getD-take (to - from) (drop from row) i 0 l ∙ getD-drop from row i 0
-
--- of two rows of one length
+-- ---- a part of each of two rows of one length
 pub cut-pair : (a b : List ℕ) (from to : ℕ) → length a ≡ length b → from ≤ to → to ≤ length a
     → length (cut a from to) ≡ length (cut b from to)
 cut-pair a b from to same l m = cut-length a from to l m ∙ sym (cut-length b from to l (omega arith))

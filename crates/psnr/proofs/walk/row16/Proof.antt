@@ -10,8 +10,9 @@ use Rattle.plane.specs.Limits.{sideLimit}
 use Rattle.plane.specs.Plane.{maxOf}
 use Rattle.plane.proofs.Depth.{depth-small}
 use Rattle.plane.proofs.Limits.{side-small}
+use Rattle.plane.proofs.Rows.{cut}
 use Rattle.psnr.specs.Inner.Walk.{squaresIn, bitsIn, partLength, pairSuits, rowWalked}
-use Rattle.psnr.proofs.Parts.{cut, cut-pair, in-none, in-cut, depth-half, part-some, suits-none, suits-small}
+use Rattle.psnr.proofs.Parts.{cut-pair, in-none, in-cut, depth-half, part-some, suits-none, suits-small}
 use Rattle.psnr.proofs.Parts.{cut-suits, cut-breaks, cut-whole, found-above, found-sum}
 use Rattle.psnr.proofs.walk.row16.Statement.{statement}
 use Rattle.psnr.proofs.walk.row16.Tie as tie

@@ -8,8 +8,9 @@ use borrow.Author.Needs.{needs}
 use denote.Ref.{now}
 use lib.ListN.{length}
 use Rattle.plane.proofs.Limits.{side-small}
+use Rattle.plane.proofs.Rows.{cut-length}
 use Rattle.psnr.specs.Inner.Walk.{wordMost, squaresIn}
-use Rattle.psnr.proofs.Parts.{cut-length, cut-pair, in-none, in-cut}
+use Rattle.psnr.proofs.Parts.{cut-pair, in-none, in-cut}
 use Rattle.psnr.proofs.walk.sum8.Statement.{statement}
 use Rattle.psnr.proofs.walk.sum8.Tie as tie
 
