@@ -98,6 +98,7 @@ fn part_length(depth: u32) -> usize
     1usize << (32 - 2 * depth)
 }
 
+// Of two places the nearer.
 fn least(a: usize, b: usize) -> usize
     ensures { λ r. ⌜ r ≡ min a b ⌝ }
 {
@@ -110,7 +111,7 @@ struct Part {
     bits: u16,
 }
 
-// The sum is right where no bit is too high: it is for the caller to see.
+// There is no branch in its loop. Where no bit is too high, and the part is short enough, the sum has not wrapped: the caller sees to both.
 fn part16(a: &[u16], b: &[u16]) -> Part
     requires { ⌜ length (now a) ≡ length (now b) ⌝ }
     ensures { λ r. ⌜ r .sum ≡ squaresIn (now (a .entry)) (now (b .entry)) (length (now (a .entry))) % 2 ^ 32 ⌝ }
