@@ -29,7 +29,7 @@ sampleNo = 6
 abbrev pub kernelNo : ℕ
 kernelNo = 7
 
--- any lent scratch or a lent map too short
+-- any lent scratch, or room lent for a map or a kernel, too short
 abbrev pub scratchNo : ℕ
 scratchNo = 8
 
@@ -52,3 +52,7 @@ valueNo = 12
 -- combining: weight outside 0 to 1, or a number not finite
 abbrev pub weightNo : ℕ
 weightNo = 13
+
+-- the chart has no kernel for this height
+abbrev pub heightNo : ℕ
+heightNo = 14

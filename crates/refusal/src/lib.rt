@@ -15,7 +15,7 @@ pub const SHORT: u8 = 5;
 pub const SAMPLE: u8 = 6;
 // The lent kernel is unlawful.
 pub const KERNEL: u8 = 7;
-// Lent scratch or a lent map is too short.
+// Lent scratch, or room lent for a map or a kernel, is too short.
 pub const SCRATCH: u8 = 8;
 // The defined score is infinite or not a number.
 pub const NOT_FINITE: u8 = 9;
@@ -27,3 +27,5 @@ pub const TOTAL: u8 = 11;
 pub const VALUE: u8 = 12;
 // A weight is outside 0 to 1, or a number to combine is not finite.
 pub const WEIGHT: u8 = 13;
+// The chart has no kernel for this height.
+pub const HEIGHT: u8 = 14;

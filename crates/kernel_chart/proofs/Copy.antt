@@ -1,0 +1,13 @@
+-- A list copied over the front of another, one store a turn. Assumes nothing.
+use mathlib.Core.Path.{_≡_}
+use mathlib.Core.List.{List, _++_}
+use Prim.Native.Nat.{ℕ, _+_, _<_}
+use native.Mathlib.Nat.{zero-add}
+use native.Mathlib.Numerals.{add-one}
+use lib.ListN.{length, getD, set, take, drop}
+use lib.Seq.{paste-suc}
+
+-- the kit's copy from place 0 on
+pub copied-more : (ker old : List ℕ) (i : ℕ) → i < length ker → i < length old
+    → set (take i ker ++ drop i old) i (getD ker i 0) ≡ take (i + 1) ker ++ drop (i + 1) old
+copied-more ker old i l m = rw add-one (rw (zero-add, zero-add) at (paste-suc old 0 ker i 0 (rw zero-add m) l))

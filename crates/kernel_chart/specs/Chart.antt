@@ -1,0 +1,50 @@
+-- SCOPE, "The chart of kernels": what the call answers and writes for every height. Definitions only.
+use mathlib.Core.Bool.{Bool, true, false, cond, _||_}
+use mathlib.Core.List.{List, [], _∷_, _++_}
+use Prim.Native.Nat.{ℕ}
+use lib.Dec.{eqb, leb}
+use lib.ListN.{length, drop}
+use Rattle.refusal.specs.Numbers.{scratchNo, heightNo}
+use Rattle.refusal.specs.First.{firstBroken, byRefusal}
+use Rattle.kernel_chart.specs.Rows.{Row, chart}
+use Rattle.kernel_chart.specs.declared.Charted.{Charted}
+use Rattle.kernel_chart.specs.declared.Charted.the-variants.{Taps, Refused}
+
+-- whether one of the rows has this height
+abbrev pub listedIn : List Row → ℕ → Bool
+listedIn [] height = false
+listedIn (row ∷ later) height = eqb height (row .0) || listedIn later height
+
+-- the taps beside it, in the first row that has it; none where no row has
+abbrev pub tapsIn : List Row → ℕ → List ℕ
+tapsIn [] height = []
+tapsIn (row ∷ later) height = cond (eqb height (row .0)) (row .1) (tapsIn later height)
+
+-- the same of the chart
+unfoldable pub listed : ℕ → Bool
+listed height = listedIn chart height
+
+unfoldable pub kernelOf : ℕ → List ℕ
+kernelOf height = tapsIn chart height
+
+-- 8 where the kernel has more taps than there are places, and none has a height that is not listed; then 14 where it is not listed
+unfoldable pub chartTests : ℕ → ℕ → List (ℕ × Bool)
+chartTests height places = (scratchNo, leb (length (kernelOf height)) places) ∷ (heightNo, listed height) ∷ []
+
+abbrev pub chartRefusal : ℕ → ℕ → ℕ
+chartRefusal height places = firstBroken (chartTests height places)
+
+-- the answer and what then stands in the places, by the number of the refusal: where it is 0, the count of the taps, and the kernel before what
+-- stood past it; else that number, and what stood there
+abbrev pub answerBy : ℕ → List ℕ → Charted
+answerBy n ker = byRefusal n (Taps (length ker)) (Refused n)
+
+abbrev pub afterBy : ℕ → List ℕ → List ℕ → List ℕ
+afterBy n ker old = byRefusal n (ker ++ drop (length ker) old) old
+
+-- of a call that lends these places
+unfoldable pub chartedOf : ℕ → List ℕ → Charted
+chartedOf height old = answerBy (chartRefusal height (length old)) (kernelOf height)
+
+unfoldable pub tapsAfter : ℕ → List ℕ → List ℕ
+tapsAfter height old = afterBy (chartRefusal height (length old)) (kernelOf height) old
