@@ -1,1 +1,2 @@
 mod Copy
+mod Places

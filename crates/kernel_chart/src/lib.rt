@@ -2,7 +2,9 @@
 ghost use mathlib.Core.Path.{_≡_};
 ghost use lib.ListN.{length};
 ghost use Rattle.kernel_chart.specs.Chart.{answerBy, afterBy, chartedOf, tapsAfter};
+ghost use Rattle.kernel_chart.specs.Rows.{chart};
 ghost use Rattle.kernel_chart.specs.Inner.Room.{roomRefusal};
+ghost use Rattle.kernel_chart.specs.Inner.Place.{placeIn};
 
 mod rows;
 
@@ -28,26 +30,28 @@ fn put(kernel: &[u16], taps: &mut [u16]) -> Charted
     Charted::Taps(n)
 }
 
+// Which row has this height, counted from 0; as many as there are where none has.
+fn find(height: usize) -> usize
+    ensures { λ r. ⌜ r ≡ placeIn chart height ⌝ }
+{
+    for k in 0..rows::COUNT {
+        if rows::HEIGHTS[k] == height {
+            return k;
+        }
+    }
+    rows::COUNT
+}
+
 // The kernel for planes of this height, to the first places of `taps`.
 pub fn kernel_for(height: usize, taps: &mut [u16]) -> Charted
     ensures { λ r. ⌜ r ≡ chartedOf height (now (taps .entry)) ⌝ }
     ensures { λ _. ⌜ now (taps .exit) ≡ tapsAfter height (now (taps .entry)) ⌝ }
 {
-    match height {
-        144 => put(&rows::OF_144, taps),
-        180 => put(&rows::OF_180, taps),
-        240 => put(&rows::OF_240, taps),
-        270 => put(&rows::OF_270, taps),
-        288 => put(&rows::OF_288, taps),
-        360 => put(&rows::OF_360, taps),
-        405 => put(&rows::OF_405, taps),
-        480 => put(&rows::OF_480, taps),
-        540 => put(&rows::OF_540, taps),
-        576 => put(&rows::OF_576, taps),
-        720 => put(&rows::OF_720, taps),
-        1080 => put(&rows::OF_1080, taps),
-        1440 => put(&rows::OF_1440, taps),
-        2160 => put(&rows::OF_2160, taps),
-        _ => Charted::Refused(refusal::HEIGHT),
+    let k = find(height);
+    if k == rows::COUNT {
+        return Charted::Refused(refusal::HEIGHT);
     }
+    let from = rows::STARTS[k];
+    let end = rows::STARTS[k + 1];
+    put(&rows::TAPS[from..end], taps)
 }
