@@ -1,2 +1,4 @@
 mod Copy
 mod Places
+mod Flat
+mod Answer

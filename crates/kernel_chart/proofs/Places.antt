@@ -10,16 +10,8 @@ use lib.Dec.{eqb}
 use lib.ListN.{length, getD, drop}
 use Rattle.kernel_chart.specs.Rows.{Row}
 use Rattle.kernel_chart.specs.Chart.{listedIn, tapsIn}
+use Rattle.kernel_chart.specs.Inner.Flat.{heightsIn, kernelsIn}
 use Rattle.kernel_chart.specs.Inner.Place.{placeIn}
-
--- the heights of rows, and their kernels
-abbrev pub heightsIn : List Row → List ℕ
-heightsIn [] = []
-heightsIn (row ∷ later) = row .0 ∷ heightsIn later
-
-abbrev pub kernelsIn : List Row → List (List ℕ)
-kernelsIn [] = []
-kernelsIn (row ∷ later) = row .1 ∷ kernelsIn later
 
 -- ---- row k has the height, or another
 pub place-here : (rows : List Row) (height k : ℕ) → k < length rows → height ≡ getD (heightsIn rows) k 0 → placeIn (drop k rows) height ≡ 0

@@ -34,17 +34,17 @@ chartTests height places = (scratchNo, leb (length (kernelOf height)) places) �
 abbrev pub chartRefusal : ℕ → ℕ → ℕ
 chartRefusal height places = firstBroken (chartTests height places)
 
--- the answer and what then stands in the places, by the number of the refusal: where it is 0, the count of the taps, and the kernel before what
--- stood past it; else that number, and what stood there
-abbrev pub answerBy : ℕ → List ℕ → Charted
-answerBy n ker = byRefusal n (Taps (length ker)) (Refused n)
+-- the answer, by the number of the refusal: the count of taps where it is 0
+abbrev pub answerBy : ℕ → ℕ → Charted
+answerBy n count = byRefusal n (Taps count) (Refused n)
 
+-- what then stands in the places lent: the kernel, and what stood past it; or what stood there
 abbrev pub afterBy : ℕ → List ℕ → List ℕ → List ℕ
 afterBy n ker old = byRefusal n (ker ++ drop (length ker) old) old
 
--- of a call that lends these places
+-- both, of a call that lends these places
 unfoldable pub chartedOf : ℕ → List ℕ → Charted
-chartedOf height old = answerBy (chartRefusal height (length old)) (kernelOf height)
+chartedOf height old = answerBy (chartRefusal height (length old)) (length (kernelOf height))
 
 unfoldable pub tapsAfter : ℕ → List ℕ → List ℕ
 tapsAfter height old = afterBy (chartRefusal height (length old)) (kernelOf height) old

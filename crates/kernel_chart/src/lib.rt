@@ -1,10 +1,12 @@
 // The kernels of SSIM that are asked for most, by the height of a plane that is no narrower than high. SCOPE, "The chart of kernels".
 ghost use mathlib.Core.Path.{_≡_};
-ghost use lib.ListN.{length};
-ghost use Rattle.kernel_chart.specs.Chart.{answerBy, afterBy, chartedOf, tapsAfter};
+ghost use Prim.Native.Nat.{_+_, _≤_, _<_};
+ghost use lib.ListN.{length, getD, take, drop};
 ghost use Rattle.kernel_chart.specs.Rows.{chart};
-ghost use Rattle.kernel_chart.specs.Inner.Room.{roomRefusal};
+ghost use Rattle.kernel_chart.specs.Chart.{answerBy, afterBy, chartedOf, tapsAfter};
+ghost use Rattle.kernel_chart.specs.Inner.Flat.{heightsIn, allTaps, startsFrom};
 ghost use Rattle.kernel_chart.specs.Inner.Place.{placeIn};
+ghost use Rattle.kernel_chart.specs.Inner.Room.{roomRefusal};
 
 mod rows;
 
@@ -14,20 +16,28 @@ pub enum Charted {
     Refused(u8),
 }
 
-// Writes a kernel to the first places, where they are enough.
-fn put(kernel: &[u16], taps: &mut [u16]) -> Charted
-    ensures { λ r. ⌜ r ≡ answerBy (roomRefusal (now (kernel .entry)) (length (now (taps .entry)))) (now (kernel .entry)) ⌝ }
-    ensures { λ _. ⌜ now (taps .exit) ≡ afterBy
-        (roomRefusal (now (kernel .entry)) (length (now (taps .entry)))) (now (kernel .entry)) (now (taps .entry)) ⌝ }
+// The height of row k.
+fn height_at(k: usize) -> usize
+    requires { ⌜ k < length chart ⌝ }
+    ensures { λ r. ⌜ r ≡ getD (heightsIn chart) k 0 ⌝ }
 {
-    let n = kernel.len();
-    if taps.len() < n {
-        return Charted::Refused(refusal::SCRATCH);
-    }
-    for i in 0..n {
-        taps[i] = kernel[i];
-    }
-    Charted::Taps(n)
+    rows::HEIGHTS[k]
+}
+
+// Where the taps of row k start among all; for the count of rows, where the last end.
+fn start_at(k: usize) -> usize
+    requires { ⌜ k ≤ length chart ⌝ }
+    ensures { λ r. ⌜ r ≡ getD (startsFrom 0 chart) k 0 ⌝ }
+{
+    rows::STARTS[k]
+}
+
+// Tap i of all.
+fn tap_at(i: usize) -> u16
+    requires { ⌜ i < length (allTaps chart) ⌝ }
+    ensures { λ r. ⌜ r ≡ getD (allTaps chart) i 0 ⌝ }
+{
+    rows::TAPS[i]
 }
 
 // Which row has this height, counted from 0; as many as there are where none has.
@@ -35,11 +45,27 @@ fn find(height: usize) -> usize
     ensures { λ r. ⌜ r ≡ placeIn chart height ⌝ }
 {
     for k in 0..rows::COUNT {
-        if rows::HEIGHTS[k] == height {
+        if height_at(k) == height {
             return k;
         }
     }
     rows::COUNT
+}
+
+// Writes n taps, of all from a place on, to the first places of `taps`, where these are enough.
+fn put(from: usize, n: usize, taps: &mut [u16]) -> Charted
+    requires { ⌜ from + n ≤ length (allTaps chart) ⌝ }
+    ensures { λ r. ⌜ r ≡ answerBy (roomRefusal n (length (now (taps .entry)))) n ⌝ }
+    ensures { λ _. ⌜ now (taps .exit) ≡ afterBy
+        (roomRefusal n (length (now (taps .entry)))) (take n (drop from (allTaps chart))) (now (taps .entry)) ⌝ }
+{
+    if taps.len() < n {
+        return Charted::Refused(refusal::SCRATCH);
+    }
+    for i in 0..n {
+        taps[i] = tap_at(from + i);
+    }
+    Charted::Taps(n)
 }
 
 // The kernel for planes of this height, to the first places of `taps`.
@@ -51,7 +77,7 @@ pub fn kernel_for(height: usize, taps: &mut [u16]) -> Charted
     if k == rows::COUNT {
         return Charted::Refused(refusal::HEIGHT);
     }
-    let from = rows::STARTS[k];
-    let end = rows::STARTS[k + 1];
-    put(&rows::TAPS[from..end], taps)
+    let from = start_at(k);
+    let end = start_at(k + 1);
+    put(from, end - from, taps)
 }

@@ -1,5 +1,5 @@
 -- `kernel_chart::find` meets its contract. Assumes nothing.
-use mathlib.Core.Path.{_≡_, sym}
+use mathlib.Core.Path.{_≡_, sym, _∙_}
 use Prim.Native.Nat.{_+_, _≤_, _<_, _-_}
 use native.Mathlib.Nat.{zero-add, add-zero}
 use native.Mathlib.Numerals.{add-one}
@@ -9,17 +9,18 @@ use lib.ListN.{length, getD, drop}
 use lib.Seq.{drop-length}
 use Rattle.kernel_chart.specs.Rows.{chart}
 use Rattle.kernel_chart.specs.Inner.Place.{placeIn}
-use Rattle.kernel_chart.proofs.Places.{heightsIn, place-here, place-next}
+use Rattle.kernel_chart.proofs.Places.{place-here, place-next}
 use Rattle.kernel_chart.proofs.find.Statement.{statement}
 use Rattle.kernel_chart.proofs.find.Tie as tie
 
+-- the rows before k have other heights
 abbrev Inv-loop : tie.InvT-loop
 Inv-loop height k₀ k = (k ≤ length chart) × (placeIn chart height ≡ k + placeIn (drop k chart) height)
 
 abbrev μ-loop : tie.MeasureT-loop
 μ-loop height k₀ k = length chart - k
 
--- the array of heights is the chart's, as long as it
+-- the code counts as many rows as the chart has
 below : (c : tie.In-loop Inv-loop μ-loop) → c .before .loop .k < length chart
 unfolding chart
 below c = c .loop-test .taken
@@ -28,37 +29,28 @@ past : (c : tie.After-loop Inv-loop μ-loop) → length chart ≤ c .before .loo
 unfolding chart
 past c = c .loop-test .left
 
-same : (c : tie.Then1 Inv-loop μ-loop) → c .before .before .before .args .height ≡ getD (heightsIn chart) (c .before .before .loop .k) 0
-unfolding chart
-same c = sym (c .if1 .taken)
-
-other : (c : tie.Else1 Inv-loop μ-loop) → c .before .before .before .args .height ≡ getD (heightsIn chart) (c .before .before .loop .k) 0 → ⊥
-unfolding chart
-other c e = c .if1 .left (sym e)
-
 loop-holds : tie.Need-loop-holds Inv-loop μ-loop
 loop-holds c = (search needs, sym (zero-add _))
 
-mul-if1 : tie.Need-mul-if1 Inv-loop μ-loop
-mul-if1 c = search needs
-
-array-read-if1 : tie.Need-array-read-if1 Inv-loop μ-loop
-array-read-if1 c = search needs
+height-at-requires : tie.Need-height-at-requires Inv-loop μ-loop
+height-at-requires c κs = below c
 
 returns : tie.Need-returns Inv-loop μ-loop
-returns c = omega (arith, c .before .before .loop .inv .1, place-here chart _ _ (below (c .before)) (same c))
+returns c =
+    let d = c .before in
+    omega (arith, d .before .before .loop .inv .1, place-here chart _ _ (below (d .before)) (sym (c .if1 .taken) ∙ d .height-at .ensures))
 
 add-k : tie.Need-add-k Inv-loop μ-loop
 add-k c = search needs
 
 loop-less : tie.Need-loop-less Inv-loop μ-loop
-loop-less c = omega (arith, below (c .before))
+loop-less c = omega (arith, below (c .before .before))
 
 loop-again : tie.Need-loop-again Inv-loop μ-loop
 loop-again c =
-    let l = c .before .before .loop in
-    let next = place-next chart _ _ (below (c .before)) (other c) in
-    (omega (arith, below (c .before)), rw add-one (omega (arith, l .inv .1, next)))
+    let d = c .before in
+    let next = place-next chart _ _ (below (d .before)) (λ e. c .if1 .left (d .height-at .ensures ∙ sym e)) in
+    (omega (arith, below (d .before)), rw add-one (omega (arith, d .before .before .loop .inv .1, next)))
 
 none-left : (c : tie.After-loop Inv-loop μ-loop) → length chart ≡ placeIn chart (c .before .before .args .height)
 none-left c =
@@ -77,8 +69,7 @@ find-spec =
     Inv-loop
     μ-loop
     loop-holds
-    mul-if1
-    array-read-if1
+    height-at-requires
     returns
     add-k
     loop-less
