@@ -8,8 +8,9 @@ use borrow.Author.Needs.{needs}
 use denote.Ref.{now}
 use lib.ListN.{length, getD}
 use Rattle.kernel_chart.specs.Rows.{chart}
-use Rattle.kernel_chart.specs.Inner.Flat.{kernelsIn, startsFrom}
+use Rattle.kernel_chart.specs.Inner.Flat.{kernelsIn, allTaps, startsFrom}
 use Rattle.kernel_chart.specs.Inner.Place.{placeIn}
+use Rattle.kernel_chart.proofs.Copy.{part}
 use Rattle.kernel_chart.proofs.Places.{There, there}
 use Rattle.kernel_chart.proofs.Flat.{ends, inside, cut, rows-room}
 use Rattle.kernel_chart.proofs.Answer.{unlisted, found}
@@ -72,7 +73,8 @@ returns-2 c =
     let n = d .before .before in
     let ker = getD (kernelsIn chart) (placeIn chart (n .before .before .before .args .height)) [] in
     let count : d .start-at2 .result - d .before .start-at .result ≡ length ker = omega (arith, long d) in
-    let same = rw (count, began (d .before)) (cut chart _ (row n .0)) in
+    let same : part (allTaps chart) (d .before .start-at .result) (d .start-at2 .result - d .before .start-at .result) ≡ ker =
+    rw (count, began (d .before)) (cut chart _ (row n .0)) in
     let said = found _ (now (n .before .before .before .args .taps)) ker (row n) refl in
     (put .put .ensures .0 ∙ rw count (said .0), put .put .ensures .1 ∙ rw (same, count) (said .1))
 
