@@ -1,5 +1,6 @@
 pub mod Combine
 pub mod Hvs
+pub mod Kernel
 pub mod Locate
 pub mod Msssim
 pub mod Places

@@ -8,9 +8,9 @@ use borrow.Author.Tests.{leb-true, eqb-true}
 use lib.Dec.{eqb, lit≤}
 use lib.ListN.{length}
 use Rattle.refusal.proofs.Chain.{and-left, and-right}
-use Rattle.plane.specs.Plane.{allTo}
 use Rattle.plane.specs.Sums.{sumTo}
 use Rattle.plane.proofs.All.{all-at}
+use Rattle.kernel.proofs.Computed.{computed}
 use Rattle.kernel.specs.Kernel.{tap, mostTaps, lentTotal, fixedTotal, fixedKernel, oddCount, tapsSuit, sumsTo, mirrored, middled, lawful}
 
 -- each part of the test, where it passes
@@ -67,7 +67,7 @@ lent-total = lit≤ tt
 
 -- MS-SSIM's own kernel is lawful at its own total
 pub fixed-lawful : lawful fixedTotal fixedKernel ≡ true
-unfolding lawful oddCount tapsSuit sumsTo mirrored middled mostTaps fixedTotal allTo sumTo
+unfolding computed
 fixed-lawful = refl
 
 -- the limits, as sizes of words

@@ -2,3 +2,4 @@ mod Copy
 mod Places
 mod Flat
 mod Answer
+pub mod Lawful
