@@ -1,21 +1,20 @@
 -- Every kernel of the chart is lawful, and so is what the call writes. Assumes nothing.
-use mathlib.Core.Path.{_≡_, refl, sym, _∙_}
+use mathlib.Core.Path.{_≡_, refl, sym}
 use mathlib.Core.Bool.{Bool, true, false, _&&_, _||_, cond, true≢false}
-use mathlib.Core.List.{List, [], _∷_, _++_}
-use Prim.Native.Nat.{ℕ, zero, suc, _≤_}
+use mathlib.Core.List.{List, [], _∷_}
+use Prim.Native.Nat.{ℕ, _≤_}
 use native.Mathlib.Omega.{arith}
 use borrow.Author.Tests.{le-leb}
-use lib.Dec.{eqb, leb, lit≤}
-use lib.ListN.{length, take, drop}
+use lib.Dec.{eqb, lit≤}
+use lib.ListN.{length, take}
 use lib.Seq.{take-append-seam}
 use Rattle.refusal.specs.Numbers.{scratchNo, heightNo}
-use Rattle.refusal.specs.First.{firstBroken, byRefusal}
-use Rattle.refusal.proofs.Chain.{Passed, and-left, and-right, passed}
+use Rattle.refusal.specs.First.{firstBroken}
+use Rattle.refusal.proofs.Chain.{Named, and-left, and-right, passed}
 use Rattle.kernel.specs.Kernel.{mostTaps, lentTotal, lawful}
 use Rattle.kernel.proofs.Computed.{computed}
 use Rattle.kernel.proofs.Says.{kernel-says}
-use Rattle.kernel_chart.specs.declared.Charted.{Charted}
-use Rattle.kernel_chart.specs.declared.Charted.the-variants.{Taps, Refused}
+use Rattle.kernel_chart.specs.declared.Charted.the-variants.{Taps}
 use Rattle.kernel_chart.specs.Rows.{Row, chart}
 use Rattle.kernel_chart.specs.Chart.{listedIn, tapsIn, listed, kernelOf, chartTests, chartRefusal, chartedOf, tapsAfter}
 
@@ -58,3 +57,44 @@ every-listed f (row ∷ later) height e l =
 pub charted-lawful : (height : ℕ) → listed height ≡ true → lawful lentTotal (kernelOf height) ≡ true
 unfolding listed kernelOf
 charted-lawful height l = every-listed (lawful lentTotal) chart height chart-lawful l
+
+-- ---- a call that is not refused
+chart-named : (height places : ℕ) → Named (chartTests height places)
+unfolding chartTests
+chart-named height places = (lit≤ tt, (lit≤ tt, tt))
+
+module _ (height : ℕ) (old : List ℕ) (e : chartRefusal height (length old) ≡ 0) where
+  accepted-listed : listed height ≡ true
+  unfolding chartTests
+  accepted-listed = passed (chartTests height (length old)) (chart-named height (length old)) e .1 .0
+
+  -- wrote the kernel, whose taps it counts
+  pub written : take (length (kernelOf height)) (tapsAfter height old) ≡ kernelOf height
+  unfolding tapsAfter
+  written = rw e (take-append-seam (kernelOf height) _)
+
+  pub answered : chartedOf height old ≡ Taps (length (kernelOf height))
+  unfolding chartedOf
+  answered = rw e
+
+  pub written-lawful : lawful lentTotal (take (length (kernelOf height)) (tapsAfter height old)) ≡ true
+  written-lawful = rw written (charted-lawful height accepted-listed)
+
+-- ---- who lends room for the most taps that a lawful kernel has is never told that it is too short
+few : (rows : List Row) (height : ℕ) → everyRow (lawful lentTotal) rows ≡ true → length (tapsIn rows height) ≤ mostTaps
+few [] height e = omega arith
+few (row ∷ later) height e = go (eqb height (row .0)) (few later height (and-right (lawful lentTotal (row .1)) _ e))
+  where
+    go : (b : Bool) → length (tapsIn later height) ≤ mostTaps → length (cond b (row .1) (tapsIn later height)) ≤ mostTaps
+    go true l = kernel-says lentTotal (row .1) (and-left _ _ e) .short
+    go false l = l
+
+pub chart-enough : (height places : ℕ) → mostTaps ≤ places → chartRefusal height places ≡ scratchNo → ⊥
+unfolding chartTests kernelOf
+chart-enough height places enough h =
+    let room : length (kernelOf height) ≤ places = omega (arith, enough, few chart height chart-lawful) in
+    go (listed height) (rw (le-leb _ _ room) at h)
+  where
+    go : (b : Bool) → firstBroken ((heightNo, b) ∷ []) ≡ scratchNo → ⊥
+    go true h = omega (arith, h)
+    go false h = omega (arith, h)
