@@ -2,7 +2,7 @@
 use mathlib.Core.Path.{_≡_, refl, sym, _∙_}
 use mathlib.Core.Bool.{Bool, true, false, _&&_, true≢false}
 use mathlib.Core.List.{List, [], _∷_, _++_}
-use Prim.Native.Nat.{ℕ, _≤_}
+use Prim.Native.Nat.{ℕ, _≤_, _<_}
 use native.Mathlib.Omega.{arith}
 use borrow.Author.Tests.{le-leb}
 use lib.Dec.{leb, lit≤}
@@ -25,20 +25,20 @@ use Rattle.fuavelino.specs.Places.{within, ssimPlaces, msssimPlaces, mss
 use Rattle.fuavelino.proofs.Counts.{given}
 
 -- ---- tests that have other numbers than the answer passed
-abbrev Other : ℕ → List (ℕ × Bool) → Type 0
+abbrev pub Other : ℕ → List (ℕ × Bool) → Type 0
 Other m [] = Unit {0}
 Other m (t ∷ later) = (t .0 ≡ m → ⊥) × Other m later
 
-others : (m : ℕ) (ts more : List (ℕ × Bool)) → Other m ts → firstBroken (ts ++ more) ≡ m → (firstBroken ts ≡ 0) × (firstBroken more ≡ m)
+pub others : (m : ℕ) (ts more : List (ℕ × Bool)) → Other m ts → firstBroken (ts ++ more) ≡ m → (firstBroken ts ≡ 0) × (firstBroken more ≡ m)
 others m [] more other e = (refl, e)
 others m ((n, true) ∷ later) more other e = others m later more (other .1) e
 others m ((n, false) ∷ later) more other e = absurd (other .0 e)
 
--- the planes' six have other numbers than 8
-plane-others : (p : Planes) (least : ℕ) → Other scratchNo (pairTests p least)
+-- the planes' six have other numbers than those that come later
+pub plane-others : (m : ℕ) → 6 < m → (p : Planes) (least : ℕ) → Other m (pairTests p least)
 unfolding sizeTests layoutTests
-plane-others p least =
-    let no : (n : ℕ) → n ≤ 6 → n ≡ scratchNo → ⊥ = λ n low z. omega (arith, low, z) in
+plane-others m later p least =
+    let no : (n : ℕ) → n ≤ 6 → n ≡ m → ⊥ = λ n low z. omega (arith, later, low, z) in
     (no 1 (lit≤ tt), (no 2 (lit≤ tt), (no 3 (lit≤ tt), (no 4 (lit≤ tt), (no 5 (lit≤ tt), (no 6 (lit≤ tt), tt))))))
 
 -- the last test, of 8, failed
@@ -74,7 +74,7 @@ unfolding lentTests
 ssim-enough p ker places enough h =
     let width : ℕ = p .size .width in
     let taps : ℕ = length ker in
-    let planes = others scratchNo (pairTests p 0) (lentTests width ker places) (plane-others p 0) h in
+    let planes = others scratchNo (pairTests p 0) (lentTests width ker places) (plane-others scratchNo (lit≤ tt) p 0) h in
     let tests : List (ℕ × Bool) = (kernelNo, lawful lentTotal ker) ∷ [] in
     let kernel = others scratchNo tests ((scratchNo, leb (scratchPlaces width taps) places) ∷ []) (λ z. omega (arith, z), tt) (planes .1) in
     let sized = accepted (p .size) (both p) 0 (planes .0) .sized in
@@ -92,7 +92,7 @@ unfolding scratchSuits
 msssim-enough p s enough enough-a enough-b h =
     let width : ℕ = p .size .width in
     let height : ℕ = p .size .height in
-    let planes = others scratchNo (pairTests p leastSide) ((scratchNo, scratchSuits (p .size) s) ∷ []) (plane-others p leastSide) h in
+    let planes = others scratchNo (pairTests p leastSide) ((scratchNo, scratchSuits (p .size) s) ∷ []) (plane-others scratchNo (lit≤ tt) p leastSide) h in
     let sized = accepted (p .size) (both p) leastSide (planes .0) .sized in
     let wide = is-within leastSide sideLimit width (sized .width-reaches) (sized .width-most) in
     let high = is-within leastSide sideLimit height (sized .height-reaches) (sized .height-most) in
@@ -108,7 +108,7 @@ unfolding errorMapPlaces
 error-map-enough p places enough h =
     let width : ℕ = p .size .width in
     let height : ℕ = p .size .height in
-    let planes = others scratchNo (pairTests p 0) ((scratchNo, leb (mapPlaces p) places) ∷ []) (plane-others p 0) h in
+    let planes = others scratchNo (pairTests p 0) ((scratchNo, leb (mapPlaces p) places) ∷ []) (plane-others scratchNo (lit≤ tt) p 0) h in
     let sized = accepted (p .size) (both p) 0 (planes .0) .sized in
     let wide = is-within 1 sideLimit width (sized .width-least) (sized .width-most) in
     let high = is-within 1 sideLimit height (sized .height-least) (sized .height-most) in
