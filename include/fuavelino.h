@@ -39,12 +39,13 @@ enum fuavelino_refusal {
     FUAVELINO_SHORT = 5,       /* a plane has fewer than stride * (height - 1) + width samples */
     FUAVELINO_SAMPLE = 6,      /* a visible sample is above 2^depth - 1 */
     FUAVELINO_KERNEL = 7,      /* the kernel is unlawful */
-    FUAVELINO_SCRATCH = 8,     /* lent scratch or a lent map is too short */
+    FUAVELINO_SCRATCH = 8,     /* lent scratch, or room lent for a map or a kernel, is too short */
     FUAVELINO_NOT_FINITE = 9,  /* nothing else applies, and the defined score is infinite or not a number */
     FUAVELINO_RECORD = 10,     /* a series of none or over 65536 records, or with a bad one */
     FUAVELINO_TOTAL = 11,      /* a series whose exact total is above 2^53 */
     FUAVELINO_VALUE = 12,      /* a root or a transform of what it does not take */
-    FUAVELINO_WEIGHT = 13      /* a weight outside 0 to 1, or a number that is not finite */
+    FUAVELINO_WEIGHT = 13,     /* a weight outside 0 to 1, or a number that is not finite */
+    FUAVELINO_HEIGHT = 14      /* a height for which the chart has no kernel */
 };
 
 /* An answer in words, for messages. Any number may be asked for. */
@@ -58,12 +59,13 @@ static inline const char *fuavelino_refusal_text(unsigned number) {
     case FUAVELINO_SHORT: return "a plane has too few samples";
     case FUAVELINO_SAMPLE: return "a visible sample is above the depth's largest";
     case FUAVELINO_KERNEL: return "the kernel is unlawful";
-    case FUAVELINO_SCRATCH: return "lent scratch or a lent map is too short";
+    case FUAVELINO_SCRATCH: return "lent scratch, or room lent for a map or a kernel, is too short";
     case FUAVELINO_NOT_FINITE: return "the score is infinite or not a number";
     case FUAVELINO_RECORD: return "a series of no records, of too many, or with a bad one";
     case FUAVELINO_TOTAL: return "the exact total of a series is above 2^53";
     case FUAVELINO_VALUE: return "a value, or a count of values, is out of range";
     case FUAVELINO_WEIGHT: return "a weight is outside 0 to 1, or a number is not finite";
+    case FUAVELINO_HEIGHT: return "the chart has no kernel for this height";
     default: return "no answer of this library";
     }
 }
@@ -118,9 +120,17 @@ size_t fuavelino_error_map_places(size_t width, size_t height);
 /* Adds up the errors and counts of a run of records, under their one sample_max. Refuses 10 11. */
 uint8_t fuavelino_series(const fuavelino_record *records, size_t count, double *sq_err, uint64_t *n, uint32_t *sample_max);
 
+/* So many places serve for every kernel: no lawful one has more taps. */
+#define FUAVELINO_MOST_TAPS 255
+
+/* The kernel that av-metrics builds, with weight 256, for a plane of this height and of no smaller width, from a chart that lists the heights 144,
+ * 180, 240, 270, 288, 360, 405, 480, 540, 576, 720, 1080, 1440 and 2160. It goes to the first *count of `taps`; places past them stay as they were.
+ * 8: the height is listed, and there are fewer places than taps. 14: the height is not listed, whatever is lent. */
+uint8_t fuavelino_kernel(size_t height, uint16_t *taps, size_t places, size_t *count);
+
 /* SSIM under a kernel: an odd count of taps from 1 to 255, each from 0 to 256, summing to 256, the same from both ends, the middle at least 1.
  * `scratch` has at least fuavelino_ssim_places(width, taps) places; accepted, and at 9, those are 0 after the call. Refuses 1 2 4 5 6 7 8 9.
- * fuavelino_kernel.h builds the kernel that av-metrics chooses for a plane. */
+ * fuavelino_kernel.h has the kernel that av-metrics chooses for any plane. */
 uint8_t fuavelino_ssim8(const uint8_t *a, size_t a_len, const uint8_t *b, size_t b_len, size_t width, size_t height,
                         size_t stride_a, size_t stride_b, uint32_t depth, const uint16_t *kernel, size_t taps, int64_t *scratch,
                         size_t places, double *ssim, double *cs);

@@ -1,31 +1,33 @@
 /* The kernel that av-metrics 0.9.1 chooses for a plane, for fuavelino_ssim8 and fuavelino_ssim16.
  *
- * NOT PROVED, and no part of libfuavelino.a: a bell curve worked out by the host's pow and log (link with -lm), step by step as av-metrics
- * does. SSIM judges the kernel that it is lent, and refuses an unlawful one with 7. */
+ * For a plane whose height the chart of fuavelino_kernel lists, and whose width is no smaller, it is the chart's, and proved: link with
+ * libfuavelino.a. NOT PROVED, and no part of that library, are the others: a bell curve worked out by the host's pow and log (link with -lm),
+ * step by step as av-metrics does. SSIM judges the kernel that it is lent, and refuses an unlawful one with 7. */
 #ifndef FUAVELINO_KERNEL_H
 #define FUAVELINO_KERNEL_H
 
+#include "fuavelino.h"
+
 #include <math.h>
-#include <stddef.h>
-#include <stdint.h>
 
 #ifdef __cplusplus
 extern "C" {
 #endif
 
-/* So many places serve for any plane: no lawful kernel has more taps. */
-#define FUAVELINO_MOST_TAPS 255
-
 /* Writes the kernel for a plane of these sides to `taps`, and answers how many taps it has: an odd count. 0, and nothing is written, where a
- * side is not 1 to 8192 or there are fewer places than taps. */
+ * side is not 1 to 8192 or there are fewer places than taps. FUAVELINO_MOST_TAPS places serve for any plane. */
 static inline size_t fuavelino_gaussian_kernel(size_t width, size_t height, uint16_t *taps, size_t places) {
     const double e = 2.7182818284590452354, pi = 3.14159265358979323846;
     const double weight = 256, sigma = (double)height * 1.5 / 256;
     const double half = sqrt(0.5 * pi) * sigma * (1 / weight), peak = 1 / (sqrt(2 * pi) * sigma), fall = -0.5 / (sigma * sigma);
     const size_t shorter = width < height ? width : height;
-    size_t side = 0, k;
+    size_t side = 0, count, k;
     uint16_t middle = 256;
-    if (shorter < 1 || width > 8192 || height > 8192) return 0;
+    if (places < 1 || shorter < 1 || width > 8192 || height > 8192) return 0;
+    if (width >= height) {
+        const uint8_t said = fuavelino_kernel(height, taps, places, &count);
+        if (said != FUAVELINO_HEIGHT) return said == FUAVELINO_ACCEPTED ? count : 0;
+    }
     /* past this many from the middle a tap is less than half a unit of the weight */
     if (half < 1) side = (size_t)floor(sigma * sqrt(-2 * log(half)));
     if (side > shorter - 1) side = shorter - 1;

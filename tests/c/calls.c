@@ -302,6 +302,54 @@ static int all_taps(size_t count, const uint16_t *taps, const uint16_t *known, s
     return count == known_count && memcmp(taps, known, count * sizeof taps[0]) == 0;
 }
 
+/* Whether the places from this one on hold what was put there before the call. */
+static int untouched(const uint16_t *taps, size_t places, size_t from) {
+    while (from < places && taps[from] == 999) from++;
+    return from == places;
+}
+
+/* The chart's kernel with exactly its places and with more, then refused: one place short, and none. */
+static void charted(size_t height, const uint16_t *known, size_t known_count) {
+    uint16_t taps[FUAVELINO_MOST_TAPS], built[FUAVELINO_MOST_TAPS];
+    size_t i, count = 77;
+    for (i = 0; i < COUNT(taps); i++) taps[i] = 999;
+    EXPECT(CALL(fuavelino_kernel, (height, taps, known_count - 1, &count)) == FUAVELINO_SCRATCH);
+    EXPECT(CALL(fuavelino_kernel, (height, taps, 0, &count)) == FUAVELINO_SCRATCH);
+    EXPECT(fuavelino_gaussian_kernel(height, height, taps, known_count - 1) == 0);
+    EXPECT(count == 77 && untouched(taps, COUNT(taps), 0));
+    EXPECT(CALL(fuavelino_kernel, (height, taps, known_count, &count)) == 0);
+    EXPECT(all_taps(count, taps, known, known_count) && untouched(taps, COUNT(taps), known_count));
+    for (i = 0; i < COUNT(taps); i++) taps[i] = 999;
+    count = 77;
+    EXPECT(CALL(fuavelino_kernel, (height, taps, COUNT(taps), &count)) == 0);
+    EXPECT(all_taps(count, taps, known, known_count) && untouched(taps, COUNT(taps), known_count));
+    EXPECT(all_taps(fuavelino_gaussian_kernel(height, height, built, COUNT(built)), built, known, known_count));
+    EXPECT(all_taps(fuavelino_gaussian_kernel(8192, height, built, known_count), built, known, known_count));
+}
+
+/* Each listed height, with its count of taps; the oracle compares the taps of them all with av-metrics'. */
+static void chart(void) {
+    static const uint16_t of_144[] = {7, 60, 122, 60, 7}, of_180[] = {2, 16, 62, 96, 62, 16, 2};
+    static const uint16_t of_405[] = {1, 2, 5, 10, 19, 30, 39, 44, 39, 30, 19, 10, 5, 2, 1};
+    static const size_t listed[] = {144, 180, 240, 270, 288, 360, 405, 480, 540, 576, 720, 1080, 1440, 2160};
+    static const size_t counts[] = {5, 7, 9, 9, 11, 13, 15, 17, 19, 19, 23, 33, 43, 59}, huge[] = {1u << 16, SIZE_MAX - 1, SIZE_MAX};
+    uint16_t taps[FUAVELINO_MOST_TAPS], own[FUAVELINO_MOST_TAPS];
+    size_t i, height, count = 77, own_count = 0, next = 0;
+    charted(144, of_144, COUNT(of_144)), charted(180, of_180, COUNT(of_180)), charted(405, of_405, COUNT(of_405));
+    for (i = 0; i < COUNT(taps); i++) taps[i] = 999;
+    for (height = 0; height <= 8193; height++) {
+        if (next < COUNT(listed) && height == listed[next]) {
+            EXPECT(CALL(fuavelino_kernel, (height, own, COUNT(own), &own_count)) == 0 && own_count == counts[next]);
+            next++;
+            continue;
+        }
+        EXPECT(CALL(fuavelino_kernel, (height, taps, COUNT(taps), &count)) == FUAVELINO_HEIGHT);
+        EXPECT(CALL(fuavelino_kernel, (height, taps, 0, &count)) == FUAVELINO_HEIGHT);
+    }
+    for (i = 0; i < COUNT(huge); i++) EXPECT(CALL(fuavelino_kernel, (huge[i], taps, COUNT(taps), &count)) == FUAVELINO_HEIGHT);
+    EXPECT(next == COUNT(listed) && count == 77 && untouched(taps, COUNT(taps), 0));
+}
+
 /* Kernels of av-metrics, whole and cut short by a narrow plane. */
 static void kernels(void) {
     static const uint16_t of_640_by_360[] = {1, 3, 8, 18, 31, 43, 48, 43, 31, 18, 8, 3, 1}, of_5_by_1080[] = {13, 14, 15, 16, 140, 16, 15, 14, 13}, of_one[] = {256};
@@ -446,7 +494,7 @@ static void words(void) {
     EXPECT(strcmp(fuavelino_refusal_text(FUAVELINO_SAMPLE), "a visible sample is above the depth's largest") == 0);
     for (number = 0; number < 300; number++) {
         const int none = strcmp(fuavelino_refusal_text(number), "no answer of this library") == 0;
-        EXPECT(none == (number > FUAVELINO_WEIGHT));
+        EXPECT(none == (number > FUAVELINO_HEIGHT));
     }
 }
 
@@ -456,6 +504,7 @@ int main(void) {
     version();
     words();
     places();
+    chart();
     kernels();
     root();
     check();
