@@ -15,6 +15,7 @@ extern "C" {
     fn fuavelino_msssim_places(width: usize) -> usize;
     fn fuavelino_msssim_samples(width: usize, height: usize) -> usize;
     fn fuavelino_error_map_places(width: usize, height: usize) -> usize;
+    fn fuavelino_kernel(height: usize, taps: *mut u16, places: usize, count: &mut usize) -> u8;
     fn fuavelino_root(x: f64, out: &mut f64) -> u8;
     fn fuavelino_series(
         records: *const PsnrMetrics,
@@ -57,6 +58,13 @@ pub fn msssim_samples(width: usize, height: usize) -> usize {
 pub fn error_map_places(width: usize, height: usize) -> usize {
     // SAFETY: it takes any numbers, and no place.
     unsafe { fuavelino_error_map_places(width, height) }
+}
+
+#[inline]
+pub fn kernel(height: usize, taps: &mut [u16], count: &mut usize) -> u8 {
+    // SAFETY: any height is taken, the pointer and the count of places are those of one slice, lent to be written, and `count` is a place
+    // of its own.
+    unsafe { fuavelino_kernel(height, taps.as_mut_ptr(), taps.len(), count) }
 }
 
 #[inline]

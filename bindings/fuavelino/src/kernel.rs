@@ -1,23 +1,38 @@
-//! Kernels of SSIM, and the bell curve that av-metrics makes them from.
+//! Kernels of SSIM: those of the library's chart, and the bell curve that av-metrics makes the others from.
 
+use crate::no_alloc::{self, MOST_TAPS};
+use crate::refusal::Refusal;
 use std::f64::consts::{E, PI};
 
 /// The taps of a kernel, for rows and columns alike. It holds what it is given; [`ssim`](crate::ssim) judges it, and refuses an unlawful
 /// one with 7. Lawful is: an odd count of taps from 1 to 255, each from 0 to 256, summing to 256, the same from both ends, the middle one
 /// at least 1.
 ///
+/// The library has a chart of kernels, proved to be lawful. What is not in it is built here, and is not proved.
+///
 /// ```
 /// use fuavelino::Kernel;
 ///
-/// // for 640 by 360: 13 taps, as av-metrics builds them
+/// // for 640 by 360: 13 taps, as av-metrics builds them, from the chart
 /// let kernel = Kernel::for_plane(640, 360);
 /// assert_eq!((kernel.taps().len(), kernel.taps().iter().sum::<u16>()), (13, 256));
+/// assert!(kernel.is_charted() && !Kernel::for_plane(640, 361).is_charted());
 /// assert_eq!(Kernel::from_taps(vec![64, 128, 64]).taps(), [64, 128, 64]);
 /// ```
-#[derive(Clone, Debug, PartialEq, Eq)]
+#[derive(Clone, Debug)]
 pub struct Kernel {
     taps: Vec<u16>,
+    charted: bool,
 }
+
+/// Kernels are their taps, wherever those come from.
+impl PartialEq for Kernel {
+    fn eq(&self, other: &Kernel) -> bool {
+        self.taps == other.taps
+    }
+}
+
+impl Eq for Kernel {}
 
 /// What the taps of a lent kernel sum to.
 const WEIGHT: usize = 256;
@@ -28,14 +43,43 @@ const MOST: usize = 65_535;
 impl Kernel {
     /// These taps, lawful or not.
     pub fn from_taps(taps: Vec<u16>) -> Kernel {
-        Kernel { taps }
+        Kernel { taps, charted: false }
     }
 
-    /// The kernel that av-metrics chooses for a plane: its width grows with the height.
+    /// The chart's kernel for a plane of this height and of no smaller width, as av-metrics builds it. Refuses 14 where the chart does not
+    /// list the height. It lists 144, 180, 240, 270, 288, 360, 405, 480, 540, 576, 720, 1,080, 1,440 and 2,160.
+    ///
+    /// ```
+    /// use fuavelino::{Kernel, Refusal};
+    ///
+    /// assert_eq!(Kernel::charted(144)?.taps(), [7, 60, 122, 60, 7]);
+    /// assert_eq!(Kernel::charted(145), Err(Refusal::Height));
+    /// # Ok::<(), Refusal>(())
+    /// ```
+    pub fn charted(height: usize) -> Result<Kernel, Refusal> {
+        let (mut taps, mut count) = ([0; MOST_TAPS], 0);
+        no_alloc::kernel(height, &mut taps, &mut count)?;
+        Ok(Kernel { taps: taps[..count].to_vec(), charted: true })
+    }
+
+    /// The kernel that av-metrics chooses for a plane: its width grows with the height. It is the chart's where that lists the height and the
+    /// width is no smaller; else it is built.
     pub fn for_plane(width: usize, height: usize) -> Kernel {
+        match Kernel::charted(height) {
+            Ok(kernel) if width >= height => kernel,
+            _ => Kernel::built(width, height),
+        }
+    }
+
+    fn built(width: usize, height: usize) -> Kernel {
         let built = build_gaussian_kernel(height as f64 * 1.5 / 256.0, width.min(height), WEIGHT);
         // a tap that no word holds becomes one that is unlawful too
-        Kernel { taps: built.into_iter().map(|tap| u16::try_from(tap).unwrap_or(u16::MAX)).collect() }
+        Kernel::from_taps(built.into_iter().map(|tap| u16::try_from(tap).unwrap_or(u16::MAX)).collect())
+    }
+
+    /// Whether its taps were taken from the chart.
+    pub fn is_charted(&self) -> bool {
+        self.charted
     }
 
     /// The taps, from one end to the other.

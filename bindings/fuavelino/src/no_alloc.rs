@@ -82,6 +82,27 @@ pub fn series(records: &[PsnrMetrics], out: &mut PsnrMetrics) -> Result<(), Refu
     outcome(exports::series(records, out))
 }
 
+/// So many places serve for every kernel: no lawful one has more taps. Who lends them is never told 8 by [`kernel`].
+pub const MOST_TAPS: usize = 255;
+
+/// The chart's kernel for a plane of this height and of no smaller width, in the first `count` places of `taps`; the rest stay as they were.
+/// Refuses 14 where the chart does not list the height, whatever is lent, and 8 where it does and there are fewer places than taps.
+///
+/// ```
+/// use fuavelino::{no_alloc, Refusal};
+///
+/// let (mut taps, mut count) = ([9; 7], 0);
+/// no_alloc::kernel(144, &mut taps, &mut count)?;
+/// assert_eq!((taps, count), ([7, 60, 122, 60, 7, 9, 9], 5));
+/// assert_eq!(no_alloc::kernel(144, &mut taps[..4], &mut count), Err(Refusal::Scratch));
+/// assert_eq!(no_alloc::kernel(145, &mut taps, &mut count), Err(Refusal::Height));
+/// # Ok::<(), Refusal>(())
+/// ```
+#[inline]
+pub fn kernel(height: usize, taps: &mut [u16], count: &mut usize) -> Result<(), Refusal> {
+    outcome(exports::kernel(height, taps, count))
+}
+
 /// The places of scratch that [`ssim`] needs: 6 × width × L, L the least power of two not below the count of taps. 0 where the width is not
 /// 1 to 8,192 or the count of taps not 1 to 255: such a call is refused by a lower number than 8, whatever is lent.
 #[inline]

@@ -1,4 +1,4 @@
-//! The thirteen refusals.
+//! The refusals.
 
 use std::error::Error;
 use std::fmt;
@@ -20,7 +20,7 @@ pub enum Refusal {
     Sample = 6,
     /// 7: the lent kernel is unlawful.
     Kernel = 7,
-    /// 8: lent scratch or a lent map is too short.
+    /// 8: lent scratch, or room lent for a map or a kernel, is too short.
     Scratch = 8,
     /// 9: nothing else applies, and the defined score is infinite or not a number.
     NotFinite = 9,
@@ -32,10 +32,12 @@ pub enum Refusal {
     Value = 12,
     /// 13: combining with a weight outside 0 to 1, or of a number that is not finite.
     Weight = 13,
+    /// 14: the chart has no kernel for this height.
+    Height = 14,
 }
 
 /// Each refusal with its rule, in the order of the numbers.
-const RULES: [(Refusal, &str); 13] = [
+const RULES: [(Refusal, &str); 14] = [
     (Refusal::Depth, "the depth does not suit the sample width"),
     (Refusal::Size, "width or height is 0 or above 8192"),
     (Refusal::Side, "a side is below the least that this score takes"),
@@ -43,16 +45,17 @@ const RULES: [(Refusal, &str); 13] = [
     (Refusal::Short, "a plane has too few samples"),
     (Refusal::Sample, "a visible sample is above the depth's largest"),
     (Refusal::Kernel, "the kernel is unlawful"),
-    (Refusal::Scratch, "lent scratch or a lent map is too short"),
+    (Refusal::Scratch, "lent scratch, or room lent for a map or a kernel, is too short"),
     (Refusal::NotFinite, "the score is infinite or not a number"),
     (Refusal::Record, "a series of no records, of too many, or with a bad one"),
     (Refusal::Total, "the exact total of a series is above 2^53"),
     (Refusal::Value, "a value, or a count of values, is out of range"),
     (Refusal::Weight, "a weight is outside 0 to 1, or a number is not finite"),
+    (Refusal::Height, "the chart has no kernel for this height"),
 ];
 
 impl Refusal {
-    /// Its number, 1 to 13.
+    /// Its number, 1 to 14.
     pub fn number(self) -> u8 {
         self as u8
     }
@@ -79,7 +82,7 @@ impl Error for Refusal {}
 
 /// What an export's number means.
 ///
-/// The library is proved to answer 0 to 13 only. Another number means that this crate is linked with a library that it was not
+/// The library is proved to answer 0 to 14 only. Another number means that this crate is linked with a library that it was not
 /// written for; then nothing that it says can be taken for good, so this panics.
 #[inline]
 pub(crate) fn outcome(number: u8) -> Result<(), Refusal> {

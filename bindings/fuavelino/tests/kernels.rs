@@ -1,6 +1,74 @@
-//! Kernels that are built.
+//! Kernels of the chart, and those that are built.
 
-use fuavelino::{build_gaussian_kernel, ssim, Kernel, Plane, Scratch, Shape};
+use fuavelino::{build_gaussian_kernel, no_alloc, ssim, Kernel, Plane, Refusal, Scratch, Shape};
+
+/// The heights that the chart lists.
+const LISTED: [usize; 14] = [144, 180, 240, 270, 288, 360, 405, 480, 540, 576, 720, 1_080, 1_440, 2_160];
+
+/// What is built for a plane, as words.
+fn built(width: usize, height: usize) -> Vec<u16> {
+    let taps = build_gaussian_kernel(height as f64 * 1.5 / 256.0, width.min(height), 256);
+    taps.into_iter().map(|tap| u16::try_from(tap).unwrap()).collect()
+}
+
+#[test]
+fn the_chart_has_its_heights_and_no_other() {
+    let huge = [1 << 16, 1 << 32, usize::MAX - 1, usize::MAX];
+    let heights: Vec<usize> = (0..=8_193).chain(huge).collect();
+    let charted: Vec<usize> = heights.iter().copied().filter(|height| Kernel::charted(*height).is_ok()).collect();
+    assert_eq!(charted, LISTED);
+    for height in heights.into_iter().filter(|height| !LISTED.contains(height)) {
+        assert_eq!(Kernel::charted(height), Err(Refusal::Height), "{} rows", height);
+    }
+}
+
+#[test]
+fn the_chart_has_what_would_be_built() {
+    for height in LISTED {
+        let kernel = Kernel::charted(height).unwrap();
+        assert_eq!(kernel.taps(), built(height, height), "{} rows", height);
+        assert!(kernel.is_charted());
+        // equal is who has the same taps
+        let same = Kernel::from_taps(kernel.taps().to_vec());
+        assert!(same == kernel && !same.is_charted());
+        assert_ne!(Kernel::from_taps(kernel.taps()[1..].to_vec()), kernel);
+    }
+}
+
+#[test]
+fn a_plane_of_a_listed_height_gets_a_charted_one() {
+    for height in LISTED {
+        for width in [height, height + 1, usize::MAX] {
+            let kernel = Kernel::for_plane(width, height);
+            assert!(kernel.is_charted() && kernel == Kernel::charted(height).unwrap(), "{} by {}", width, height);
+        }
+        for width in [1, 2, height - 1] {
+            let kernel = Kernel::for_plane(width, height);
+            assert!(!kernel.is_charted() && kernel.taps() == built(width, height), "{} by {}", width, height);
+        }
+    }
+    assert!(![143, 145, 8_192].iter().any(|height| Kernel::for_plane(8_192, *height).is_charted()));
+}
+
+/// No place, one too few, all that are needed, and more, which are left as they are.
+#[test]
+fn room_for_a_charted_one() {
+    for height in LISTED {
+        let kernel = built(height, height);
+        let mut noise: Vec<u16> = (0..kernel.len() as u16 + 9).map(|place| 300 + place * 211).collect();
+        let before = noise.clone();
+        for places in [0, kernel.len() - 1] {
+            let mut count = 77;
+            assert_eq!(no_alloc::kernel(height, &mut noise[..places], &mut count), Err(Refusal::Scratch));
+            assert_eq!((&noise, count), (&before, 77));
+        }
+        for more in [0, 1, 9] {
+            let (mut room, mut count) = (before[..kernel.len() + more].to_vec(), 77);
+            assert_eq!(no_alloc::kernel(height, &mut room, &mut count), Ok(()));
+            assert_eq!((&room[..count], &room[count..]), (&kernel[..], &before[kernel.len()..][..more]));
+        }
+    }
+}
 
 #[test]
 fn the_rules_number() {

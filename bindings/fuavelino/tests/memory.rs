@@ -86,6 +86,15 @@ fn a_map_asks_for_its_places() {
     assert_eq!(asked(|| assert_eq!(error_map(plane, plane, shape).map(|map| map.total()), Ok(0))), 3 * 2 * 8);
 }
 
+/// A kernel asks for its taps, a height that the chart does not list for nothing.
+#[test]
+fn a_charted_kernel_asks_for_its_taps() {
+    assert_eq!(asked(|| assert_eq!(Kernel::charted(1_080).map(|kernel| kernel.taps().len()), Ok(33))), 33 * 2);
+    for height in WILD {
+        assert_eq!(asked(|| assert_eq!(Kernel::charted(height), Err(Refusal::Height))), 0);
+    }
+}
+
 #[test]
 fn room_is_kept() {
     let samples: Vec<u8> = (0..64 * 64).map(|i| (i * 7) as u8).collect();

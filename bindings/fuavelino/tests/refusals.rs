@@ -193,10 +193,20 @@ fn combining() {
 }
 
 #[test]
+fn heights() {
+    let (mut taps, mut count) = ([5; 4], 6);
+    assert_eq!(no_alloc::kernel(143, &mut taps, &mut count), Err(Refusal::Height));
+    assert_eq!(no_alloc::kernel(143, &mut [], &mut count), Err(Refusal::Height));
+    assert_eq!(no_alloc::kernel(144, &mut taps, &mut count), Err(Refusal::Scratch));
+    assert_eq!((taps, count), ([5; 4], 6));
+    assert_eq!(Kernel::charted(143), Err(Refusal::Height));
+}
+
+#[test]
 fn numbers_and_rules() {
-    let every: Vec<Refusal> = (1..=13).filter_map(Refusal::from_number).collect();
-    assert_eq!(every.iter().map(|r| r.number()).collect::<Vec<u8>>(), (1..=13).collect::<Vec<u8>>());
-    assert_eq!([0, 14, 255].map(Refusal::from_number), [None; 3]);
+    let every: Vec<Refusal> = (1..=14).filter_map(Refusal::from_number).collect();
+    assert_eq!(every.iter().map(|r| r.number()).collect::<Vec<u8>>(), (1..=14).collect::<Vec<u8>>());
+    assert_eq!([0, 15, 255].map(Refusal::from_number), [None; 3]);
     let said = Refusal::Sample.to_string();
     assert_eq!(said, "refusal 6: a visible sample is above the depth's largest");
 }
