@@ -332,7 +332,9 @@ static void chart(void) {
     static const uint16_t of_144[] = {7, 60, 122, 60, 7}, of_180[] = {2, 16, 62, 96, 62, 16, 2};
     static const uint16_t of_405[] = {1, 2, 5, 10, 19, 30, 39, 44, 39, 30, 19, 10, 5, 2, 1};
     static const size_t listed[] = {144, 180, 240, 270, 288, 360, 405, 480, 540, 576, 720, 1080, 1440, 2160};
-    static const size_t counts[] = {5, 7, 9, 9, 11, 13, 15, 17, 19, 19, 23, 33, 43, 59}, huge[] = {1u << 16, SIZE_MAX - 1, SIZE_MAX};
+    static const size_t counts[] = {5, 7, 9, 9, 11, 13, 15, 17, 19, 19, 23, 33, 43, 59};
+    /* with the low bits of listed ones, too */
+    static const size_t huge[] = {65536 + 144, SIZE_MAX / 2 + 1 + 144, SIZE_MAX - 1, SIZE_MAX};
     uint16_t taps[FUAVELINO_MOST_TAPS], own[FUAVELINO_MOST_TAPS];
     size_t i, height, count = 77, own_count = 0, next = 0;
     charted(144, of_144, COUNT(of_144)), charted(180, of_180, COUNT(of_180)), charted(405, of_405, COUNT(of_405));
