@@ -68,6 +68,8 @@ pub enum Asked {
     Compare(Box<Compare>),
     Pairs(Box<Pairs>),
     Where(Where),
+    /// The chart's kernel for planes of so many rows.
+    Kernel(usize),
     Clip(Clip),
 }
 
@@ -83,8 +85,9 @@ pub fn parse(words: impl Iterator<Item = OsString>) -> Result<Asked, Stop> {
         Some("--version" | "-V") => Ok(Asked::Version),
         Some("compare") => compare(Words::of(words, &known())?),
         Some("where") => locate(Words::of(words, WHERE)?),
+        Some("kernel") => kernel(Words::of(words, KERNEL)?),
         Some("clip") => clip(Words::of(words, CLIP)?),
-        _ => Err(usage(&format!("no command {:?}; there are compare, where and clip", first))),
+        _ => Err(usage(&format!("no command {:?}; there are compare, where, kernel and clip", first))),
     }
 }
 
@@ -125,6 +128,8 @@ const WHERE: &[Known] = &[
     ("--quiet", false),
     ("-h", false),
 ];
+
+const KERNEL: &[Known] = &[("--help", false), ("-h", false)];
 
 const CLIP: &[Known] =
     &[("--help", false), ("--size", true), ("--depth", true), ("--chroma", true), ("--frames", true), ("-h", false)];
@@ -216,6 +221,17 @@ fn thresholds(words: &Words, metrics: &Metrics) -> Result<Vec<Threshold>, Stop> 
         list.push(Threshold { kind, run, plane, limit });
     }
     Ok(list)
+}
+
+fn kernel(words: Words) -> Result<Asked, Stop> {
+    if words.wants_help()? {
+        return Ok(Asked::Help);
+    }
+    let height = match &words.others[..] {
+        [height] => height.to_str().and_then(|text| decimal(text.as_bytes())),
+        _ => None,
+    };
+    height.map(Asked::Kernel).ok_or_else(|| usage("kernel takes one HEIGHT, a whole number of rows"))
 }
 
 fn clip(words: Words) -> Result<Asked, Stop> {

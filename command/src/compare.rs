@@ -11,7 +11,7 @@ use crate::opened::{output, progress, Count, Opened, Subject};
 use crate::output::Output;
 use crate::progress::{say, Progress};
 use crate::report::{End, Job, Report, Worst};
-use crate::score::FrameScores;
+use crate::score::{kernels, FrameScores};
 use crate::stop::{Fault, Stop, BROKEN, FAULT, PASSED};
 use crate::summary::Summary;
 use crate::table::Table;
@@ -65,7 +65,8 @@ fn report(form: Form) -> Box<dyn Report> {
 }
 
 fn begin(report: &mut dyn Report, to: &mut dyn Write, asked: &Compare, subject: Subject<'_>) -> io::Result<()> {
-    report.begin(to, &Job { subject, metrics: asked.metrics, thresholds: &asked.thresholds })
+    let kernels = subject.format.filter(|_| asked.metrics.ssim).map(|format| kernels(&format));
+    report.begin(to, &Job { subject, metrics: asked.metrics, thresholds: &asked.thresholds, kernels })
 }
 
 /// What stands in the report's file until the run has ended: a whole report of a run that did not pass.

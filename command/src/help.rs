@@ -44,6 +44,9 @@ fuavelino: compares a decoded video with its original, and passes only what is s
       --output FILE, --frames N, --strict, --quiet
                          as for compare
 
+  fuavelino kernel HEIGHT
+      Prints the taps of the kernel of SSIM for planes of so many rows and no fewer columns, from the library's proved chart.
+
   fuavelino clip pattern|damaged FILE [--size WxH] [--depth D] [--chroma C] [--frames N]
       Writes a small Y4M clip: a moving pattern, or the same with a damaged patch in one plane of one frame.
 

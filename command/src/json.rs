@@ -1,6 +1,6 @@
 //! The report as one JSON object, written as the frames are scored.
 
-use crate::format::{Format, COMBINED};
+use crate::format::{Format, COMBINED, PLANES};
 use crate::opened::Subject;
 use crate::report::{metric_of, values, End, Job, Place, Report, Value, FIELDS};
 use crate::score::{FrameScores, Metrics, Scores};
@@ -8,6 +8,7 @@ use crate::stop::{Fault, PASSED};
 use crate::summary::{Statistic, Summary, STATISTICS};
 use crate::thresholds::{Broken, Threshold};
 use crate::writer::{self, Writer};
+use fuavelino::Kernel;
 use std::io::{self, Write};
 
 #[derive(Default)]
@@ -22,6 +23,7 @@ impl Report for Json {
         let json = &mut self.json;
         head(json, &job.subject);
         asked(json, &job.metrics, job.thresholds);
+        kernels(json.name("kernels"), job.kernels.as_deref());
         notes(json, &job.subject);
         json.name("frames").list().lines();
         self.out(out)
@@ -108,6 +110,23 @@ pub fn asked(json: &mut Writer, metrics: &Metrics, thresholds: &[Threshold]) {
         json.field("limit", threshold.limit).close();
     }
     json.close();
+}
+
+/// Of each plane how many taps its kernel has, and whether it is the chart's.
+fn kernels(json: &mut Writer, told: Option<&[Kernel]>) {
+    match told {
+        Some(told) => {
+            json.list();
+            for (plane, kernel) in PLANES.iter().zip(told) {
+                json.object().field("plane", *plane).field("taps", kernel.taps().len() as u64);
+                json.field("charted", kernel.is_charted()).close();
+            }
+            json.close();
+        }
+        None => {
+            json.null();
+        }
+    }
 }
 
 /// Each asked figure.

@@ -2,6 +2,7 @@
 
 mod above;
 mod args;
+mod chart;
 mod clip;
 mod compare;
 mod csv;
@@ -58,6 +59,7 @@ fn done() -> Result<u8, Stop> {
         Asked::Compare(asked) => return compare::compare(&asked),
         Asked::Pairs(asked) => return pairs::pairs(&asked),
         Asked::Where(asked) => return locate::locate(&asked),
+        Asked::Kernel(height) => chart::write(height)?,
         Asked::Clip(clip) => clip::write(&clip)?,
     }
     Ok(PASSED)

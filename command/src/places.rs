@@ -42,7 +42,7 @@ struct Table {
 
 impl Places for Table {
     fn begin(&mut self, out: &mut dyn Write, subject: &Subject<'_>) -> io::Result<()> {
-        table::head(out, subject)
+        table::head(out, subject, None)
     }
 
     fn frame(&mut self, out: &mut dyn Write, number: u64, found: &[Difference]) -> io::Result<()> {

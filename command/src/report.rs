@@ -6,6 +6,7 @@ use crate::score::{FrameScores, Metrics, Scores};
 use crate::stop::Fault;
 use crate::summary::Summary;
 use crate::thresholds::{figures, Broken, Figure, Threshold};
+use fuavelino::Kernel;
 use std::io::{self, Write};
 
 /// What is compared, and what is asked.
@@ -13,6 +14,8 @@ pub struct Job<'a> {
     pub subject: Subject<'a>,
     pub metrics: Metrics,
     pub thresholds: &'a [Threshold],
+    /// The kernel of each plane, where SSIM is asked and the planes are known.
+    pub kernels: Option<Vec<Kernel>>,
 }
 
 /// How it ended.

@@ -106,7 +106,12 @@ impl Refused {
     }
 }
 
-/// Scores frames of one format. Kernels are built once, and scratch is kept.
+/// The kernel of SSIM for each plane. They are made here only, so that what reports tell of them is true of those in use.
+pub fn kernels(format: &Format) -> Vec<Kernel> {
+    format.shapes().iter().map(|shape| Kernel::for_plane(shape.width, shape.height)).collect()
+}
+
+/// Scores frames of one format. Kernels are made once, and scratch is kept.
 pub struct Scorer {
     metrics: Metrics,
     weight: f64,
@@ -117,8 +122,7 @@ pub struct Scorer {
 
 impl Scorer {
     pub fn new(format: &Format, metrics: Metrics) -> Scorer {
-        let shapes = format.shapes();
-        let kernels = shapes.iter().map(|shape| Kernel::for_plane(shape.width, shape.height)).collect();
+        let (shapes, kernels) = (format.shapes(), kernels(format));
         Scorer { metrics, weight: format.chroma.get_chroma_weight(), shapes, kernels, scratch: Scratch::new() }
     }
 

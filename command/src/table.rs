@@ -1,17 +1,26 @@
 //! The report for people: a row for each plane of each frame, then the run, then what its frames come to and where it was worst.
 
 use crate::decibels::Decibels;
+use crate::format::PLANES;
 use crate::opened::Subject;
 use crate::report::{metric_of, values, End, Job, Place, Report, Value, FIELDS};
 use crate::score::{FrameScores, Scores};
 use crate::stop::PASSED;
 use crate::summary::{spaced, STATISTICS};
 use crate::thresholds::Broken;
+use fuavelino::Kernel;
 use std::io::{self, Write};
 
 const FOOT: &str = "
 Each plane's scores and each frame's combination come from proved calls. Not proved: decibels (dB), MS-SSIM's product of
 the scales, the squared error per sample (mse), the division by the weight in a combined SSIM, a run's means over its frames.
+";
+
+const BUILT: &str = "\
+Kernels that were built, since the library's chart has none for their planes, are not proved either; SSIM under them is.
+";
+
+const READING: &str = "\
 Of every hundred frames 5 are as bad as p5 or worse, and 1 as bad as p1. Figures are rounded here; --json and --csv give all
 digits.
 ";
@@ -49,13 +58,16 @@ fn decibels(value: f64) -> String {
 pub struct Table {
     asked: [bool; 5],
     thresholds: usize,
+    /// Whether a kernel is none of the chart's.
+    built: bool,
 }
 
 impl Report for Table {
     fn begin(&mut self, out: &mut dyn Write, job: &Job<'_>) -> io::Result<()> {
         self.asked = job.metrics.asked();
         self.thresholds = job.thresholds.len();
-        head(out, &job.subject)?;
+        self.built = job.kernels.iter().flatten().any(|kernel| !kernel.is_charted());
+        head(out, &job.subject, job.kernels.as_deref())?;
         writeln!(out, "{}", self.row("frame", "plane", |_, column| column.1.to_string()))
     }
 
@@ -82,14 +94,24 @@ impl Report for Table {
     }
 }
 
-/// The files, and a line before the rows.
-pub fn head(out: &mut dyn Write, subject: &Subject<'_>) -> io::Result<()> {
+/// The files, with the kernels where there are some to be told, and a line before the rows.
+pub fn head(out: &mut dyn Write, subject: &Subject<'_>, kernels: Option<&[Kernel]>) -> io::Result<()> {
     let format = subject.format.map_or("not known".to_string(), |format| format.show());
     writeln!(out, "original: {}\ndecoded:  {}\nformat:   {}", subject.original, subject.decoded, format)?;
+    if let Some(kernels) = kernels {
+        let told: Vec<String> = PLANES.iter().zip(kernels).map(|(plane, kernel)| taps(plane, kernel)).collect();
+        writeln!(out, "kernels:  {}", told.join(", "))?;
+    }
     for note in subject.notes {
         writeln!(out, "note:     {}", note)?;
     }
     writeln!(out)
+}
+
+/// How long the kernel of a plane is, and where it comes from.
+fn taps(plane: &str, kernel: &Kernel) -> String {
+    let (count, from) = (kernel.taps().len(), if kernel.is_charted() { "chart" } else { "built" });
+    format!("{} {} {} ({})", plane, count, if count == 1 { "tap" } else { "taps" }, from)
 }
 
 impl Table {
@@ -140,7 +162,7 @@ impl Table {
     }
 
     fn foot(&self, out: &mut dyn Write) -> io::Result<()> {
-        write!(out, "{}", FOOT)
+        write!(out, "{}{}{}", FOOT, if self.built { BUILT } else { "" }, READING)
     }
 }
 

@@ -180,7 +180,7 @@ fn a_report_that_is_lost_is_an_error() {
             run_in(&script, &[&a]).says(3, &["standard output: cannot write: "]);
         }
     }
-    for words in ["--version", "--help", "compare --help", "clip pattern -"] {
+    for words in ["--version", "--help", "compare --help", "kernel 144", "clip pattern -"] {
         for lost in [">&-", "1</dev/null"] {
             let ended = run_in(&format!("exec \"$0\" {} {}", words, lost), &[""; 0]);
             ended.says(3, &["standard output: cannot write: "]);

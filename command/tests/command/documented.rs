@@ -58,13 +58,23 @@ fn every_command_is_documented() {
     let help = run(&["--help"]);
     let commands = help.passes().lines().filter_map(|line| line.strip_prefix("  fuavelino "));
     let commands: Vec<&str> = commands.filter_map(|line| line.split(|c| " ,".contains(c)).next()).collect();
-    assert_eq!(commands, ["compare", "where", "clip", "--help"]);
+    assert_eq!(commands, ["compare", "where", "kernel", "clip", "--help"]);
     for command in commands {
         assert!(
             DOCUMENT.contains(&format!("\n    fuavelino {}", command)),
             "docs/COMMAND.md does not show {}",
             command
         );
+    }
+}
+
+/// A kernel, and the message that tells which heights there are.
+#[test]
+fn the_examples_of_kernel_are_what_it_prints() {
+    for height in ["144", "145"] {
+        let ended = run(&["kernel", height]);
+        let shown = format!("    fuavelino kernel {}\n    {}{}\n", height, ended.out, ended.err);
+        assert!(DOCUMENT.contains(&shown), "docs/COMMAND.md does not show\n{}", shown);
     }
 }
 

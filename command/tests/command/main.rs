@@ -8,6 +8,7 @@ mod guards;
 mod hostile;
 mod jobs;
 mod json;
+mod kernels;
 mod limits;
 mod locate;
 mod messages;

@@ -77,6 +77,7 @@ fn json_has_its_documented_names() {
         "format",
         "metrics",
         "thresholds",
+        "kernels",
         "notes",
         "frames",
         "run",
@@ -118,6 +119,7 @@ fn a_full_disk_is_an_error() {
     }
     run_in("exec \"$0\" --help >/dev/full", &[""; 0]).says(3, &["standard output: cannot write"]);
     run_in("exec \"$0\" --version >/dev/full", &[""; 0]).says(3, &["standard output: cannot write"]);
+    run_in("exec \"$0\" kernel 144 >/dev/full", &[""; 0]).says(3, &["standard output: cannot write"]);
     run(&["clip", "pattern", "/dev/full"]).says(3, &["/dev/full: cannot write"]);
 }
 

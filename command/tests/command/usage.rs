@@ -9,7 +9,7 @@ use crate::words;
 fn wrong(a: &str) -> Vec<(Vec<&str>, &'static str)> {
     vec![
         (vec![], "--help"),
-        (vec!["judge"], "no command \"judge\"; there are compare, where and clip"),
+        (vec!["judge"], "no command \"judge\"; there are compare, where, kernel and clip"),
         (vec!["--help", a], "beside other words"),
         (vec!["help", "compare"], "beside other words"),
         (vec!["-h", "--version"], "beside other words"),
@@ -59,6 +59,17 @@ fn wrong(a: &str) -> Vec<(Vec<&str>, &'static str)> {
         (vec!["compare", a, a, "--frames", "-1"], "--frames takes"),
         (vec!["compare", a, a, "--frames", ""], "--frames takes"),
         (vec!["compare", a, a, "--strict=no"], "takes no value"),
+        (vec!["kernel"], "kernel takes one HEIGHT"),
+        (vec!["kernel", "144", "180"], "kernel takes one HEIGHT"),
+        (vec!["kernel", ""], "kernel takes one HEIGHT"),
+        (vec!["kernel", "x"], "kernel takes one HEIGHT"),
+        (vec!["kernel", "1,080"], "kernel takes one HEIGHT"),
+        (vec!["kernel", "192x144"], "kernel takes one HEIGHT"),
+        (vec!["kernel", "144 "], "kernel takes one HEIGHT"),
+        (vec!["kernel", "--", "-144"], "kernel takes one HEIGHT"),
+        (vec!["kernel", "-144"], "no option \"-144\""),
+        (vec!["kernel", "144", "--json"], "no option \"--json\""),
+        (vec!["kernel", "144", "--help"], "beside other words"),
         (vec!["clip", "pattern"], "clip takes"),
         (vec!["clip", "noise", "x"], "a clip is"),
         (vec!["clip", "pattern", "x", "--depth", "11"], "no name for depth 11"),
@@ -128,6 +139,7 @@ fn help_and_version() {
     }
     assert!(run(&["compare", "--help"]).passes().contains("--min-ssim"));
     assert!(run(&["where", "--help"]).passes().contains("--map FOLDER"));
+    assert!(run(&["kernel", "--help"]).passes().contains("kernel HEIGHT"));
     assert!(run(&["clip", "--help"]).passes().contains("damaged"));
     assert!(run(&["--version"]).passes().starts_with("fuavelino 0."));
 }
