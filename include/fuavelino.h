@@ -120,7 +120,7 @@ size_t fuavelino_error_map_places(size_t width, size_t height);
 /* Adds up the errors and counts of a run of records, under their one sample_max. Refuses 10 11. */
 uint8_t fuavelino_series(const fuavelino_record *records, size_t count, double *sq_err, uint64_t *n, uint32_t *sample_max);
 
-/* So many places serve for every kernel: no lawful one has more taps. */
+/* So many places serve for every kernel: no lawful one has more taps, and who lends them is never told 8 by fuavelino_kernel. */
 #define FUAVELINO_MOST_TAPS 255
 
 /* The kernel that av-metrics builds, with weight 256, for a plane of this height and of no smaller width, from a chart that lists the heights 144,
