@@ -16,8 +16,18 @@ class Scope:
         self.depths = whole(find(r"byte at depths (\d+) to (\d+) and a word of 16 bits at depths (\d+) to (\d+)"))
         self.fixed = whole(find(r"no caller lends: ([\d ]+),")[0].split())
         self.forward, self.inverse = whole(find(r"Forward takes values from −[\d,]+ to ([\d,]+)") + find(r"inverse takes values from −[\d,]+ to ([\d,]+)"))
+        self.chart = dict(self.rows(text, "## The chart of kernels"))
         self.passes = self.program(text, "## The transform", "A block of 8 by 8")
         self.centre = self.program(text, "**SSIM.**", "The answer is the pair")
+
+    @staticmethod
+    def rows(text, start):
+        """Each height of the chart with its kernel, which the table has up to the middle tap."""
+        for height, count, half in re.findall(r"^\| ([\d,]+) \| (\d+) \| ([\d ]+) \|$", text[text.index(start) :], re.M):
+            taps = [int(word) for word in half.split()]
+            if 2 * len(taps) - 1 != int(count):
+                raise ValueError(f"height {height}: not {count} taps")
+            yield int(height.replace(",", "")), taps + taps[-2::-1]
 
     @staticmethod
     def program(text, start, end):

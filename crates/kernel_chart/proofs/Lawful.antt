@@ -8,8 +8,7 @@ use borrow.Author.Tests.{le-leb}
 use lib.Dec.{eqb, lit≤}
 use lib.ListN.{length, take}
 use lib.Seq.{take-append-seam}
-use Rattle.refusal.specs.Numbers.{scratchNo, heightNo}
-use Rattle.refusal.specs.First.{firstBroken}
+use Rattle.refusal.specs.Numbers.{scratchNo}
 use Rattle.refusal.proofs.Chain.{Named, and-left, and-right, passed}
 use Rattle.kernel.specs.Kernel.{mostTaps, lentTotal, lawful}
 use Rattle.kernel.proofs.Computed.{computed}
@@ -17,6 +16,9 @@ use Rattle.kernel.proofs.Says.{kernel-says}
 use Rattle.kernel_chart.specs.declared.Charted.the-variants.{Taps}
 use Rattle.kernel_chart.specs.Rows.{Row, chart}
 use Rattle.kernel_chart.specs.Chart.{listedIn, tapsIn, listed, kernelOf, chartTests, chartRefusal, chartedOf, tapsAfter}
+use Rattle.kernel_chart.specs.Inner.Flat.{kernelsIn}
+use Rattle.kernel_chart.specs.Inner.Room.{roomRefusal}
+use Rattle.kernel_chart.proofs.Answer.{unlisted-fourteen, listed-room}
 
 -- ---- the chart
 
@@ -35,11 +37,7 @@ abbrev foundBy : List Row → List (List ℕ)
 foundBy [] = []
 foundBy (row ∷ later) = kernelOf (row .0) ∷ foundBy later
 
-abbrev kernelsOf : List Row → List (List ℕ)
-kernelsOf [] = []
-kernelsOf (row ∷ later) = row .1 ∷ kernelsOf later
-
-pub rows-found : foundBy chart ≡ kernelsOf chart
+pub rows-found : foundBy chart ≡ kernelsIn chart
 unfolding kernelOf chart
 rows-found = refl
 
@@ -81,20 +79,12 @@ module _ (height : ℕ) (old : List ℕ) (e : chartRefusal height (length old) �
   written-lawful = rw written (charted-lawful height accepted-listed)
 
 -- ---- who lends room for the most taps that a lawful kernel has is never told that it is too short
-few : (rows : List Row) (height : ℕ) → everyRow (lawful lentTotal) rows ≡ true → length (tapsIn rows height) ≤ mostTaps
-few [] height e = omega arith
-few (row ∷ later) height e = go (eqb height (row .0)) (few later height (and-right (lawful lentTotal (row .1)) _ e))
-  where
-    go : (b : Bool) → length (tapsIn later height) ≤ mostTaps → length (cond b (row .1) (tapsIn later height)) ≤ mostTaps
-    go true l = kernel-says lentTotal (row .1) (and-left _ _ e) .short
-    go false l = l
-
 pub chart-enough : (height places : ℕ) → mostTaps ≤ places → chartRefusal height places ≡ scratchNo → ⊥
-unfolding chartTests kernelOf
-chart-enough height places enough h =
-    let room : length (kernelOf height) ≤ places = omega (arith, enough, few chart height chart-lawful) in
-    go (listed height) (rw (le-leb _ _ room) at h)
+chart-enough height places enough h = go (listed height) refl
   where
-    go : (b : Bool) → firstBroken ((heightNo, b) ∷ []) ≡ scratchNo → ⊥
-    go true h = omega (arith, h)
-    go false h = omega (arith, h)
+    go : (b : Bool) → listed height ≡ b → ⊥
+    go true e =
+        let room : length (kernelOf height) ≤ places = omega (arith, enough, kernel-says lentTotal (kernelOf height) (charted-lawful height e) .short) in
+        let none : roomRefusal (length (kernelOf height)) places ≡ 0 = rw (le-leb _ _ room) in
+        omega (arith, h, listed-room height places e, none)
+    go false e = omega (arith, h, unlisted-fourteen height places e)

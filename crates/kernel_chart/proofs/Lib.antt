@@ -1,5 +1,5 @@
 mod Copy
 mod Places
 mod Flat
-mod Answer
+pub mod Answer
 pub mod Lawful

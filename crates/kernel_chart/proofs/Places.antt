@@ -25,18 +25,17 @@ place-next [] height k l h = absurd (not-suc-le-zero l)
 place-next (row ∷ later) height zero l h = rw (ne-eqb height (row .0) h)
 place-next (row ∷ later) height (suc k) l h = place-next later height k (le-of-suc-le-suc l) h
 
--- ---- what is said of a height that stands nowhere
-pub nowhere : (rows : List Row) (height : ℕ) → placeIn rows height ≡ length rows → (listedIn rows height ≡ false) × (tapsIn rows height ≡ [])
-nowhere [] height e = (refl, refl)
+-- ---- a height that stands nowhere is not listed
+pub nowhere : (rows : List Row) (height : ℕ) → placeIn rows height ≡ length rows → listedIn rows height ≡ false
+nowhere [] height e = refl
 nowhere (row ∷ later) height e = go (eqb height (row .0)) e (nowhere later height)
   where
-    go : (b : Bool) → cond b 0 (suc (placeIn later height)) ≡ suc (length later)
-        → (placeIn later height ≡ length later → (listedIn later height ≡ false) × (tapsIn later height ≡ []))
-        → ((b || listedIn later height) ≡ false) × (cond b (row .1) (tapsIn later height) ≡ [])
+    go : (b : Bool) → cond b 0 (suc (placeIn later height)) ≡ suc (length later) → (placeIn later height ≡ length later → listedIn later height ≡ false)
+        → (b || listedIn later height) ≡ false
     go true e f = absurd (omega (arith, e))
     go false e f = f (omega (arith, e))
 
--- and of one that stands somewhere
+-- one that stands somewhere is, with the kernel there
 abbrev pub There : List Row → ℕ → Type 0
 There rows height =
     (placeIn rows height < length rows) × (listedIn rows height ≡ true) × (tapsIn rows height ≡ getD (kernelsIn rows) (placeIn rows height) [])
