@@ -2,10 +2,12 @@
 //!
 //! judge [--full] [--seed N] [FAMILY..]
 
+mod charted;
 mod combine;
 mod downscale;
 mod family;
 mod five;
+mod heights;
 mod hvs;
 mod hvs_ways;
 mod lifting;
@@ -31,7 +33,7 @@ use std::process::exit;
 /// A family's name, and what runs it.
 type Named = (&'static str, fn(Run) -> bool);
 
-const FAMILIES: [Named; 13] = [
+const FAMILIES: [Named; 14] = [
     ("published", published_numbers::compare),
     ("root", root::compare),
     ("plane", plane::compare),
@@ -40,6 +42,7 @@ const FAMILIES: [Named; 13] = [
     ("located", located::compare),
     ("series", series::compare),
     ("ssim", ssim::compare),
+    ("charted", charted::compare),
     ("hvs", hvs::compare),
     ("downscale", downscale::compare),
     ("scales", scales::compare),

@@ -140,8 +140,13 @@ pub fn published(pair: &Pair, kernel: &[u16]) -> (f64, f64) {
     ssim::probe_pair(&a, &b, pair.width, pair.height, pair.max() as u64, &kernel)
 }
 
+/// Judges one call with just enough scratch.
+pub fn judged(pair: Pair, kernel: Vec<u16>) -> Result<u8, String> {
+    Pairs { listed: vec![] }.judge(&exact(pair, kernel))
+}
+
 /// Whether a lent kernel is lawful.
-fn lawful(taps: &[u16]) -> bool {
+pub fn lawful(taps: &[u16]) -> bool {
     let sum: u64 = taps.iter().map(|t| u64::from(*t)).sum();
     let mirrored = taps.iter().eq(taps.iter().rev());
     let counts = taps.len() % 2 == 1 && taps.len() <= 255;
