@@ -2,6 +2,7 @@
 //! of the frame functions, against the published Rust of the unpadded copies, bit for bit.
 
 use crate::family::{run, Family, Run};
+use crate::heights::{self, HEIGHTS};
 use crate::hvs;
 use crate::random::Random;
 use crate::samples::{sound_of, Pair};
@@ -43,13 +44,10 @@ pub fn compare(ask: Run) -> bool {
     run("together", &mut Frames { scratch: Scratch::new() }, cases, ask)
 }
 
-/// The kernels that the bindings build, for planes of every height and for other arguments.
+/// The kernels that the bindings take from the chart or build, for planes of every height and for other arguments.
 fn kernels(ask: Run) -> Result<(), String> {
     for height in 1..=8_192 {
-        for width in [height, height / 3 + 1, 8_192] {
-            let taps: Vec<i64> = Kernel::for_plane(width, height).taps().iter().map(|t| i64::from(*t)).collect();
-            same("kernel", taps, ssim::probe_kernel(height as f64 * 1.5 / 256.0, width.min(height), 256))?;
-        }
+        of_height(height).map_err(|e| format!("height {}, {}", height, e))?;
     }
     for number in 0..10_000 {
         let r = &mut Random::of(ask.seed, "kernels", number);
@@ -60,6 +58,19 @@ fn kernels(ask: Run) -> Result<(), String> {
     }
     println!("together: the kernels of every height are those published");
     Ok(())
+}
+
+/// Where the chart lists the height and the width is no smaller, the kernel is the chart's.
+fn of_height(height: usize) -> Result<(), String> {
+    let listed = HEIGHTS.contains(&height);
+    for width in [height, (height - 1).max(1), height / 3 + 1, 8_192] {
+        let kernel = Kernel::for_plane(width, height);
+        let taps: Vec<i64> = kernel.taps().iter().map(|t| i64::from(*t)).collect();
+        same("kernel", taps, ssim::probe_kernel(height as f64 * 1.5 / 256.0, width.min(height), 256))?;
+        same("taken from the chart", kernel.is_charted(), listed && width >= height)?;
+    }
+    let owed = listed.then(|| heights::kernel(height)).ok_or(Refusal::Height);
+    same("charted", Kernel::charted(height).map(|kernel| kernel.taps().to_vec()), owed)
 }
 
 /// Two frames: one pair of planes, or three, all of one depth.
