@@ -160,8 +160,9 @@ fn scored(height: usize, ask: Run) -> Result<(), String> {
     Ok(())
 }
 
-/// Every height that a plane may have, and one past them; what a listed height is when one of its bits is lost or gained; those about a listed
-/// one and the largest. Each with room enough and with none. And listed ones with places about the count, and with many.
+/// With room enough and with none: every height that a plane may have, and one past them; what a listed height becomes when
+/// one of its bits is turned, or all; large ones. Then listed heights with places about the count, and with many; and their
+/// neighbours with many.
 fn listed() -> Vec<Case> {
     let mut heights: Vec<usize> = (0..=8_193).collect();
     for height in HEIGHTS {
