@@ -1,4 +1,4 @@
-//! Writes the chart of kernels as source of the crate `kernel_chart`, from a run of the published Rust: chart specs|code
+//! Writes the chart of kernels as source of the crate `kernel_chart`, by a run of the published Rust: chart specs|code
 
 mod heights;
 

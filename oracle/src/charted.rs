@@ -1,4 +1,4 @@
-//! The chart of kernels: the published kernel for each height of its order, that order's refusals, and SSIM under each kernel.
+//! The chart of kernels: the published kernel for each height of its order, its refusals, and SSIM under each kernel.
 
 use crate::family::{number, run, Family, Run};
 use crate::heights::{kernel, HEIGHTS};
@@ -141,7 +141,7 @@ fn lawful(taps: &[u16]) -> Result<(), String> {
     Err(format!("the kernel {:?} is unlawful, or ends in 0", taps))
 }
 
-/// Small planes under a kernel of the chart, some smaller than it reaches: bytes and words, at the ends of their depths.
+/// Small planes under a kernel of the chart, some smaller than it reaches: bytes and words, at the ends of the depths.
 fn scored(height: usize, ask: Run) -> Result<(), String> {
     let left = asked(&Case { height, places: ROOM, count: COUNT, seed: ask.seed });
     let taps = &left.room[MARGIN..][..left.count];
@@ -160,9 +160,9 @@ fn scored(height: usize, ask: Run) -> Result<(), String> {
     Ok(())
 }
 
-/// With room enough and with none: every height that a plane may have, and one past them; what a listed height becomes when
-/// one of its bits is turned, or all; large ones. Then listed heights with places about the count, and with many; and their
-/// neighbours with many.
+/// With room enough and with none: every height that a plane may have, and one past them; what a listed height becomes
+/// when one of its bits is turned, or all; large ones. Then listed heights with places about the count, and with many;
+/// and their neighbours with many.
 fn listed() -> Vec<Case> {
     let mut heights: Vec<usize> = (0..=8_193).collect();
     for height in HEIGHTS {
