@@ -30,23 +30,32 @@ fn specs() {
     println!("-- in the order of the heights");
     println!("unfoldable pub chart : List Row");
     println!("chart =");
-    let rows = HEIGHTS.map(|height| format!("({}, {} ∷ [])", height, taps(height).join(" ∷ ")));
+    let rows = HEIGHTS.map(|height| format!("({}, {} ∷ [])", height, words(&kernel(height)).join(" ∷ ")));
     println!("    {}", rows.join("\n    ∷ "));
     println!("    ∷ []");
 }
 
-/// The taps that the code copies.
+/// The rows as the code has them: their heights, and their taps in one list.
 fn code() {
+    let kernels = HEIGHTS.map(kernel);
+    let starts: Vec<usize> = (0..=kernels.len()).map(|row| kernels[..row].concat().len()).collect();
     println!(
-        "// SCOPE, \"The chart of kernels\": the taps of each row. \
-         A run of the Rust printed them; tools/chart writes this file."
+        "// SCOPE, \"The chart of kernels\": its rows. \
+         A run of the Rust printed the numbers; tools/chart writes this file."
     );
-    for height in HEIGHTS {
-        let taps = taps(height);
-        println!("\npub const OF_{}: [u16; {}] = [{}];", height, taps.len(), taps.join(", "));
-    }
+    println!("\n// How many there are.\npub const COUNT: usize = {};", HEIGHTS.len());
+    println!("\n// The height of each.");
+    list("HEIGHTS", "usize", &HEIGHTS);
+    println!("\n// Where its taps start among all; the last is where they end.");
+    list("STARTS", "usize", &starts);
+    println!("\n// The taps of all, one row after the other.");
+    list("TAPS", "u16", &kernels.concat());
 }
 
-fn taps(height: usize) -> Vec<String> {
-    kernel(height).iter().map(u16::to_string).collect()
+fn list<T: ToString>(name: &str, kind: &str, numbers: &[T]) {
+    println!("pub const {}: [{}; {}] = [{}];", name, kind, numbers.len(), words(numbers).join(", "));
+}
+
+fn words<T: ToString>(numbers: &[T]) -> Vec<String> {
+    numbers.iter().map(T::to_string).collect()
 }
