@@ -5,6 +5,9 @@ mod heights;
 use heights::{kernel, HEIGHTS};
 use std::process::exit;
 
+/// The most taps that a line of a definition has.
+const ON_A_LINE: usize = 40;
+
 fn main() {
     match std::env::args().nth(1).as_deref() {
         Some("specs") => specs(),
@@ -30,9 +33,18 @@ fn specs() {
     println!("-- in the order of the heights");
     println!("unfoldable pub chart : List Row");
     println!("chart =");
-    let rows = HEIGHTS.map(|height| format!("({}, {} ∷ [])", height, words(&kernel(height)).join(" ∷ ")));
-    println!("    {}", rows.join("\n    ∷ "));
+    println!("    {}", HEIGHTS.map(row).join("\n    ∷ "));
     println!("    ∷ []");
+}
+
+/// Many taps are broken after the middle one: rt fmt breaks no line that is too long.
+fn row(height: usize) -> String {
+    let taps = words(&kernel(height));
+    if taps.len() <= ON_A_LINE {
+        return format!("({}, {} ∷ [])", height, taps.join(" ∷ "));
+    }
+    let [left, right] = [&taps[..=taps.len() / 2], &taps[taps.len() / 2 + 1..]].map(|half| half.join(" ∷ "));
+    format!("(\n      {},\n      {}\n          ∷ {} ∷ [],\n    )", height, left, right)
 }
 
 /// The rows as the code has them: their heights, and their taps in one list.
