@@ -1,7 +1,7 @@
 /* The kernel that av-metrics 0.9.1 chooses for a plane, for fuavelino_ssim8 and fuavelino_ssim16.
  *
- * For a plane whose height the chart of fuavelino_kernel lists, and whose width is no smaller, it is the chart's, and proved: link with
- * libfuavelino.a. NOT PROVED, and no part of that library, are the others: a bell curve worked out by the host's pow and log (link with -lm),
+ * For a plane whose height the chart of fuavelino_kernel lists, and whose width is no smaller, it is the chart's, and proved to be lawful: link
+ * with libfuavelino.a. NOT PROVED, and no part of that library, are the others: a bell curve worked out by the host's pow and log (link with -lm),
  * step by step as av-metrics does. SSIM judges the kernel that it is lent, and refuses an unlawful one with 7. */
 #ifndef FUAVELINO_KERNEL_H
 #define FUAVELINO_KERNEL_H

@@ -27,7 +27,7 @@ listed height = listedIn chart height
 unfoldable pub kernelOf : ℕ → List ℕ
 kernelOf height = tapsIn chart height
 
--- 8 where the kernel has more taps than there are places, and none has a height that is not listed; then 14 where it is not listed
+-- 8 where the kernel has more taps than there are places: never for a height that is not listed, since that has no taps. Then 14, where it is not listed
 unfoldable pub chartTests : ℕ → ℕ → List (ℕ × Bool)
 chartTests height places = (scratchNo, leb (length (kernelOf height)) places) ∷ (heightNo, listed height) ∷ []
 
