@@ -5,7 +5,7 @@ use native.Mathlib.Nat.{zero-add, add-zero}
 use native.Mathlib.Numerals.{add-one}
 use native.Mathlib.Omega.{arith}
 use borrow.Author.Needs.{needs}
-use lib.ListN.{length, getD, drop}
+use lib.ListN.{length, drop}
 use lib.Seq.{drop-length}
 use Rattle.kernel_chart.specs.Rows.{chart}
 use Rattle.kernel_chart.specs.Inner.Place.{placeIn}
