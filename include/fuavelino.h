@@ -29,13 +29,18 @@ extern "C" {
 #define FUAVELINO_VERSION (10000 * FUAVELINO_VERSION_MAJOR + 100 * FUAVELINO_VERSION_MINOR + FUAVELINO_VERSION_PATCH)
 uint32_t fuavelino_version(void);
 
+/* The limits: of width and of height (above it 2), of a stride (4), and of the samples that a record counts (10). */
+#define FUAVELINO_MOST_SIDE 16384
+#define FUAVELINO_MOST_STRIDE 32768
+#define FUAVELINO_MOST_SAMPLES 268435456
+
 /* What the calls answer. */
 enum fuavelino_refusal {
     FUAVELINO_ACCEPTED = 0,
     FUAVELINO_DEPTH = 1,       /* the depth does not suit the sample width */
-    FUAVELINO_SIZE = 2,        /* width or height is 0 or above 8192 */
+    FUAVELINO_SIZE = 2,        /* width or height is 0 or above 16384 */
     FUAVELINO_SIDE = 3,        /* a side is below the call's least */
-    FUAVELINO_STRIDE = 4,      /* a stride is below the width or above 16384 */
+    FUAVELINO_STRIDE = 4,      /* a stride is below the width or above 32768 */
     FUAVELINO_SHORT = 5,       /* a plane has fewer than stride * (height - 1) + width samples */
     FUAVELINO_SAMPLE = 6,      /* a visible sample is above 2^depth - 1 */
     FUAVELINO_KERNEL = 7,      /* the kernel is unlawful */
@@ -53,9 +58,9 @@ static inline const char *fuavelino_refusal_text(unsigned number) {
     switch (number) {
     case FUAVELINO_ACCEPTED: return "accepted";
     case FUAVELINO_DEPTH: return "the depth does not suit the sample width";
-    case FUAVELINO_SIZE: return "width or height is 0 or above 8192";
+    case FUAVELINO_SIZE: return "width or height is 0 or above 16384";
     case FUAVELINO_SIDE: return "a side is below the least that this score takes";
-    case FUAVELINO_STRIDE: return "a stride is below the width or above 16384";
+    case FUAVELINO_STRIDE: return "a stride is below the width or above 32768";
     case FUAVELINO_SHORT: return "a plane has too few samples";
     case FUAVELINO_SAMPLE: return "a visible sample is above the depth's largest";
     case FUAVELINO_KERNEL: return "the kernel is unlawful";
@@ -73,7 +78,7 @@ static inline const char *fuavelino_refusal_text(unsigned number) {
 /* The squared error of a plane, or the total of a series of planes. An error of 0 says that they are identical: PSNR is called 100. */
 typedef struct fuavelino_record {
     double sq_err;       /* a whole number from 0 to n * sample_max^2 */
-    uint64_t n;          /* samples compared */
+    uint64_t n;          /* samples compared, 1 to FUAVELINO_MOST_SAMPLES in what a series takes */
     uint32_t sample_max; /* 2^depth - 1 */
 } fuavelino_record;
 
@@ -113,8 +118,8 @@ uint8_t fuavelino_error_map16(const uint16_t *a, size_t a_len, const uint16_t *b
                               size_t stride_a, size_t stride_b, uint32_t depth, uint64_t *map, size_t places, size_t *across,
                               size_t *down);
 
-/* The places that the map must have, one for each tile. 0 where a side is not 1 to 8192: such a call is refused by a lower number, whatever
- * is lent. */
+/* The places that the map must have, one for each tile. 0 where a side is not 1 to FUAVELINO_MOST_SIDE: such a call is refused by a lower
+ * number, whatever is lent. */
 size_t fuavelino_error_map_places(size_t width, size_t height);
 
 /* Adds up the errors and counts of a run of records, under their one sample_max. Refuses 10 11. */
@@ -139,7 +144,7 @@ uint8_t fuavelino_ssim16(const uint16_t *a, size_t a_len, const uint16_t *b, siz
                          size_t places, double *ssim, double *cs);
 
 /* The places that the scratch of SSIM must have: 6 * width * L, L the least power of two not below the count of taps. 0 where width is not
- * 1 to 8192 or taps not 1 to 255: such a call is refused by a lower number, whatever is lent. */
+ * 1 to FUAVELINO_MOST_SIDE or taps not 1 to FUAVELINO_MOST_TAPS: such a call is refused by a lower number, whatever is lent. */
 size_t fuavelino_ssim_places(size_t width, size_t taps);
 
 /* MS-SSIM's five scales, the planes themselves first: ssim and cs of scale k, from 0 on, go to pairs[2 * k] and pairs[2 * k + 1]. Sides are at
@@ -152,8 +157,8 @@ uint8_t fuavelino_msssim16(const uint16_t *a, size_t a_len, const uint16_t *b, s
                            size_t stride_a, size_t stride_b, uint32_t depth, int64_t *scratch, size_t places, uint32_t *a32,
                            size_t a32_places, uint32_t *b32, size_t b32_places, double pairs[10]);
 
-/* The places that the scratch of MS-SSIM must have, 96 * width, and a32 and b32 each, width * height. 0 where a side is not 16 to 8192: such
- * a call is refused by a lower number, whatever is lent. */
+/* The places that the scratch of MS-SSIM must have, 96 * width, and a32 and b32 each, width * height. 0 where a side is not 16 to
+ * FUAVELINO_MOST_SIDE: such a call is refused by a lower number, whatever is lent. */
 size_t fuavelino_msssim_places(size_t width);
 size_t fuavelino_msssim_samples(size_t width, size_t height);
 

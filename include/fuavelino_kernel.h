@@ -15,7 +15,7 @@ extern "C" {
 #endif
 
 /* Writes the kernel for a plane of these sides to `taps`, and answers how many taps it has: an odd count. 0, and nothing is written, where a
- * side is not 1 to 8192 or there are fewer places than taps. FUAVELINO_MOST_TAPS places serve for any plane. */
+ * side is not 1 to FUAVELINO_MOST_SIDE or there are fewer places than taps. FUAVELINO_MOST_TAPS places serve for any plane. */
 static inline size_t fuavelino_gaussian_kernel(size_t width, size_t height, uint16_t *taps, size_t places) {
     const double e = 2.7182818284590452354, pi = 3.14159265358979323846;
     const double weight = 256, sigma = (double)height * 1.5 / 256;
@@ -23,7 +23,7 @@ static inline size_t fuavelino_gaussian_kernel(size_t width, size_t height, uint
     const size_t shorter = width < height ? width : height;
     size_t side = 0, count, k;
     uint16_t middle = 256;
-    if (places < 1 || shorter < 1 || width > 8192 || height > 8192) return 0;
+    if (places < 1 || shorter < 1 || width > FUAVELINO_MOST_SIDE || height > FUAVELINO_MOST_SIDE) return 0;
     if (width >= height) {
         const uint8_t said = fuavelino_kernel(height, taps, places, &count);
         if (said != FUAVELINO_HEIGHT) return said == FUAVELINO_ACCEPTED ? count : 0;

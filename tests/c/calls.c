@@ -8,6 +8,7 @@
 #include <string.h>
 
 #define COUNT(list) (sizeof(list) / sizeof((list)[0]))
+#define MOST ((size_t)FUAVELINO_MOST_SIDE)
 #define EXPECT(truth) expect((truth), #truth, __LINE__)
 /* a call that answers 0 or a refusal; one that answers a count of places, or 0; one that always answers */
 #define CALL(name, args) told(#name, name args)
@@ -108,7 +109,7 @@ static void check(void) {
     EXPECT(CALL(fuavelino_check16, (WORDS(WIDTH, HEIGHT, 10), 0)) == 0);
     EXPECT(CALL(fuavelino_check8, (BYTES(WIDTH, HEIGHT, 9), 0)) == FUAVELINO_DEPTH);
     EXPECT(CALL(fuavelino_check16, (WORDS(WIDTH, HEIGHT, 13), 0)) == FUAVELINO_DEPTH);
-    EXPECT(CALL(fuavelino_check8, (BYTES(8193, HEIGHT, 8), 0)) == FUAVELINO_SIZE);
+    EXPECT(CALL(fuavelino_check8, (BYTES(MOST + 1, HEIGHT, 8), 0)) == FUAVELINO_SIZE);
     EXPECT(CALL(fuavelino_check8, (BYTES(SIZE_MAX, SIZE_MAX, 8), 0)) == FUAVELINO_SIZE);
     EXPECT(CALL(fuavelino_check8, (BYTES(WIDTH, HEIGHT, 8), HEIGHT + 1)) == FUAVELINO_SIDE);
     EXPECT(CALL(fuavelino_check16, (WORDS(STRIDE + 1, HEIGHT, 10), 0)) == FUAVELINO_STRIDE);
@@ -143,7 +144,7 @@ static void first_difference(void) {
     size_t row = 88, column = 99;
     /* refused, and nothing written: also at a sample that comes after the first difference */
     EXPECT(CALL(fuavelino_first_difference8, (BYTES(WIDTH, HEIGHT, 9), &differs, &row, &column)) == FUAVELINO_DEPTH);
-    EXPECT(CALL(fuavelino_first_difference8, (BYTES(WIDTH, 8193, 8), &differs, &row, &column)) == FUAVELINO_SIZE);
+    EXPECT(CALL(fuavelino_first_difference8, (BYTES(WIDTH, MOST + 1, 8), &differs, &row, &column)) == FUAVELINO_SIZE);
     EXPECT(CALL(fuavelino_first_difference8, (BYTES(STRIDE + 1, HEIGHT, 8), &differs, &row, &column)) == FUAVELINO_STRIDE);
     EXPECT(CALL(fuavelino_first_difference16, (WORDS(WIDTH, HEIGHT + 1, 10), &differs, &row, &column)) == FUAVELINO_SHORT);
     EXPECT(CALL(fuavelino_first_difference16, (WORDS(WIDTH, HEIGHT, 9), &differs, &row, &column)) == FUAVELINO_SAMPLE);
@@ -226,26 +227,37 @@ static void error_map(void) {
     EXPECT(across == 1 && down == 2 && map[0] == 1 && map[1] == 4 && kept_from(2));
 }
 
+/* Planes with the largest error: one and two fit, three do not, unless the third leaves the total at 2^53. */
 static void series(void) {
-    const double most = 67108864.0 * 4095 * 4095, two_to_53 = 9007199254740992.0;
-    fuavelino_record run[10];
+    const double most = (double)FUAVELINO_MOST_SAMPLES * 4095 * 4095, two_to_53 = 9007199254740992.0;
+    fuavelino_record run[4];
     double error = -7.25;
     uint64_t n = 77;
     uint32_t max = 88;
     size_t i;
     for (i = 0; i < COUNT(run); i++) {
-        run[i].sq_err = i < 8 ? most : i == 8 ? two_to_53 - 8 * most : 1;
-        run[i].n = 67108864;
+        run[i].sq_err = most;
+        run[i].n = FUAVELINO_MOST_SAMPLES;
         run[i].sample_max = 4095;
     }
     EXPECT(CALL(fuavelino_series, (run, 0, &error, &n, &max)) == FUAVELINO_RECORD);
-    EXPECT(CALL(fuavelino_series, (run, 10, &error, &n, &max)) == FUAVELINO_TOTAL);
+    EXPECT(CALL(fuavelino_series, (run, 3, &error, &n, &max)) == FUAVELINO_TOTAL);
+    run[2].sq_err = two_to_53 - 2 * most;
+    run[3].sq_err = 1;
+    EXPECT(CALL(fuavelino_series, (run, 4, &error, &n, &max)) == FUAVELINO_TOTAL);
     EXPECT(error == -7.25 && n == 77 && max == 88);
-    EXPECT(CALL(fuavelino_series, (run, 9, &error, &n, &max)) == 0);
-    EXPECT(error == two_to_53 && n == 9 * UINT64_C(67108864) && max == 4095);
-    run[9].sq_err = -0.0;
-    EXPECT(CALL(fuavelino_series, (run, 10, &error, &n, &max)) == FUAVELINO_RECORD);
-    EXPECT(error == two_to_53);
+    EXPECT(CALL(fuavelino_series, (run, 1, &error, &n, &max)) == 0);
+    EXPECT(error == 4501400872550400.0 && n == FUAVELINO_MOST_SAMPLES && max == 4095);
+    EXPECT(CALL(fuavelino_series, (run, 2, &error, &n, &max)) == 0);
+    EXPECT(error == 9002801745100800.0 && n == UINT64_C(2) * FUAVELINO_MOST_SAMPLES && max == 4095);
+    EXPECT(CALL(fuavelino_series, (run, 3, &error, &n, &max)) == 0);
+    EXPECT(error == two_to_53 && n == UINT64_C(3) * FUAVELINO_MOST_SAMPLES && max == 4095);
+    run[3].n++;
+    EXPECT(CALL(fuavelino_series, (run, 4, &error, &n, &max)) == FUAVELINO_RECORD);
+    run[3].n--;
+    run[3].sq_err = -0.0;
+    EXPECT(CALL(fuavelino_series, (run, 4, &error, &n, &max)) == FUAVELINO_RECORD);
+    EXPECT(error == two_to_53 && n == UINT64_C(3) * FUAVELINO_MOST_SAMPLES);
 }
 
 /* Whether the first `clear` of the places are 0 and the others still 5. */
@@ -280,22 +292,22 @@ static void soil(void) {
 /* The places at the ends of what is taken, and past them. */
 static void places(void) {
     EXPECT(PLACES(fuavelino_ssim_places, (WIDTH, 3)) == SSIM_NEED);
-    EXPECT(PLACES(fuavelino_ssim_places, (1, 1)) == 6 && PLACES(fuavelino_ssim_places, (8192, 255)) == (size_t)6 * 8192 * 256);
-    EXPECT(PLACES(fuavelino_ssim_places, (0, 3)) == 0 && PLACES(fuavelino_ssim_places, (8193, 3)) == 0);
+    EXPECT(PLACES(fuavelino_ssim_places, (1, 1)) == 6 && PLACES(fuavelino_ssim_places, (MOST, 255)) == 6 * MOST * 256);
+    EXPECT(PLACES(fuavelino_ssim_places, (0, 3)) == 0 && PLACES(fuavelino_ssim_places, (MOST + 1, 3)) == 0);
     EXPECT(PLACES(fuavelino_ssim_places, (WIDTH, 0)) == 0 && PLACES(fuavelino_ssim_places, (WIDTH, 256)) == 0);
     EXPECT(PLACES(fuavelino_ssim_places, (SIZE_MAX, SIZE_MAX)) == 0);
     EXPECT(PLACES(fuavelino_msssim_places, (WIDTH)) == SCALES_NEED);
-    EXPECT(PLACES(fuavelino_msssim_places, (16)) == 96 * 16 && PLACES(fuavelino_msssim_places, (8192)) == 96 * 8192);
-    EXPECT(PLACES(fuavelino_msssim_places, (15)) == 0 && PLACES(fuavelino_msssim_places, (8193)) == 0);
+    EXPECT(PLACES(fuavelino_msssim_places, (16)) == 96 * 16 && PLACES(fuavelino_msssim_places, (MOST)) == 96 * MOST);
+    EXPECT(PLACES(fuavelino_msssim_places, (15)) == 0 && PLACES(fuavelino_msssim_places, (MOST + 1)) == 0);
     EXPECT(PLACES(fuavelino_error_map_places, (WIDTH, HEIGHT)) == TILES && PLACES(fuavelino_error_map_places, (1, 1)) == 1);
     EXPECT(PLACES(fuavelino_error_map_places, (8, 9)) == 2 && PLACES(fuavelino_error_map_places, (9, 8)) == 2);
-    EXPECT(PLACES(fuavelino_error_map_places, (8192, 8192)) == (size_t)1024 * 1024);
+    EXPECT(PLACES(fuavelino_error_map_places, (MOST, MOST)) == MOST / 8 * (MOST / 8));
     EXPECT(PLACES(fuavelino_error_map_places, (0, 8)) == 0 && PLACES(fuavelino_error_map_places, (8, 0)) == 0);
-    EXPECT(PLACES(fuavelino_error_map_places, (8193, 8)) == 0 && PLACES(fuavelino_error_map_places, (8, SIZE_MAX)) == 0);
+    EXPECT(PLACES(fuavelino_error_map_places, (MOST + 1, 8)) == 0 && PLACES(fuavelino_error_map_places, (8, SIZE_MAX)) == 0);
     EXPECT(PLACES(fuavelino_msssim_samples, (WIDTH, HEIGHT)) == ROOM_NEED);
-    EXPECT(PLACES(fuavelino_msssim_samples, (8192, 8192)) == (size_t)8192 * 8192);
+    EXPECT(PLACES(fuavelino_msssim_samples, (MOST, MOST)) == MOST * MOST);
     EXPECT(PLACES(fuavelino_msssim_samples, (15, 16)) == 0 && PLACES(fuavelino_msssim_samples, (16, 15)) == 0);
-    EXPECT(PLACES(fuavelino_msssim_samples, (16, 8193)) == 0 && PLACES(fuavelino_msssim_samples, (SIZE_MAX, SIZE_MAX)) == 0);
+    EXPECT(PLACES(fuavelino_msssim_samples, (16, MOST + 1)) == 0 && PLACES(fuavelino_msssim_samples, (SIZE_MAX, SIZE_MAX)) == 0);
 }
 
 static int all_taps(size_t count, const uint16_t *taps, const uint16_t *known, size_t known_count) {
@@ -324,7 +336,7 @@ static void charted(size_t height, const uint16_t *known, size_t known_count) {
     EXPECT(CALL(fuavelino_kernel, (height, taps, COUNT(taps), &count)) == 0);
     EXPECT(all_taps(count, taps, known, known_count) && untouched(taps, COUNT(taps), known_count));
     EXPECT(all_taps(fuavelino_gaussian_kernel(height, height, built, COUNT(built)), built, known, known_count));
-    EXPECT(all_taps(fuavelino_gaussian_kernel(8192, height, built, known_count), built, known, known_count));
+    EXPECT(all_taps(fuavelino_gaussian_kernel(MOST, height, built, known_count), built, known, known_count));
 }
 
 /* Each listed height, with its count of taps; the oracle compares the taps of them all with av-metrics'. */
@@ -339,7 +351,7 @@ static void chart(void) {
     size_t i, height, count = 77, own_count = 0, next = 0;
     charted(144, of_144, COUNT(of_144)), charted(180, of_180, COUNT(of_180)), charted(405, of_405, COUNT(of_405));
     for (i = 0; i < COUNT(taps); i++) taps[i] = 999;
-    for (height = 0; height <= 8193; height++) {
+    for (height = 0; height <= MOST + 1; height++) {
         if (next < COUNT(listed) && height == listed[next]) {
             EXPECT(CALL(fuavelino_kernel, (height, own, COUNT(own), &own_count)) == 0 && own_count == counts[next]);
             next++;
@@ -362,8 +374,8 @@ static void kernels(void) {
     EXPECT(all_taps(fuavelino_gaussian_kernel(1, 1080, taps, COUNT(taps)), taps, of_one, COUNT(of_one)));
     EXPECT(fuavelino_gaussian_kernel(640, 360, taps, COUNT(of_640_by_360) - 1) == 0);
     EXPECT(fuavelino_gaussian_kernel(0, 360, taps, COUNT(taps)) == 0 && fuavelino_gaussian_kernel(640, 0, taps, COUNT(taps)) == 0);
-    EXPECT(fuavelino_gaussian_kernel(8193, 8, taps, COUNT(taps)) == 0 && fuavelino_gaussian_kernel(8, 8193, taps, COUNT(taps)) == 0);
-    for (side = 1; side <= 8192; side++) {
+    EXPECT(fuavelino_gaussian_kernel(MOST + 1, 8, taps, COUNT(taps)) == 0 && fuavelino_gaussian_kernel(8, MOST + 1, taps, COUNT(taps)) == 0);
+    for (side = 1; side <= MOST; side++) {
         static const uint8_t sample[] = {7};
         static int64_t room[6 * 256];
         double s, c;
@@ -371,7 +383,7 @@ static void kernels(void) {
         if (count > longest) longest = count;
         EXPECT(fuavelino_ssim8(sample, 1, sample, 1, 1, 1, 1, 1, 8, taps, count, room, COUNT(room), &s, &c) == 0);
     }
-    EXPECT(longest == 163);
+    EXPECT(longest == 235);
 }
 
 static void ssim(void) {

@@ -44,7 +44,7 @@ pub mod video;
 
 pub use kernel::{build_gaussian_kernel, Kernel};
 pub use locate::{error_map, first_difference, ErrorMap, Place, Tile, Tiles, TILE_SIDE};
-pub use plane::{Pair, Plane, PlaneKind, PsnrMetrics, Sample, Shape};
+pub use plane::{Pair, Plane, PlaneKind, PsnrMetrics, Sample, Shape, MOST_SAMPLES, MOST_SIDE, MOST_STRIDE};
 pub use refusal::Refusal;
 pub use scores::{
     check, combine_hvs, combine_ssim, forward, inverse, msssim, psnr_hvs, root, series, squared_error, ssim, version,

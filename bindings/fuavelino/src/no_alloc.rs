@@ -57,7 +57,7 @@ pub fn first_difference<T: Sample>(
     outcome(T::first_difference(a, b, shape, differs, place))
 }
 
-/// The places that the map of [`error_map`] needs, one for each tile. 0 where a side is not 1 to 8,192: such a call is refused by a lower
+/// The places that the map of [`error_map`] needs, one for each tile. 0 where a side is 0 or past its limit: such a call is refused by a lower
 /// number than 8, whatever is lent.
 #[inline]
 pub fn error_map_places(width: usize, height: usize) -> usize {
@@ -103,8 +103,8 @@ pub fn kernel(height: usize, taps: &mut [u16], count: &mut usize) -> Result<(), 
     outcome(exports::kernel(height, taps, count))
 }
 
-/// The places of scratch that [`ssim`] needs: 6 × width × L, L the least power of two not below the count of taps. 0 where the width is not
-/// 1 to 8,192 or the count of taps not 1 to 255: such a call is refused by a lower number than 8, whatever is lent.
+/// The places of scratch that [`ssim`] needs: 6 × width × L, L the least power of two not below the count of taps. 0 where the width is 0
+/// or past its limit, or the count of taps not 1 to [`MOST_TAPS`]: such a call is refused by a lower number than 8, whatever is lent.
 #[inline]
 pub fn ssim_places(width: usize, taps: usize) -> usize {
     exports::ssim_places(width, taps)
@@ -122,14 +122,14 @@ pub fn ssim<T: Sample>(
     outcome(T::ssim(a, b, shape, kernel, scratch, out))
 }
 
-/// The places of scratch that [`msssim`] needs: 96 × width. 0 where the width is not 16 to 8,192: such a call is refused by a lower number
-/// than 8, whatever is lent.
+/// The places of scratch that [`msssim`] needs: 96 × width. 0 where the width is below 16 or past its limit: such a call is refused by a lower
+/// number than 8, whatever is lent.
 #[inline]
 pub fn msssim_places(width: usize) -> usize {
     exports::msssim_places(width)
 }
 
-/// The 32-bit places that [`msssim`] needs for each plane: width × height. 0 where a side is not 16 to 8,192, as above.
+/// The 32-bit places that [`msssim`] needs for each plane: width × height. 0 where a side is below 16 or past its limit.
 #[inline]
 pub fn msssim_samples(width: usize, height: usize) -> usize {
     exports::msssim_samples(width, height)

@@ -2,6 +2,15 @@
 
 use crate::exports;
 
+/// The largest width, and the largest height. Above it a call refuses with 2.
+pub const MOST_SIDE: usize = 16_384;
+
+/// The largest stride. Above it a call refuses with 4.
+pub const MOST_STRIDE: usize = 32_768;
+
+/// The largest count of samples in a record, that of a plane with both sides at [`MOST_SIDE`]. Above it a series refuses with 10.
+pub const MOST_SAMPLES: u64 = 268_435_456;
+
 /// A sample: a byte (depths 1 to 8) or a 16-bit word (depths 9 to 12). No other type can be one.
 pub trait Sample: exports::Width {}
 
@@ -20,9 +29,9 @@ pub struct Plane<'a, T> {
 /// What both planes of a call share.
 #[derive(Clone, Copy, Debug, PartialEq, Eq)]
 pub struct Shape {
-    /// Visible samples in a row, 1 to 8,192.
+    /// Visible samples in a row, 1 to [`MOST_SIDE`].
     pub width: usize,
-    /// Rows, 1 to 8,192.
+    /// Rows, 1 to [`MOST_SIDE`].
     pub height: usize,
     /// Bits of a sample: the largest is 2^depth − 1.
     pub bit_depth: u32,

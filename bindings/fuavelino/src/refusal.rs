@@ -8,11 +8,11 @@ use std::fmt;
 pub enum Refusal {
     /// 1: the depth does not suit the sample width. Bytes carry 1 to 8, words 9 to 12.
     Depth = 1,
-    /// 2: width or height is 0 or above 8,192.
+    /// 2: width or height is 0 or above [`MOST_SIDE`](crate::MOST_SIDE).
     Size = 2,
     /// 3: a side is below the call's least: 8 for PSNR-HVS, 16 for MS-SSIM.
     Side = 3,
-    /// 4: a stride is below the width or above 16,384.
+    /// 4: a stride is below the width or above [`MOST_STRIDE`](crate::MOST_STRIDE).
     Stride = 4,
     /// 5: a plane has fewer than stride × (height − 1) + width samples.
     Short = 5,
@@ -39,9 +39,9 @@ pub enum Refusal {
 /// Each refusal with its rule, in the order of the numbers.
 const RULES: [(Refusal, &str); 14] = [
     (Refusal::Depth, "the depth does not suit the sample width"),
-    (Refusal::Size, "width or height is 0 or above 8192"),
+    (Refusal::Size, "width or height is 0 or above 16384"),
     (Refusal::Side, "a side is below the least that this score takes"),
-    (Refusal::Stride, "a stride is below the width or above 16384"),
+    (Refusal::Stride, "a stride is below the width or above 32768"),
     (Refusal::Short, "a plane has too few samples"),
     (Refusal::Sample, "a visible sample is above the depth's largest"),
     (Refusal::Kernel, "the kernel is unlawful"),

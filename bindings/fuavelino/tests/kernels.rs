@@ -1,6 +1,6 @@
 //! Kernels of the chart, and those that are built.
 
-use fuavelino::{build_gaussian_kernel, no_alloc, ssim, Kernel, Plane, Refusal, Scratch, Shape};
+use fuavelino::{build_gaussian_kernel, no_alloc, ssim, Kernel, Plane, Refusal, Scratch, Shape, MOST_SIDE};
 
 /// The heights that the chart lists.
 const LISTED: [usize; 14] = [144, 180, 240, 270, 288, 360, 405, 480, 540, 576, 720, 1_080, 1_440, 2_160];
@@ -15,7 +15,7 @@ fn built(width: usize, height: usize) -> Vec<u16> {
 fn the_chart_has_its_heights_and_no_other() {
     // with the low bits of listed ones, too
     let huge = [65_536 + 144, usize::MAX / 2 + 1 + 144, usize::MAX - 1, usize::MAX];
-    let heights: Vec<usize> = (0..=8_193).chain(huge).collect();
+    let heights: Vec<usize> = (0..=MOST_SIDE + 1).chain(huge).collect();
     let charted: Vec<usize> = heights.iter().copied().filter(|height| Kernel::charted(*height).is_ok()).collect();
     assert_eq!(charted, LISTED);
     for height in heights.into_iter().filter(|height| !LISTED.contains(height)) {
@@ -48,7 +48,7 @@ fn a_plane_of_a_listed_height_gets_a_charted_one() {
             assert!(!kernel.is_charted() && kernel.taps() == built(width, height), "{} by {}", width, height);
         }
     }
-    assert!(![143, 145, 8_192].iter().any(|height| Kernel::for_plane(8_192, *height).is_charted()));
+    assert!(![143, 145, MOST_SIDE].iter().any(|height| Kernel::for_plane(MOST_SIDE, *height).is_charted()));
 }
 
 /// No place, one too few, all that are needed, and more, which are left as they are.
@@ -82,7 +82,7 @@ fn every_plane_gets_a_lawful_one() {
     let sample = [7u8];
     let plane = Plane { data: &sample[..], stride: 1 };
     let mut scratch = Scratch::new();
-    for height in 1..=8_192 {
+    for height in 1..=MOST_SIDE {
         let kernel = Kernel::for_plane(height, height);
         let said = ssim(plane, plane, Shape { width: 1, height: 1, bit_depth: 8 }, &kernel, &mut scratch);
         assert!(said.is_ok(), "{} rows: {:?}", height, kernel);

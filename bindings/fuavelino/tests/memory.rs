@@ -32,7 +32,8 @@ fn asked(work: impl FnOnce()) -> usize {
     ASKED.with(Cell::get) - before
 }
 
-const WILD: [usize; 9] = [0, 1, 8_192, 8_193, 16_385, 1 << 32, 1 << 62, usize::MAX - 1, usize::MAX];
+const WILD: [usize; 9] =
+    [0, 1, MOST_SIDE, MOST_SIDE + 1, MOST_STRIDE + 1, 1 << 32, 1 << 62, usize::MAX - 1, usize::MAX];
 
 #[test]
 fn wild_shapes_ask_for_nothing() {

@@ -2,12 +2,12 @@
 
 use fuavelino::*;
 
-const WILD: [usize; 12] = [0, 1, 2, 15, 16, 17, 255, 256, 8_192, 8_193, usize::MAX - 1, usize::MAX];
+const WILD: [usize; 12] = [0, 1, 2, 15, 16, 17, 255, 256, MOST_SIDE, MOST_SIDE + 1, usize::MAX - 1, usize::MAX];
 
 #[test]
 fn of_ssim() {
     for (width, taps) in WILD.iter().flat_map(|w| WILD.iter().map(move |t| (*w, *t))) {
-        let taken = (1..=8_192).contains(&width) && (1..=255).contains(&taps);
+        let taken = (1..=MOST_SIDE).contains(&width) && (1..=255).contains(&taps);
         let needed = if taken { 6 * width * taps.next_power_of_two() } else { 0 };
         assert_eq!(no_alloc::ssim_places(width, taps), needed, "{} by {} taps", width, taps);
     }
@@ -17,7 +17,7 @@ fn of_ssim() {
 
 #[test]
 fn of_msssim() {
-    let taken = |side: usize| (16..=8_192).contains(&side);
+    let taken = |side: usize| (16..=MOST_SIDE).contains(&side);
     for width in WILD {
         assert_eq!(no_alloc::msssim_places(width), if taken(width) { 96 * width } else { 0 });
         for height in WILD {
@@ -29,7 +29,7 @@ fn of_msssim() {
 
 #[test]
 fn of_the_error_map() {
-    let taken = |side: usize| (1..=8_192).contains(&side);
+    let taken = |side: usize| (1..=MOST_SIDE).contains(&side);
     for (width, height) in WILD.iter().flat_map(|w| WILD.iter().map(move |h| (*w, *h))) {
         let tiles = |side: usize| side / 8 + usize::from(side % 8 > 0);
         let needed = if taken(width) && taken(height) { tiles(width) * tiles(height) } else { 0 };

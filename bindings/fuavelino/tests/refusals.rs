@@ -35,6 +35,22 @@ fn planes_are_taken() {
     assert_eq!(all(plane(&words, 16), plane(&words, 16), Shape { bit_depth: 12, ..SHAPE }), [Ok(()); 9]);
 }
 
+/// The longest rows and the most of them, each row as far from the next as it may be; and one past each limit.
+#[test]
+fn planes_at_the_limits() {
+    // zeros that nobody writes: no memory stands behind them
+    let long = vec![0u8; MOST_STRIDE * (MOST_SIDE - 1) + 16];
+    let (near, far) = (plane(&long, MOST_SIDE), plane(&long, MOST_STRIDE));
+    for (width, height) in [(MOST_SIDE, 16), (16, MOST_SIDE)] {
+        let shape = Shape { width, height, bit_depth: 8 };
+        assert_eq!(all(near, far, shape), [Ok(()); 9]);
+        assert_eq!(all(near, plane(&long, MOST_STRIDE + 1), shape), [Err(Refusal::Stride); 9]);
+    }
+    for (width, height) in [(MOST_SIDE + 1, 16), (16, MOST_SIDE + 1)] {
+        assert_eq!(all(far, far, Shape { width, height, bit_depth: 8 }), [Err(Refusal::Size); 9]);
+    }
+}
+
 #[test]
 fn planes_are_refused_alike() {
     let (bytes, words) = ([200u8; 256], [4_095u16; 256]);
@@ -46,11 +62,11 @@ fn planes_are_refused_alike() {
     for bit_depth in [0, 8, 13, u32::MAX] {
         assert_eq!(all(w, w, Shape { bit_depth, ..SHAPE }), each(Refusal::Depth));
     }
-    for side in [0, 8_193, usize::MAX] {
+    for side in [0, MOST_SIDE + 1, usize::MAX] {
         assert_eq!(all(a, a, Shape { width: side, ..SHAPE }), each(Refusal::Size));
         assert_eq!(all(a, a, Shape { height: side, ..SHAPE }), each(Refusal::Size));
     }
-    for stride in [0, 15, 16_385, usize::MAX] {
+    for stride in [0, 15, MOST_STRIDE + 1, usize::MAX] {
         assert_eq!(all(a, plane(&bytes, stride), SHAPE), each(Refusal::Stride));
         assert_eq!(all(plane(&bytes, stride), a, SHAPE), each(Refusal::Stride));
     }
@@ -134,19 +150,21 @@ fn scratch_past_the_need_is_kept() {
 
 #[test]
 fn series_of_records() {
-    let most = 67_108_864 * 4_095 * 4_095;
-    let full = PsnrMetrics { sq_err: most as f64, n_pixels: 67_108_864, sample_max: 4_095 };
-    let rest = PsnrMetrics { sq_err: ((1u64 << 53) - 8 * most) as f64, ..full };
-    let mut run = vec![full; 8];
-    run.push(rest);
-    assert_eq!(series(&run).map(|total| total.sq_err), Ok(9_007_199_254_740_992.0));
-    run.push(PsnrMetrics { sq_err: 1.0, ..full });
-    assert_eq!(series(&run), Err(Refusal::Total));
+    let most = MOST_SAMPLES * 4_095 * 4_095;
+    let full = PsnrMetrics { sq_err: most as f64, n_pixels: MOST_SAMPLES, sample_max: 4_095 };
+    let error = |run: &[PsnrMetrics]| series(run).map(|total| total.sq_err);
+    // of planes with the largest error one and two fit, three do not
+    assert_eq!(error(&[full]), Ok(4_501_400_872_550_400.0));
+    assert_eq!(error(&[full; 2]), Ok(9_002_801_745_100_800.0));
+    assert_eq!(error(&[full; 3]), Err(Refusal::Total));
+    let rest = PsnrMetrics { sq_err: ((1u64 << 53) - 2 * most) as f64, ..full };
+    assert_eq!(error(&[full, full, rest]), Ok(9_007_199_254_740_992.0));
+    assert_eq!(error(&[full, full, rest, PsnrMetrics { sq_err: 1.0, ..full }]), Err(Refusal::Total));
     assert_eq!(series(&vec![RECORD; 65_537]), Err(Refusal::Record));
     let bad = [f64::NAN, -0.0, 0.5, -1.0, f64::INFINITY, 195_076.0].map(|sq_err| PsnrMetrics { sq_err, ..RECORD });
     for record in bad.into_iter().chain([
         PsnrMetrics { n_pixels: 0, ..RECORD },
-        PsnrMetrics { n_pixels: 67_108_865, ..RECORD },
+        PsnrMetrics { n_pixels: MOST_SAMPLES + 1, ..RECORD },
         PsnrMetrics { sample_max: 254, ..RECORD },
         PsnrMetrics { sample_max: 1_023, ..RECORD },
     ]) {

@@ -5,11 +5,11 @@ use Prim.Native.Nat.{ℕ}
 
 -- the largest width and the largest height
 unfoldable pub sideLimit : ℕ
-sideLimit = 8192
+sideLimit = 16384
 
 -- the largest stride
 unfoldable pub strideLimit : ℕ
-strideLimit = 16384
+strideLimit = 32768
 
 -- the least depth that a sample width carries: bytes go from 1 to 8, words from 9 to 12
 unfoldable pub leastDepth : Bool → ℕ

@@ -14,9 +14,9 @@ ghost use Rattle.plane.specs.Tests.{depthSuits, sidesSuit, sidesReach, s
 ghost use Rattle.plane.specs.Tests.{noneAbove, rowSuits, samplesSuit, sizeTests, layoutTests, pairRefusal};
 
 // The largest width and the largest height.
-pub const SIDE_LIMIT: usize = 8192;
+pub const SIDE_LIMIT: usize = 16384;
 // The largest stride.
-pub const STRIDE_LIMIT: usize = 16384;
+pub const STRIDE_LIMIT: usize = 32768;
 // The largest depth of any sample, which is that of words.
 pub const DEPTH_LIMIT: u32 = 12;
 

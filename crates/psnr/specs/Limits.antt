@@ -4,7 +4,7 @@ use Rattle.number.specs.Limits.{exactLimit}
 
 -- the largest n of a record
 unfoldable pub countLimit : ℕ
-countLimit = 67108864
+countLimit = 268435456
 
 -- the most records of a series
 unfoldable pub recordLimit : ℕ

@@ -5,7 +5,7 @@ ghost use Rattle.psnr.specs.Record.{isWhole, countSuits, maxSuits, error
 use crate::Record;
 
 // The largest n of a record.
-pub const COUNT_LIMIT: u64 = 67108864;
+pub const COUNT_LIMIT: u64 = 268435456;
 
 // a + b, but no more than `cap`.
 pub fn capped_sum(a: u64, b: u64, cap: u64) -> u64
