@@ -9,7 +9,7 @@ fn is_within(least: usize, most: usize, n: usize) -> bool
     (least <= n) & (n <= most)
 }
 
-// The 64-bit places of SSIM's scratch; 0 where the width is not 1 to 8,192, or the count of taps not 1 to 255.
+// The 64-bit places of SSIM's scratch; 0 where the width is 0 or above its limit, or the count of taps not 1 to 255.
 #[no_mangle]
 pub extern "C" fn fuavelino_ssim_places(width: usize, taps: usize) -> usize
     ensures { λ r. ⌜ r ≡ ssimPlaces width taps ⌝ }
@@ -21,7 +21,7 @@ pub extern "C" fn fuavelino_ssim_places(width: usize, taps: usize) -> usize
     }
 }
 
-// The 64-bit places of MS-SSIM's scratch; 0 where the width is not 16 to 8,192.
+// The 64-bit places of MS-SSIM's scratch; 0 where the width is below 16 or above its limit.
 #[no_mangle]
 pub extern "C" fn fuavelino_msssim_places(width: usize) -> usize
     ensures { λ r. ⌜ r ≡ msssimPlaces width ⌝ }
@@ -33,7 +33,7 @@ pub extern "C" fn fuavelino_msssim_places(width: usize) -> usize
     }
 }
 
-// The 32-bit places of MS-SSIM's scratch for each plane; 0 where a side is not 16 to 8,192.
+// The 32-bit places of MS-SSIM's scratch for each plane; 0 where a side is below 16 or above its limit.
 #[no_mangle]
 pub extern "C" fn fuavelino_msssim_samples(width: usize, height: usize) -> usize
     ensures { λ r. ⌜ r ≡ msssimSamples width height ⌝ }
@@ -47,7 +47,7 @@ pub extern "C" fn fuavelino_msssim_samples(width: usize, height: usize) -> usize
     }
 }
 
-// The 64-bit places of an error map; 0 where a side is not 1 to 8,192.
+// The 64-bit places of an error map; 0 where a side is 0 or above its limit.
 #[no_mangle]
 pub extern "C" fn fuavelino_error_map_places(width: usize, height: usize) -> usize
     ensures { λ r. ⌜ r ≡ errorMapPlaces width height ⌝ }

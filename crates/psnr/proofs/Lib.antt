@@ -5,4 +5,5 @@ mod Whole
 mod Records
 pub mod Fold
 pub mod Laws
+pub mod Room
 pub mod Said

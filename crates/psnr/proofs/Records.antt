@@ -53,7 +53,7 @@ count-says : (n : ℕ) → countSuits n ≡ true → (1 ≤ n) × (n ≤ countLi
 unfolding countSuits
 count-says n e = (leb-true 1 n (and-left _ _ e), leb-true n countLimit (and-right (leb 1 n) _ e))
 
-max-says : (max : ℕ) → maxSuits max ≡ true → max ≤ sampleLimit
+pub max-says : (max : ℕ) → maxSuits max ≡ true → max ≤ sampleLimit
 unfolding maxSuits
 max-says max =
     some-says _ (max ≤ sampleLimit) (mostDepth true)

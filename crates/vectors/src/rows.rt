@@ -134,9 +134,9 @@ fn replay(name: &[u8], family: Family, first: usize, end: usize)
     tell::line(name, right_ones(family, first, end), end - first);
 }
 
-// SCOPE's numbers that are run are among these: the root of 2; depths 8, 9, 12, 13 and sides of 8,192 and 8,193 in the plane
-// checks; the kernel 128 0 128 in SSIM; side 7 in PSNR-HVS; sides 15 and 16 in MS-SSIM. The totals of 2^53 and one more are in
-// src/series.rt.
+// SCOPE's numbers that are run are among these: the root of 2; depths 8, 9, 12, 13 and sides of 16,384 and 16,385 in the plane
+// checks; the kernel 128 0 128 in SSIM; side 7 in PSNR-HVS; sides 15 and 16 in MS-SSIM. Totals are in src/series.rt: planes of the
+// largest error, 2^53 and one more.
 pub fn replay_plain() {
     replay(b"roots: ", Family::Root, 0, table::PAIRS);
     replay(b"transforms: ", Family::Transform, 0, table::BLOCKS);

@@ -10,7 +10,7 @@ use psnr::judge::COUNT_LIMIT;
 const MAX: u32 = 4095;
 
 // The largest error of a record: each of its most samples is off by 4,095.
-const MOST: f64 = 1125350218137600.0;
+const MOST: f64 = 4501400872550400.0;
 
 fn record(sq_err: f64, n: u64, sample_max: u32) -> Record {
     Record {
@@ -44,10 +44,14 @@ fn total_is(t: Total, no: u8, error: f64, n: u64, max: u32) -> bool {
     (no == 0) & tell::same(t.sq_err, error) & (t.n == n) & (t.sample_max == max)
 }
 
-// Eight of the largest records, and one.
-fn nine(error: f64) -> Run {
-    let eight = repeated(psnr::start(), record(MOST, COUNT_LIMIT, MAX), 8);
-    psnr::step(eight, record(error, COUNT_LIMIT, MAX))
+// So many of the largest records.
+fn largest(times: usize) -> Run {
+    repeated(psnr::start(), record(MOST, COUNT_LIMIT, MAX), times)
+}
+
+// Two of the largest, and one.
+fn three(error: f64) -> Run {
+    psnr::step(largest(2), record(error, COUNT_LIMIT, MAX))
 }
 
 // A sound record, and one.
@@ -65,11 +69,20 @@ fn spoils(sq_err: f64, n: u64, sample_max: u32) -> bool {
     sums_to(two(sq_err, n, sample_max), refusal::RECORD, 0.0, 0, 0)
 }
 
-// The totals 2^53 and one more.
+// One, two and three planes of the largest error; the totals 2^53 and one more.
 fn totals() {
     let list = [
-        sums_to(nine(4397509640192.0), 0, 9007199254740992.0, 603979776, MAX),
-        sums_to(nine(4397509640193.0), refusal::TOTAL, 0.0, 0, 0),
+        sums_to(largest(1), 0, MOST, 268435456, MAX),
+        sums_to(largest(2), 0, 9002801745100800.0, 536870912, MAX),
+        sums_to(largest(3), refusal::TOTAL, 0.0, 0, 0),
+        sums_to(
+            three(4397509640192.0),
+            0,
+            9007199254740992.0,
+            805306368,
+            MAX,
+        ),
+        sums_to(three(4397509640193.0), refusal::TOTAL, 0.0, 0, 0),
         sums_to(two(0.0, 3, 255), 0, 9.0, 5, 255),
     ];
     tell::held(b"series: ", &list);
