@@ -111,6 +111,9 @@ static void check(void) {
     EXPECT(CALL(fuavelino_check16, (WORDS(WIDTH, HEIGHT, 13), 0)) == FUAVELINO_DEPTH);
     EXPECT(CALL(fuavelino_check8, (BYTES(MOST + 1, HEIGHT, 8), 0)) == FUAVELINO_SIZE);
     EXPECT(CALL(fuavelino_check8, (BYTES(SIZE_MAX, SIZE_MAX, 8), 0)) == FUAVELINO_SIZE);
+    /* one row needs no stride, but has one */
+    EXPECT(CALL(fuavelino_check8, (a8, LEN, b8, LEN, WIDTH, 1, FUAVELINO_MOST_STRIDE, STRIDE, 8, 0)) == 0);
+    EXPECT(CALL(fuavelino_check8, (a8, LEN, b8, LEN, WIDTH, 1, STRIDE, FUAVELINO_MOST_STRIDE + 1, 8, 0)) == FUAVELINO_STRIDE);
     EXPECT(CALL(fuavelino_check8, (BYTES(WIDTH, HEIGHT, 8), HEIGHT + 1)) == FUAVELINO_SIDE);
     EXPECT(CALL(fuavelino_check16, (WORDS(STRIDE + 1, HEIGHT, 10), 0)) == FUAVELINO_STRIDE);
     EXPECT(CALL(fuavelino_check16, (WORDS(WIDTH, HEIGHT + 1, 10), 0)) == FUAVELINO_SHORT);
