@@ -135,9 +135,7 @@ impl Scorer {
             let scores = self.plane(number, a, b);
             planes.push(scores.map_err(|refused| refused.with_sample([a.data, b.data], self.shapes[number]))?);
         }
-        let records: Option<Vec<PsnrMetrics>> = planes.iter().map(|plane| plane.error).collect();
-        let total = records.map(|records| fuavelino::series(&records).map_err(Refused::of(COMBINED, "squared error")));
-        let combined = combine(&planes, total.transpose()?, self.weight, 1.0)?;
+        let combined = combine(&planes, total(&planes)?, self.weight, 1.0)?;
         Ok(FrameScores { planes, combined })
     }
 
@@ -168,6 +166,13 @@ impl Scorer {
         }
         figures(&scores, 1.0, 1.0, name)
     }
+}
+
+/// The squared error of all planes of a frame together, where each has its own. Three of the largest can come to more than a
+/// series gives.
+fn total(planes: &[Scores]) -> Result<Option<PsnrMetrics>, Refused> {
+    let records: Option<Vec<PsnrMetrics>> = planes.iter().map(|plane| plane.error).collect();
+    records.map(|records| fuavelino::series(&records)).transpose().map_err(Refused::of(COMBINED, "squared error"))
 }
 
 /// The figures of sums over `count` frames. SSIM and its like could at best come to `best`: their decibels are made from the
@@ -268,5 +273,36 @@ fn finite(value: f64) -> Result<f64, Refusal> {
         Ok(value)
     } else {
         Err(Refusal::NotFinite)
+    }
+}
+
+#[cfg(test)]
+mod tests {
+    use super::*;
+    use fuavelino::MOST_SAMPLES;
+
+    /// Planes of 12 bits, as large as can be, of which every sample is as wrong as can be.
+    fn worst(count: usize) -> Vec<Scores> {
+        let sq_err = MOST_SAMPLES as f64 * 4_095.0 * 4_095.0;
+        let error = PsnrMetrics { sq_err, n_pixels: MOST_SAMPLES, sample_max: 4_095 };
+        vec![Scores { error: Some(error), ..Scores::default() }; count]
+    }
+
+    #[test]
+    fn three_planes_of_the_largest_error_are_refused_and_two_are_not() {
+        let told = |count: usize| total(&worst(count)).unwrap().map(|total| (total.sq_err, total.n_pixels));
+        assert_eq!(told(1), Some((4_501_400_872_550_400.0, MOST_SAMPLES)));
+        assert_eq!(told(2), Some((9_002_801_745_100_800.0, 2 * MOST_SAMPLES)));
+        let refused = total(&worst(3)).unwrap_err();
+        let fault = refused.at("frame 7");
+        assert_eq!(fault.refusal, Some(Refusal::Total));
+        assert!(fault.message.starts_with("frame 7, plane combined: squared error: refusal 11: "), "{}", fault.message);
+    }
+
+    #[test]
+    fn what_was_not_asked_for_has_no_total() {
+        let mut planes = worst(3);
+        planes[1].error = None;
+        assert!(total(&planes).unwrap().is_none());
     }
 }

@@ -114,6 +114,7 @@ fn sum(so_far: &Scores, next: &Scores) -> Scores {
 #[cfg(test)]
 mod tests {
     use super::*;
+    use fuavelino::MOST_SAMPLES;
 
     const RECORD: PsnrMetrics = PsnrMetrics { sq_err: 25.0, n_pixels: 3, sample_max: 255 };
 
@@ -143,7 +144,7 @@ mod tests {
     #[test]
     fn parts_above_two_to_the_53_are_refused() {
         // 65,536 of these come to 2^52, so that two series reach 2^53 exactly, and any more is above
-        let large = PsnrMetrics { sq_err: (1u64 << 36) as f64, n_pixels: 67_108_864, sample_max: 4_095 };
+        let large = PsnrMetrics { sq_err: (1u64 << 36) as f64, n_pixels: MOST_SAMPLES, sample_max: 4_095 };
         assert_eq!(total(131_072, large).map(|sum| sum.sq_err), Ok((1u64 << 53) as f64));
         assert_eq!(total(131_073, large), Err(Refusal::Total));
         assert_eq!(total(200_000, large), Err(Refusal::Total));

@@ -2,7 +2,7 @@
 
 use crate::json::Json;
 use crate::run::{run, run_in, Ended, Room};
-use crate::video::Video;
+use crate::video::{too_wide, Video};
 use crate::words;
 use std::ffi::OsString;
 use std::fs;
@@ -57,7 +57,7 @@ fn a_fault_before_the_first_frame_is_reported_in_every_form() {
     let (good, missing) = (room.file("a.y4m", &video().y4m()), room.path("missing.y4m"));
     let bad = room.file("bad.y4m", b"YUV4MPEG2 W32\n");
     let unlike = room.file("unlike.y4m", &Video::new(34, 32, 8, "420", 3, 61).y4m());
-    let wide = words!["compare", &good, &good, "--size=8193x8", "--depth=8", "--chroma=420"];
+    let wide = words!["compare", &good, &good, "--size", too_wide(), "--depth=8", "--chroma=420"];
     let cases = [
         (words!["compare", &missing, &good].to_vec(), "missing.y4m: cannot open"),
         (words!["compare", &good, &missing].to_vec(), "missing.y4m: cannot open"),

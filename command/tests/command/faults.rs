@@ -2,7 +2,7 @@
 
 use crate::json::Json;
 use crate::run::{run, run_in, Ended, Room};
-use crate::video::Video;
+use crate::video::{too_wide, Video};
 use crate::words;
 use std::ffi::OsString;
 
@@ -34,6 +34,8 @@ fn files_that_cannot_be_compared_are_faults_as_for_compare() {
     let a = room.file("a.y4m", &bytes);
     let none = room.file("none.y4m", &bytes[..header]);
     let raw = words!["--size=32x32", "--depth=8", "--chroma=420"];
+    let wide = too_wide();
+    let refused = format!("{}, depth 8, chroma 420: refusal 2", wide);
     let cases: [(Vec<OsString>, &str); 9] = [
         (words![&a, room.path("missing")].to_vec(), "missing: cannot open"),
         (words![room.path(""), &a].to_vec(), "cannot read"),
@@ -46,10 +48,7 @@ fn files_that_cannot_be_compared_are_faults_as_for_compare() {
         ),
         (words![&none, room.file("also.y4m", &bytes[..header])].to_vec(), "have no frames"),
         ([&words![&a, &a][..], &raw].concat(), "a.y4m: byte 0: this is a Y4M file"),
-        (
-            words![&a, &none, "--size=8193x8", "--depth=8", "--chroma=420"].to_vec(),
-            "8193x8, depth 8, chroma 420: refusal 2",
-        ),
+        (words![&a, &none, "--size", &wide, "--depth=8", "--chroma=420"].to_vec(), &refused),
     ];
     for (files, message) in cases {
         let words = [&words!["where"], &files[..], &words!["--json"]].concat();

@@ -4,6 +4,7 @@ use crate::json::Json;
 use crate::run::{run, run_in, Room};
 use crate::video::{Random, Video};
 use crate::words;
+use fuavelino::{MOST_SAMPLES, MOST_SIDE};
 
 /// What a run may take, in KiB of address space: enough for the command and small frames.
 const MEMORY: &str = "200000";
@@ -11,15 +12,17 @@ const MEMORY: &str = "200000";
 #[test]
 fn great_claims_are_refused_at_once() {
     let room = Room::new("great");
-    for sides in ["W2147483648 H2147483648", "W8193 H16", "W16 H8193", "W0 H16", "W16 H0", "W18446744073709551616 H1"] {
+    let script = format!("ulimit -v {}; exec \"$0\" compare \"$1\" \"$1\"", MEMORY);
+    let [wide, high] = [format!("W{} H16", MOST_SIDE + 1), format!("W16 H{}", MOST_SIDE + 1)];
+    for sides in ["W2147483648 H2147483648", &wide, &high, "W0 H16", "W16 H0", "W18446744073709551616 H1"] {
         let a = room.file("a.y4m", format!("YUV4MPEG2 {} C444p12\nFRAME\nxx", sides).as_bytes());
-        let script = format!("ulimit -v {}; exec \"$0\" compare \"$1\" \"$1\"", MEMORY);
         run_in(&script, &[&a]).says(3, &["a.y4m: header", "refusal 2"]);
     }
     // the largest that is taken: memory grows with what the file holds, not with what it claims
-    let a = room.file("a.y4m", b"YUV4MPEG2 W8192 H8192 C444p12\nFRAME\nxxxx");
-    let script = format!("ulimit -v {}; exec \"$0\" compare \"$1\" \"$1\"", MEMORY);
-    run_in(&script, &[&a]).says(3, &["byte 40: frame 0 is cut short: plane y has 2 of 67108864 samples"]);
+    let claim = format!("YUV4MPEG2 W{} H{} C444p12\nFRAME\nxxxx", MOST_SIDE, MOST_SIDE);
+    let cut = format!("byte {}: frame 0 is cut short: plane y has 2 of {} samples", claim.len(), MOST_SAMPLES);
+    let a = room.file("a.y4m", claim.as_bytes());
+    run_in(&script, &[&a]).says(3, &[&cut]);
 }
 
 /// Room for the frames, and none for the five scales of such a plane: 2 times 4 × 4,096 × 4,096 bytes.
@@ -131,8 +134,9 @@ fn mutated(r: &mut Random, good: &[u8], header: usize) -> Vec<u8> {
                 bytes.splice(at..at, part);
             }
             6 => {
-                let number = [&b"99999999999999999999"[..], b"-1", b"4294967295", b"8192", b"0", b""][r.below(6)];
-                bytes.splice(at..(at + 2).min(bytes.len()), number.iter().copied());
+                let most = MOST_SIDE.to_string();
+                let number = ["99999999999999999999", "-1", "4294967295", &most, "0", ""][r.below(6)];
+                bytes.splice(at..(at + 2).min(bytes.len()), number.bytes());
             }
             _ => drop(bytes.drain(at..(at + 1 + r.below(40)).min(bytes.len()))),
         }

@@ -4,7 +4,7 @@ use crate::json::Json;
 use crate::run::{run, Room};
 use crate::video::Video;
 use crate::words;
-use fuavelino::{build_gaussian_kernel, Kernel};
+use fuavelino::{build_gaussian_kernel, Kernel, MOST_SIDE};
 use std::ffi::OsString;
 
 /// The heights that the chart lists, as messages tell them.
@@ -141,8 +141,9 @@ fn the_chart_is_printed() {
 #[test]
 fn a_height_that_is_not_listed_is_told_with_those_that_are() {
     let rule = format!(": refusal 14: the chart has no kernel for this height; it has {}\n", LISTED);
-    for height in ["0", "1", "143", "145", "1081", "8192", "8193", "65680"] {
-        let ended = run(&["kernel", height]);
+    // the last is 144 in 16 bits
+    for height in [0, 1, 143, 145, 1_081, MOST_SIDE, MOST_SIDE + 1, 65_680] {
+        let ended = run(&words!["kernel", height.to_string()]);
         ended.says(3, &[&format!("fuavelino: height {}{}", height, rule)]);
         assert_eq!((&ended.out[..], ended.err.lines().count()), ("", 1));
     }

@@ -2,7 +2,7 @@
 
 use crate::limits;
 use crate::run::{run, Room};
-use crate::video::Video;
+use crate::video::{too_wide, Video};
 use crate::words;
 
 /// Words about a file, and what is said of them.
@@ -111,8 +111,9 @@ fn wrong_words_are_told() {
     }
     assert_eq!(std::fs::read(a).unwrap(), bytes);
     // raw files of a size that no score takes: the library's refusal
-    let wide = ["compare", a, a, "--size", "8193x8", "--depth", "8", "--chroma", "420"];
-    run(&wide).says(3, &["8193x8", "refusal 2"]);
+    let size = too_wide();
+    let wide = ["compare", a, a, "--size", &size, "--depth", "8", "--chroma", "420"];
+    run(&wide).says(3, &[&size, "refusal 2"]);
 }
 
 #[test]

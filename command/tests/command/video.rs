@@ -1,5 +1,12 @@
 //! Videos made for the tests, as Y4M and as raw files.
 
+use fuavelino::MOST_SIDE;
+
+/// A size, as the option tells it, that is too wide by one sample.
+pub fn too_wide() -> String {
+    format!("{}x8", MOST_SIDE + 1)
+}
+
 /// A generator with a seed; the same numbers on every machine.
 pub struct Random(pub u64);
 
