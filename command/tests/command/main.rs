@@ -21,3 +21,4 @@ mod scores;
 mod summary;
 mod usage;
 mod video;
+mod walls;

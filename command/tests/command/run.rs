@@ -2,9 +2,9 @@
 
 use std::ffi::{OsStr, OsString};
 use std::fs;
-use std::io::{Read, Write};
+use std::io::{self, Read, Write};
 use std::path::PathBuf;
-use std::process::{Command, Stdio};
+use std::process::{ChildStdin, Command, Stdio};
 use std::thread;
 use std::time::{Duration, Instant};
 
@@ -42,31 +42,45 @@ pub fn run<S: AsRef<OsStr>>(words: &[S]) -> Ended {
 
 /// The same, with bytes on standard input.
 pub fn run_fed<S: AsRef<OsStr>>(words: &[S], fed: &[u8]) -> Ended {
-    let mut command = Command::new(env!("CARGO_BIN_EXE_fuavelino"));
-    command.args(words);
-    ended(command, fed, false)
+    let fed = fed.to_vec();
+    run_poured(words, move |input| input.write_all(&fed))
+}
+
+/// The same, with standard input written by a function, so that no one has to hold it.
+pub fn run_poured<S: AsRef<OsStr>>(words: &[S], pour: impl Pour) -> Ended {
+    ended(command(words), pour, false)
 }
 
 /// The same, with standard input left open: after the bytes nothing comes, and no end either.
 pub fn run_stalled<S: AsRef<OsStr>>(words: &[S], fed: &[u8]) -> Ended {
-    let mut command = Command::new(env!("CARGO_BIN_EXE_fuavelino"));
-    command.args(words);
-    ended(command, fed, true)
+    let fed = fed.to_vec();
+    ended(command(words), move |input: &mut ChildStdin| input.write_all(&fed), true)
 }
 
 /// Runs it under a shell's script, in which `"$0"` is the command and `"$1"` on are the words.
 pub fn run_in<S: AsRef<OsStr>>(script: &str, words: &[S]) -> Ended {
     let mut command = Command::new("bash");
     command.arg("-c").arg(script).arg(env!("CARGO_BIN_EXE_fuavelino")).args(words);
-    ended(command, &[], false)
+    ended(command, |_: &mut ChildStdin| Ok(()), false)
 }
 
-fn ended(mut command: Command, fed: &[u8], stalled: bool) -> Ended {
+/// Writes the command's standard input.
+pub trait Pour: FnOnce(&mut ChildStdin) -> io::Result<()> + Send + 'static {}
+
+impl<P: FnOnce(&mut ChildStdin) -> io::Result<()> + Send + 'static> Pour for P {}
+
+fn command<S: AsRef<OsStr>>(words: &[S]) -> Command {
+    let mut command = Command::new(env!("CARGO_BIN_EXE_fuavelino"));
+    command.args(words);
+    command
+}
+
+fn ended(mut command: Command, pour: impl Pour, stalled: bool) -> Ended {
     command.stdin(Stdio::piped()).stdout(Stdio::piped()).stderr(Stdio::piped());
     let mut child = command.spawn().expect("the command starts");
-    let (mut input, fed) = (child.stdin.take().unwrap(), fed.to_vec());
+    let mut input = child.stdin.take().unwrap();
     // the command may end before it has read everything
-    let feeding = thread::spawn(move || input.write_all(&fed).ok().filter(|()| stalled).map(|()| input));
+    let feeding = thread::spawn(move || pour(&mut input).ok().filter(|()| stalled).map(|()| input));
     let out = gather(child.stdout.take().unwrap());
     let err = gather(child.stderr.take().unwrap());
     let began = Instant::now();
