@@ -4,9 +4,10 @@ use crate::json::Json;
 use crate::run::{run, Room};
 use crate::video::Video;
 use crate::words;
+use fuavelino::MOST_SIDE;
 use std::process::Command;
 
-const CLIPS: [(usize, usize, u32, &str); 8] = [
+const CLIPS: [(usize, usize, u32, &str); 10] = [
     (48, 40, 8, "420"),
     (61, 47, 8, "420"),
     (35, 33, 8, "422"),
@@ -15,6 +16,8 @@ const CLIPS: [(usize, usize, u32, &str); 8] = [
     (48, 66, 10, "420"),
     (33, 32, 9, "422"),
     (40, 21, 12, "444"),
+    (MOST_SIDE, 31, 10, "420"),
+    (16, MOST_SIDE, 12, "444"),
 ];
 
 /// Lines of `scope plane field bits`, as the program prints them.

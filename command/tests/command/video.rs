@@ -52,12 +52,13 @@ pub fn sides(width: usize, height: usize, chroma: &str) -> Vec<(usize, usize)> {
 }
 
 impl Video {
-    /// Slopes with noise.
+    /// Slopes up and down, with noise.
     pub fn new(width: usize, height: usize, depth: u32, chroma: &'static str, frames: usize, seed: u64) -> Video {
         let mut r = Random(seed);
         let max = (1usize << depth) - 1;
+        let slope = |at: usize| (at % (2 * max)).min(2 * max - at % (2 * max));
         let mut plane = |(w, h): (usize, usize)| {
-            let samples = (0..w * h).map(|i| (i % w * 3 + i / w * 5 + r.below(max / 8 + 1)).min(max) as u16);
+            let samples = (0..w * h).map(|i| (slope(i % w * 3 + i / w * 5) + r.below(max / 8 + 1)).min(max) as u16);
             Plane { width: w, height: h, samples: samples.collect() }
         };
         let frames = (0..frames).map(|_| sides(width, height, chroma).into_iter().map(&mut plane).collect()).collect();
