@@ -125,7 +125,7 @@ fn available() -> Option<u64> {
 
 /// Four runs over a thousand million samples: without optimisation these take minutes.
 #[test]
-#[ignore = "needs an optimised build and 4 GB: tools/wide-clip"]
+#[ignore = "needs an optimised build and 4 GB: tools/wide-clip test"]
 fn one_frame_can_meet_the_largest_total() {
     if available().map_or(true, |most| most < NEEDED) {
         // past what holds back the words of tests that pass
