@@ -97,14 +97,14 @@ fn sides_past_the_longest_are_refused() {
 /// The largest squared error of a sample of 12 bits.
 const WORST: u64 = 4_095 * 4_095;
 
-/// The most rows of the widest frames of 444 of which every sample is as wrong as can be and whose error is not above 2^53.
+/// The most rows of the widest frames of 444 whose error is not above 2^53 where every sample is as wrong as can be.
 const ROWS: u64 = (1 << 53) / (3 * MOST_SIDE as u64 * WORST);
 
 /// What a run with two such frames needs, in KiB, and room for the rest of the machine.
 const NEEDED: u64 = 4_000_000;
 
-/// Two clips of one frame of so many rows: a file with a hole in the place of its samples, all 0, and the other on standard input,
-/// all 4,095. Neither is ever held in full but by the command.
+/// Two clips of one frame of so many rows: a file with a hole in the place of its samples, which are 0, and on standard
+/// input one of samples of 4,095. Neither is ever held in full but by the command.
 fn apart(room: &Room, rows: u64, words: &[OsString]) -> Ended {
     let start = format!("YUV4MPEG2 W{} H{} F25:1 Ip C444p12\nFRAME\n", MOST_SIDE, rows);
     let zeros = room.file("zeros.y4m", start.as_bytes());
