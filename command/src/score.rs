@@ -168,8 +168,8 @@ impl Scorer {
     }
 }
 
-/// The squared error of all planes of a frame together, where each has its own. Three of the largest can come to more than
-/// a series gives.
+/// The squared error of all planes of a frame together, where each has its own. Three of the largest can come to more
+/// than a series gives.
 fn total(planes: &[Scores]) -> Result<Option<PsnrMetrics>, Refused> {
     let records: Option<Vec<PsnrMetrics>> = planes.iter().map(|plane| plane.error).collect();
     records.map(|records| fuavelino::series(&records)).transpose().map_err(Refused::of(COMBINED, "squared error"))
