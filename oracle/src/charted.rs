@@ -2,6 +2,7 @@
 
 use crate::family::{number, run, Family, Run};
 use crate::heights::{kernel, HEIGHTS};
+use crate::limits::SIDE;
 use crate::plane::less;
 use crate::random::Random;
 use crate::samples::{runs, sound_of};
@@ -164,7 +165,7 @@ fn scored(height: usize, ask: Run) -> Result<(), String> {
 /// when one of its bits is turned, or all; large ones. Then listed heights with places about the count, and with many;
 /// and their neighbours with many.
 fn listed() -> Vec<Case> {
-    let mut heights: Vec<usize> = (0..=8_193).collect();
+    let mut heights: Vec<usize> = (0..=SIDE + 1).collect();
     for height in HEIGHTS {
         heights.extend((0..usize::BITS).map(|bit| height ^ 1 << bit));
         heights.extend([height.wrapping_neg(), !height, height << 16, height << 32]);

@@ -2,6 +2,7 @@
 //! crate `probe` runs the inner step.
 
 use crate::family::{run, Family, Run};
+use crate::limits::SIDE;
 use crate::plane::less;
 use crate::random::Random;
 use crate::samples::runs;
@@ -14,8 +15,6 @@ extern "C" {
 /// The largest sample of a plane of depth 12, and the largest that the step takes.
 const BRIGHT: u32 = 4_095;
 const MOST: u32 = 1 << 20;
-/// The largest side that the step takes.
-const SIDE: usize = 8_192;
 
 pub fn compare(ask: Run) -> bool {
     let cases = if ask.full { 400_000 } else { 40_000 };

@@ -2,6 +2,7 @@
 
 use crate::family::{number, run, Family, Run};
 use crate::hvs_ways;
+use crate::limits::SIDE;
 use crate::plane;
 use crate::random::Random;
 use crate::samples::{sound, sound_of, Pair};
@@ -111,8 +112,8 @@ pub fn published(p: &Pair, kind: usize) -> f64 {
 fn sides(r: &mut Random) -> (usize, usize) {
     match r.below(400) {
         0 => (r.within(100, 300), r.within(60, 200)),
-        1 => (r.within(8_185, 8_192), r.within(8, 15)),
-        2 => (r.within(8, 15), r.within(8_185, 8_192)),
+        1 => (r.within(SIDE - 7, SIDE), r.within(8, 15)),
+        2 => (r.within(8, 15), r.within(SIDE - 7, SIDE)),
         3..=60 => (r.within(8, 64), r.within(8, 64)),
         61..=100 => (r.within(6, 9), r.within(6, 9)),
         101..=200 => (r.pick(&[8, 14, 15, 21, 22, 23, 29]), r.pick(&[8, 14, 15, 21, 22, 23, 29])),
@@ -125,7 +126,7 @@ fn listed() -> Vec<(Pair, usize)> {
     let mut r = Random::of(0, "hvs, listed", 0);
     let mut list = Vec::new();
     for (depth, kind) in (1..=12u32).flat_map(|depth| [0, 1, 2].map(|kind| (depth, kind))) {
-        for (width, height) in [(7, 8), (8, 7), (8, 8), (8_192, 8), (8, 8_192), (8_193, 8), (8, 8_193)] {
+        for (width, height) in [(7, 8), (8, 7), (8, 8), (SIDE, 8), (8, SIDE), (SIDE + 1, 8), (8, SIDE + 1)] {
             list.push((sound_of(&mut r, depth, width, height), kind));
         }
         let max = (1 << depth) - 1;

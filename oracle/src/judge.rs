@@ -11,6 +11,7 @@ mod heights;
 mod hvs;
 mod hvs_ways;
 mod lifting;
+mod limits;
 mod located;
 mod model;
 mod plane;

@@ -1,6 +1,7 @@
 //! The first difference and the error map, of both widths: a model written from the rule, and the published error as the map's total.
 
 use crate::family::{number, run, Family, Run};
+use crate::limits::SIDE;
 use crate::plane::{any, less};
 use crate::random::Random;
 use crate::samples::{runs, sound, sound_of, Pair};
@@ -10,7 +11,7 @@ use published::video::pixel::Pixel;
 use published::video::psnr;
 
 /// The side of a tile.
-const SIDE: usize = 8;
+const TILE: usize = 8;
 
 /// What the places hold before a call, and must hold after a refusal.
 const DIFFERS: u8 = 0xA7;
@@ -173,14 +174,14 @@ fn errors(p: &Pair) -> Vec<Vec<u64>> {
     let [a, b] = p.visible();
     let off: Vec<u64> = a.iter().zip(&b).map(|(x, y)| u64::from(x.max(y) - x.min(y)).pow(2)).collect();
     let rows: Vec<Vec<u64>> =
-        off.chunks(p.width).map(|row| row.chunks(SIDE).map(|part| part.iter().sum()).collect()).collect();
+        off.chunks(p.width).map(|row| row.chunks(TILE).map(|part| part.iter().sum()).collect()).collect();
     let column = |band: &[Vec<u64>], i: usize| band.iter().map(|row| row[i]).sum();
-    rows.chunks(SIDE).map(|band| (0..band[0].len()).map(|i| column(band, i)).collect()).collect()
+    rows.chunks(TILE).map(|band| (0..band[0].len()).map(|i| column(band, i)).collect()).collect()
 }
 
 /// The tiles of planes of these sides; 0 where planes may not have them.
 fn needed(width: usize, height: usize) -> usize {
-    let tiles = |side: usize| if side > 8_192 { 0 } else { (0..side).step_by(SIDE).count() };
+    let tiles = |side: usize| if side > SIDE { 0 } else { (0..side).step_by(TILE).count() };
     tiles(width) * tiles(height)
 }
 
@@ -217,8 +218,8 @@ fn marked(r: &mut Random) -> Pair {
 fn sides(r: &mut Random) -> (usize, usize) {
     let side = |r: &mut Random| if r.once_in(2) { r.pick(&SIDES) } else { r.within(1, 40) };
     match r.below(200) {
-        0 => (r.within(8_190, 8_192), r.within(1, 3)),
-        1 => (r.within(1, 3), r.within(8_190, 8_192)),
+        0 => (r.within(SIDE - 2, SIDE), r.within(1, 3)),
+        1 => (r.within(1, 3), r.within(SIDE - 2, SIDE)),
         _ => (side(r), side(r)),
     }
 }
@@ -282,7 +283,7 @@ fn listed() -> Vec<Case> {
                 list.extend([0, -1, 1].map(|over| Case { pair: pair.clone(), over }));
             }
         }
-        for (width, height) in [(8_192, 1), (1, 8_192), (8_191, 2), (2, 8_191), (8_193, 1), (1, 8_193)] {
+        for (width, height) in [(SIDE, 1), (1, SIDE), (SIDE - 1, 2), (2, SIDE - 1), (SIDE + 1, 1), (1, SIDE + 1)] {
             let pair = sound_of(&mut r, depth, width, height);
             list.extend([0, -1, 1].map(|over| Case { pair: pair.clone(), over }));
         }
@@ -292,7 +293,7 @@ fn listed() -> Vec<Case> {
 
 /// The largest planes: every tile of the largest error, and none different but the last sample.
 fn largest() -> bool {
-    const MOST: usize = 8_192;
+    const MOST: usize = SIDE;
     const ERROR: u64 = 64 * 4_095 * 4_095;
     let (a, mut b) = (vec![4_095u16; MOST * MOST], vec![0u16; MOST * MOST]);
     let pair = Pair { wide: true, depth: 12, width: MOST, height: MOST, strides: [MOST; 2], samples: [vec![], vec![]] };
@@ -300,7 +301,7 @@ fn largest() -> bool {
     let (first, mapped) = asked(&c, &a, &b);
     let from_start = first == First { answer: 0, differs: 1, place: Place { row: 0, column: 0 } };
     let kept = |at: usize| mapped.room[at] == noise(at);
-    let map = &mapped.room[MARGIN..][..MOST / SIDE * MOST / SIDE];
+    let map = &mapped.room[MARGIN..][..MOST / TILE * MOST / TILE];
     let full =
         mapped.answer == 0 && map.iter().all(|e| *e == ERROR) && (0..MARGIN).all(kept) && kept(MARGIN + map.len());
     b.copy_from_slice(&a);
@@ -310,7 +311,7 @@ fn largest() -> bool {
     let errors = mapped.room[MARGIN..].iter().filter(|e| **e > 0 && **e <= ERROR).count();
     let held = from_start && full && at_end && errors == 1;
     println!(
-        "located: 8,192 by 8,192 at depth 12, all and the last sample: {}",
+        "located: 16,384 by 16,384 at depth 12, all and the last sample: {}",
         if held { "as they should" } else { "FAILED" }
     );
     held

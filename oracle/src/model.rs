@@ -1,5 +1,7 @@
 //! What SCOPE says of roots and of planes, written a second time, with no regard to the product.
 
+use crate::limits::{SIDE, STRIDE};
+
 /// The refusal of a root.
 pub const VALUE: u8 = 12;
 
@@ -87,8 +89,8 @@ impl Lent<'_> {
     /// The lowest of tests 1 to 6 that applies, or 0.
     pub fn refusal(&self) -> u8 {
         let (width, height) = (self.width, self.height);
-        let side = |s: usize| s == 0 || s > 8_192;
-        let stride = |p: &(usize, &[u16])| p.0 < width || p.0 > 16_384;
+        let side = |s: usize| s == 0 || s > SIDE;
+        let stride = |p: &(usize, &[u16])| p.0 < width || p.0 > STRIDE;
         let short = |p: &(usize, &[u16])| (p.1.len() as u128) < needs(p.0, width, height);
         if !self.depth_suits() {
             1

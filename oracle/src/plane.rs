@@ -1,12 +1,13 @@
 //! What a plane may be: the check of both widths, against the model.
 
 use crate::family::{number, run, Family, Run};
+use crate::limits::{SIDE, STRIDE};
 use crate::model::{Check, Plane};
 use crate::random::Random;
 use fuavelino::{no_alloc, Sample, Shape};
 
 /// Random planes hold no more samples than this.
-const ROOM: u128 = 40_000;
+const ROOM: u128 = 80_000;
 
 pub fn compare(ask: Run) -> bool {
     let cases = if ask.full { 5_000_000 } else { 250_000 };
@@ -157,11 +158,12 @@ fn smaller_plane(list: &mut Vec<Check>, c: &Check, place: fn(&mut Check) -> &mut
 /// The largest planes, sound and with the last sample too large.
 fn large(full: bool) -> Vec<Check> {
     let mut list = Vec::new();
-    let strides: &[usize] = if full { &[8_192, 16_384] } else { &[8_192] };
+    let strides: &[usize] = if full { &[SIDE, STRIDE] } else { &[SIDE] };
     for stride in strides {
         for (wide, depth) in [(false, 7), (false, 8), (true, 12)] {
-            let plane = Plane { stride: *stride, len: stride * 8_191 + 8_192, fill: 0, padding: 0, odd: Vec::new() };
-            let sound = Check { wide, depth, width: 8_192, height: 8_192, least: 16, a: plane.clone(), b: plane };
+            let plane =
+                Plane { stride: *stride, len: stride * (SIDE - 1) + SIDE, fill: 0, padding: 0, odd: Vec::new() };
+            let sound = Check { wide, depth, width: SIDE, height: SIDE, least: 16, a: plane.clone(), b: plane };
             let mut bad = sound.clone();
             bad.b.odd.push((sound.b.len - 1, 1 << depth.min(7)));
             bad.depth = depth.min(10);
@@ -197,7 +199,7 @@ fn sound(r: &mut Random, least: usize) -> Check {
 
 fn sides(r: &mut Random, least: usize) -> (usize, usize) {
     let short = |r: &mut Random| r.pick(&[1, 1, 2, 3, 5, 8, 9, 15, 16, 17, 24]).max(least);
-    let long = |r: &mut Random| r.within(8_190, 8_192);
+    let long = |r: &mut Random| r.within(SIDE - 2, SIDE);
     match r.below(60) {
         0 if least < 2 => (r.within(1, 2), long(r)),
         1 if least < 2 => (long(r), r.within(1, 2)),
@@ -207,9 +209,9 @@ fn sides(r: &mut Random, least: usize) -> (usize, usize) {
 
 fn sound_plane(r: &mut Random, width: usize, height: usize, depth: u32, wide: bool) -> Plane {
     let stride = match r.below(20) {
-        0 if height == 1 => r.within(16_383, 16_384),
+        0 if height == 1 => r.within(STRIDE - 1, STRIDE),
         0..=9 => width,
-        _ => (width + r.below(5)).min(16_384),
+        _ => (width + r.below(5)).min(STRIDE),
     };
     let padding = if wide { r.next() as u16 } else { u16::from(r.next() as u8) };
     let padding = r.pick(&[0, padding, if wide { u16::MAX } else { 255 }]);
@@ -234,12 +236,12 @@ fn odd_depth(r: &mut Random) -> u32 {
 /// Numbers about the limits of a side, and ones whose products with others wrap.
 fn odd_side(r: &mut Random, c: &mut Check) {
     if r.once_in(6) {
-        c.least = r.pick(&[2, 9, 17, 8_192, 8_193, usize::MAX]);
+        c.least = r.pick(&[2, 9, 17, SIDE, SIDE + 1, usize::MAX]);
         return;
     }
     let below = c.least.saturating_sub(1);
     let high: usize = r.pick(&[1 << 32, 1 << 63, 1 << 62, 1 << 51, 1 << 50]);
-    let near = [0, 0, 1, below, below, c.least, 8_191, 8_192, 8_193, 8_194, 16_384];
+    let near = [0, 0, 1, below, below, c.least, SIDE - 1, SIDE, SIDE + 1, SIDE + 2, STRIDE];
     let far = [high, high + 1, high.wrapping_add(c.width), high.wrapping_add(c.height), usize::MAX, usize::MAX - 1];
     let side = if r.once_in(3) { r.pick(&far) } else { r.pick(&near) };
     let both = r.once_in(8);
@@ -256,7 +258,8 @@ fn odd_side(r: &mut Random, c: &mut Check) {
 
 fn odd_stride(r: &mut Random, c: &mut Check) {
     let far = [1 << 32, (1 << 32) + c.width.min(99), 1 << 63, usize::MAX, usize::MAX / 2 + 2];
-    let near = [0, c.width.wrapping_sub(1), c.width.wrapping_sub(1), c.width, 16_383, 16_384, 16_385, 16_385, 16_386];
+    let below = c.width.wrapping_sub(1);
+    let near = [0, below, below, c.width, STRIDE - 1, STRIDE, STRIDE + 1, STRIDE + 1, STRIDE + 2];
     let stride = if r.once_in(4) { r.pick(&far) } else { r.pick(&near) };
     one_of(r, c).stride = stride;
     if r.once_in(2) {
@@ -281,11 +284,11 @@ fn odd_sample(r: &mut Random, c: &mut Check) {
     let top = if c.wide { 65_535 } else { 255 };
     let value = r.below(top + 1);
     let value = r.pick(&[max, max + 1, max + 1, max + 2, top, value]).min(top) as u16;
-    let (width, height) = (c.width.clamp(1, 8_192), c.height.clamp(1, 8_192));
+    let (width, height) = (c.width.clamp(1, SIDE), c.height.clamp(1, SIDE));
     let (x, y) = (r.below(width), r.below(height));
     let kind = r.below(9);
     let plane = one_of(r, c);
-    let (stride, len) = (plane.stride.min(16_385), plane.len);
+    let (stride, len) = (plane.stride.min(STRIDE + 1), plane.len);
     let last = (height - 1) * stride;
     let at = match kind {
         0 => 0,
@@ -313,7 +316,7 @@ fn one_of<'a>(r: &mut Random, c: &'a mut Check) -> &'a mut Plane {
 fn refit(c: &mut Check) {
     let (width, height) = (c.width, c.height);
     for plane in [&mut c.a, &mut c.b] {
-        if plane.stride < width && width < 8_194 {
+        if plane.stride < width && width < SIDE + 2 {
             plane.stride = width;
         }
         if plane.needs(width, height) <= ROOM {

@@ -1,5 +1,6 @@
 //! Pairs of planes of samples: how they are made, padded, lent, made smaller and shown.
 
+use crate::limits::STRIDE;
 use crate::model::{needs, Check, Lent};
 use crate::plane::less;
 use crate::random::Random;
@@ -240,10 +241,10 @@ pub fn sound_of(r: &mut Random, depth: u32, width: usize, height: usize) -> Pair
 
 fn stride(r: &mut Random, width: usize, height: usize) -> usize {
     match r.below(40) {
-        0 if height < 4 => r.within(16_383, 16_384),
+        0 if height < 4 => r.within(STRIDE - 1, STRIDE),
         1 => 2 * width,
         2..=15 => width,
-        _ => (width + r.below(9)).min(16_384),
+        _ => (width + r.below(9)).min(STRIDE),
     }
 }
 

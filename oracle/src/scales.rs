@@ -2,6 +2,7 @@
 
 use crate::family::{number, run, Family, Run};
 use crate::five;
+use crate::limits::SIDE;
 use crate::plane;
 use crate::random::Random;
 use crate::samples::{sound, sound_of, Pair};
@@ -10,7 +11,7 @@ use fuavelino::{no_alloc, Sample};
 /// What each place of the answer holds before a call, and must hold after a refusal.
 const BEFORE: u64 = 0x7FF4_DEAD_BEEF_0001;
 /// Random cases hold no more samples than this.
-const ROOM: usize = 20_000;
+const ROOM: usize = 40_000;
 
 pub fn compare(ask: Run) -> bool {
     let cases = if ask.full { 100_000 } else { 20_000 };
@@ -87,7 +88,7 @@ fn noise(at: usize) -> u32 {
 
 /// The places that the call needs of scratch, and of room for each plane.
 fn needed(p: &Pair, which: usize) -> usize {
-    let (width, height) = (p.width.min(8_192), p.height.min(8_192));
+    let (width, height) = (p.width.min(SIDE), p.height.min(SIDE));
     if which == 0 {
         96 * width
     } else {
@@ -131,7 +132,7 @@ fn listed() -> Vec<Case> {
     let mut r = Random::of(0, "scales, listed", 0);
     let mut list = Vec::new();
     for (width, height) in
-        [(15, 16), (16, 15), (16, 16), (17, 31), (33, 16), (95, 63), (320, 180), (8_192, 16), (16, 8_193)]
+        [(15, 16), (16, 15), (16, 16), (17, 31), (33, 16), (95, 63), (320, 180), (SIDE, 16), (16, SIDE + 1)]
     {
         list.push(Case { pair: sound(&mut r, width, height), over: [0; 3] });
     }

@@ -1,6 +1,7 @@
 //! Series of records, against the rules of SCOPE, "When the desk says no" and "Squared error", in wide whole numbers.
 
 use crate::family::{number, run, Family, Run};
+use crate::limits::SAMPLES;
 use crate::plane::less;
 use crate::random::Random;
 use crate::samples::runs;
@@ -12,7 +13,6 @@ type Left = (u64, u64, u32);
 /// What they hold before a call, and must hold after a refusal.
 const BEFORE: Left = (0x7FF4_DEAD_BEEF_0001, 0x0123_4567_89AB_CDEF, 0xFEED_F00D);
 const MOST_RECORDS: usize = 65_536;
-const MOST_SAMPLES: u64 = 67_108_864;
 const MOST_ERROR: u64 = 1 << 53;
 
 pub fn compare(ask: Run) -> bool {
@@ -26,7 +26,7 @@ fn sound_error(record: &Record, first_max: u32) -> Option<u128> {
     let error = record.sq_err;
     let whole = error.is_sign_positive() && error.is_finite() && error.fract() == 0.0;
     let max_suits = (1..=12).any(|d| max == (1 << d) - 1) && record.sample_max == first_max;
-    let n_suits = (1..=u128::from(MOST_SAMPLES)).contains(&n);
+    let n_suits = (1..=u128::from(SAMPLES)).contains(&n);
     // the cast keeps every whole number that fits 128 bits, and ends far above n × max² where none does
     Some(error as u128).filter(|e| whole && max_suits && n_suits && *e <= n * max * max)
 }
@@ -122,7 +122,7 @@ fn smaller_record(record: &Record) -> Vec<Record> {
 fn sound(r: &mut Random, depth: u32) -> Record {
     let max = (1u64 << depth) - 1;
     let some = r.bits(26) + 1;
-    let n = r.pick(&[1, 2, MOST_SAMPLES - 1, MOST_SAMPLES, some, some, some]);
+    let n = r.pick(&[1, 2, SAMPLES - 1, SAMPLES, some, some, some]);
     let most = n * max * max;
     let error = r.next() % (most + 1);
     let small = r.bits(20).min(most);
@@ -156,7 +156,7 @@ fn spoilt(record: &Record, kind: usize) -> Record {
         13 => error(18_446_744_073_709_551_616.0 + 4_096.0),
         14 => error(f64::MAX),
         15 => Record { sq_err: 0.0, ..count(0) },
-        16 => count(MOST_SAMPLES + 1),
+        16 => count(SAMPLES + 1),
         17 => count(u64::MAX),
         18 => count(n + (1 << 32)),
         19 => largest(max + 1),
@@ -190,13 +190,13 @@ fn any(r: &mut Random) -> Vec<Record> {
 
 /// A series whose error is 2^53, or a little off it.
 fn near_the_limit(r: &mut Random) -> Vec<Record> {
-    let most = MOST_SAMPLES * 4_095 * 4_095;
+    let most = SAMPLES * 4_095 * 4_095;
     let mut left = MOST_ERROR + r.pick(&[0, 0, 1, 1, 2, 3, 1_000]) - r.pick(&[0, 0, 0, 1, 2]);
     let mut records = Vec::new();
     while left > 0 {
         let part = most - r.bits(40);
         let part = r.pick(&[most, part, part, 1]).min(left);
-        records.push(Record { sq_err: part as f64, n_pixels: MOST_SAMPLES, sample_max: 4_095 });
+        records.push(Record { sq_err: part as f64, n_pixels: SAMPLES, sample_max: 4_095 });
         left -= part;
     }
     // the small parts must not all come late
@@ -214,8 +214,8 @@ fn run_of(count: usize, record: Record, last: Record) -> Vec<Record> {
 }
 
 fn listed() -> Vec<Vec<Record>> {
-    let full = |error: u64| Record { sq_err: error as f64, n_pixels: MOST_SAMPLES, sample_max: 4_095 };
-    let most = MOST_SAMPLES * 4_095 * 4_095;
+    let full = |error: u64| Record { sq_err: error as f64, n_pixels: SAMPLES, sample_max: 4_095 };
+    let most = SAMPLES * 4_095 * 4_095;
     let small = Record { sq_err: 3.0, n_pixels: 7, sample_max: 255 };
     let same = Record { sq_err: 0.0, ..small };
     let mut list = vec![

@@ -1,6 +1,7 @@
 //! Squared error of both widths: the published record of the unpadded copies, and the model's refusals.
 
 use crate::family::{number, run, Family, Run};
+use crate::limits::SIDE;
 use crate::plane;
 use crate::random::Random;
 use crate::samples::{sound, sound_of, Pair};
@@ -92,8 +93,8 @@ fn record<T: Pixel>(planes: &[Plane<T>; 2], depth: u32) -> Left {
 
 fn sides(r: &mut Random) -> (usize, usize) {
     match r.below(200) {
-        0 => (r.within(8_190, 8_192), r.within(1, 3)),
-        1 => (r.within(1, 3), r.within(8_190, 8_192)),
+        0 => (r.within(SIDE - 2, SIDE), r.within(1, 3)),
+        1 => (r.within(1, 3), r.within(SIDE - 2, SIDE)),
         2 => (r.within(100, 300), r.within(50, 200)),
         3..=6 => (r.within(1, 1_100), r.within(1, 4)),
         7..=40 => (r.within(1, 64), r.within(1, 64)),
@@ -107,7 +108,9 @@ fn listed() -> Vec<Pair> {
     let mut r = Random::of(0, "squared error, listed", 0);
     let mut list = Vec::new();
     for depth in 1..=12u32 {
-        for (width, height) in [(1, 1), (8_192, 1), (1, 8_192), (8_191, 2), (2, 8_191), (8_193, 1), (1, 8_193)] {
+        for (width, height) in
+            [(1, 1), (SIDE, 1), (1, SIDE), (SIDE - 1, 2), (2, SIDE - 1), (SIDE + 1, 1), (1, SIDE + 1)]
+        {
             list.push(sound_of(&mut r, depth, width, height));
         }
         let max = (1 << depth) - 1;
@@ -140,7 +143,6 @@ fn at_width(depth: u32, width: usize) -> Vec<Pair> {
 
 /// The largest planes of the largest error that there is, accepted and exact.
 fn largest() -> bool {
-    const SIDE: usize = 8_192;
     let (a, b) = (vec![4_095u16; SIDE * SIDE], vec![0u16; SIDE * SIDE]);
     let shape =
         Pair { wide: true, depth: 12, width: SIDE, height: SIDE, strides: [SIDE; 2], samples: [vec![], vec![]] };
@@ -151,7 +153,7 @@ fn largest() -> bool {
     let word = if held { "accepted and exact" } else { "FAILED" };
     let error = f64::from_bits(left.0);
     println!(
-        "squared: 8,192 by 8,192 at depth 12 with the largest error, {}: {} ({}, {}, {})",
+        "squared: 16,384 by 16,384 at depth 12 with the largest error, {}: {} ({}, {}, {})",
         exact, word, error, left.1, left.2
     );
     held

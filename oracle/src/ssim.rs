@@ -1,6 +1,7 @@
 //! SSIM of both widths: the published pair of the unpadded copies, the rules' refusals, and what is left in the scratch.
 
 use crate::family::{number, run, Family, Run};
+use crate::limits::SIDE;
 use crate::plane::{self, less};
 use crate::random::Random;
 use crate::samples::{sound, Pair};
@@ -11,7 +12,7 @@ use published::video::ssim;
 /// What the two places hold before a call, and must hold after a refusal.
 const BEFORE: [u64; 2] = [0x7FF4_DEAD_BEEF_0001, 0xFFF4_DEAD_BEEF_0002];
 /// Random cases lend no more scratch than this.
-const ROOM: u128 = 400_000;
+const ROOM: u128 = 800_000;
 
 pub fn compare(ask: Run) -> bool {
     let cases = if ask.full { 500_000 } else { 100_000 };
@@ -194,7 +195,7 @@ fn listed() -> Vec<Case> {
             list.push(exact(sound(&mut r, width, height), kernel.clone()));
         }
     }
-    list.push(exact(sound(&mut r, 8_192, 2), long));
+    list.push(exact(sound(&mut r, SIDE, 2), long));
     for kernel in unlawful() {
         list.push(exact(sound(&mut r, 5, 4), kernel));
     }
@@ -253,8 +254,9 @@ fn sides(r: &mut Random) -> (usize, usize) {
         0 => (r.within(100, 200), r.within(60, 120)),
         1 => (r.within(200, 2_000), r.within(1, 4)),
         2 => (r.within(1, 4), r.within(200, 2_000)),
-        3 => (r.within(8_190, 8_192), r.within(1, 2)),
-        4..=80 => (r.within(1, 64), r.within(1, 48)),
+        3 => (r.within(SIDE - 2, SIDE), r.within(1, 2)),
+        4 => (r.within(1, 2), r.within(SIDE - 2, SIDE)),
+        5..=80 => (r.within(1, 64), r.within(1, 48)),
         81..=200 => (r.within(1, 4), r.within(1, 4)),
         201..=300 => (r.within(1, 24), r.within(1, 24)),
         _ => (r.within(1, 12), r.within(1, 12)),

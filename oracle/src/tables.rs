@@ -6,17 +6,19 @@
 
 mod five;
 mod lifting;
+mod limits;
 mod model;
 mod random;
 mod scaled;
 mod scored;
 
+use limits::{SIDE, STRIDE};
 use model::{Check, Plane};
 use random::Random;
 use scored::Samples;
 
-/// The program's planes hold this many samples; a sample set at this place is none.
-const ROOM: usize = 8_192;
+/// The program's planes hold this many samples, so that a row of the largest width fits; a sample set at this place is none.
+const ROOM: usize = SIDE;
 
 fn main() {
     let seed = std::env::args().nth(1).map_or(1, |word| word.parse().expect("the seed is a number"));
@@ -166,7 +168,7 @@ fn sides(list: &mut Vec<Check>, wide: bool) {
     list.push(sound(wide, 1, 1));
     list.push(Check { width: 0, ..sound(wide, 3, 2) });
     list.push(Check { height: 0, ..sound(wide, 3, 2) });
-    for side in [8_192, 8_193, (1 << 32) + 1] {
+    for side in [SIDE, SIDE + 1, (1 << 32) + 1] {
         let len = side.min(ROOM);
         let mut c = Check { width: side, ..sound(wide, len, 1) };
         c.a.stride = side;
@@ -183,7 +185,7 @@ fn sides(list: &mut Vec<Check>, wide: bool) {
 
 /// Strides and lengths; the last row's padding need not be there.
 fn layouts(list: &mut Vec<Check>, wide: bool) {
-    for stride in [2, 3, 4, 16_384, 16_385, (1 << 32) + 3] {
+    for stride in [2, 3, 4, STRIDE, STRIDE + 1, (1 << 32) + 3] {
         let mut c = sound(wide, 3, 1);
         c.a.stride = stride;
         list.push(c);

@@ -4,6 +4,7 @@
 use crate::family::{run, Family, Run};
 use crate::heights::{self, HEIGHTS};
 use crate::hvs;
+use crate::limits::SIDE;
 use crate::random::Random;
 use crate::samples::{sound_of, Pair};
 use crate::ssim as similarity;
@@ -46,7 +47,7 @@ pub fn compare(ask: Run) -> bool {
 
 /// The kernels that the bindings take from the chart or build, for planes of every height and for other arguments.
 fn kernels(ask: Run) -> Result<(), String> {
-    for height in 1..=8_192 {
+    for height in 1..=SIDE {
         of_height(height).map_err(|e| format!("height {}, {}", height, e))?;
     }
     for number in 0..10_000 {
@@ -63,7 +64,7 @@ fn kernels(ask: Run) -> Result<(), String> {
 /// Where the chart lists the height and the width is no smaller, the kernel is the chart's.
 fn of_height(height: usize) -> Result<(), String> {
     let listed = HEIGHTS.contains(&height);
-    for width in [height, (height - 1).max(1), height / 3 + 1, 8_192] {
+    for width in [height, (height - 1).max(1), height / 3 + 1, SIDE] {
         let kernel = Kernel::for_plane(width, height);
         let taps: Vec<i64> = kernel.taps().iter().map(|t| i64::from(*t)).collect();
         same("kernel", taps, ssim::probe_kernel(height as f64 * 1.5 / 256.0, width.min(height), 256))?;

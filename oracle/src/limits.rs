@@ -1,0 +1,8 @@
+//! The limits of SCOPE, "What a plane may be" and "When the desk says no", written a second time: all that is expected goes by these.
+
+/// The largest width and height.
+pub const SIDE: usize = 16_384;
+/// The largest stride.
+pub const STRIDE: usize = 32_768;
+/// The most samples of a record.
+pub const SAMPLES: u64 = 268_435_456;
