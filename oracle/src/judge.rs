@@ -13,6 +13,7 @@ mod hvs_ways;
 mod lifting;
 mod limits;
 mod located;
+mod mapped;
 mod model;
 mod plane;
 mod published_numbers;

@@ -2,6 +2,7 @@
 
 use crate::family::{number, run, Family, Run};
 use crate::limits::SIDE;
+use crate::mapped::Mapped;
 use crate::plane::{any, less};
 use crate::random::Random;
 use crate::samples::{runs, sound, sound_of, Pair};
@@ -9,6 +10,7 @@ use fuavelino::{no_alloc, Place, Sample, Tiles};
 use published::plane::Plane;
 use published::video::pixel::Pixel;
 use published::video::psnr;
+use std::time::Instant;
 
 /// The side of a tile.
 const TILE: usize = 8;
@@ -29,7 +31,7 @@ const SIDES: [usize; 5] = [1, 7, 8, 9, 17];
 
 pub fn compare(ask: Run) -> bool {
     let cases = if ask.full { 1_500_000 } else { 150_000 };
-    run("located", &mut Located { listed: listed() }, cases, ask) && (!ask.full || largest())
+    run("located", &mut Located { listed: listed() }, cases, ask) && all_of_the_largest()
 }
 
 struct Located {
@@ -59,13 +61,13 @@ struct First {
 
 /// What the map's call answered and left, with the places about the map.
 #[derive(PartialEq)]
-struct Mapped {
+struct Map {
     answer: u8,
     tiles: Tiles,
     room: Vec<u64>,
 }
 
-impl Mapped {
+impl Map {
     fn show(&self) -> String {
         let room = runs(&self.room, |e| if *e > u64::MAX / 2 { "kept".to_string() } else { e.to_string() });
         format!("{} {:?} {}", self.answer, self.tiles, room.join(" "))
@@ -128,14 +130,14 @@ fn noise(at: usize) -> u64 {
     u64::MAX - at as u64
 }
 
-fn asked<T: Sample>(c: &Case, a: &[T], b: &[T]) -> (First, Mapped) {
+fn asked<T: Sample>(c: &Case, a: &[T], b: &[T]) -> (First, Map) {
     let (a, b, shape) = (c.pair.plane(0, a), c.pair.plane(1, b), c.pair.shape());
     let (mut differs, mut place, mut tiles) = (DIFFERS, PLACE, TILES);
     let answer = number(no_alloc::first_difference(a, b, shape, &mut differs, &mut place));
     let first = First { answer, differs, place };
     let mut room: Vec<u64> = (0..c.places() + 2 * MARGIN).map(noise).collect();
     let answer = number(no_alloc::error_map(a, b, shape, &mut room[MARGIN..][..c.places()], &mut tiles));
-    (first, Mapped { answer, tiles, room })
+    (first, Map { answer, tiles, room })
 }
 
 /// The first place at which the samples that are seen, one row after the other, are not the same.
@@ -152,21 +154,21 @@ fn wanted_first(p: &Pair) -> First {
 }
 
 /// The tiles' errors in the first places, and noise wherever nothing is written.
-fn wanted_map(c: &Case) -> Mapped {
+fn wanted_map(c: &Case) -> Map {
     let mut room: Vec<u64> = (0..c.places() + 2 * MARGIN).map(noise).collect();
     let answer = c.pair.refusal(0);
     if answer != 0 {
-        return Mapped { answer, tiles: TILES, room };
+        return Map { answer, tiles: TILES, room };
     }
     let errors = errors(&c.pair);
     if c.places() < errors.iter().flatten().count() {
-        return Mapped { answer: 8, tiles: TILES, room };
+        return Map { answer: 8, tiles: TILES, room };
     }
     let tiles = Tiles { across: errors[0].len(), down: errors.len() };
     for (place, error) in room[MARGIN..].iter_mut().zip(errors.concat()) {
         *place = error;
     }
-    Mapped { answer, tiles, room }
+    Map { answer, tiles, room }
 }
 
 /// The squared error of each tile: rows are taken eight by eight, and each row's samples eight by eight, as many as there are.
@@ -291,28 +293,41 @@ fn listed() -> Vec<Case> {
     list
 }
 
-/// The largest planes: every tile of the largest error, and none different but the last sample.
-fn largest() -> bool {
-    const MOST: usize = SIDE;
+/// The largest planes: every tile of the largest error, and none different but the last sample. Nearly all of them is mapped, or pages
+/// that nobody writes.
+fn largest() -> Result<(), String> {
     const ERROR: u64 = 64 * 4_095 * 4_095;
-    let (a, mut b) = (vec![4_095u16; MOST * MOST], vec![0u16; MOST * MOST]);
-    let pair = Pair { wide: true, depth: 12, width: MOST, height: MOST, strides: [MOST; 2], samples: [vec![], vec![]] };
+    let pair = Pair { wide: true, depth: 12, width: SIDE, height: SIDE, strides: [SIDE; 2], samples: [vec![], vec![]] };
     let c = Case { pair, over: 1 };
-    let (first, mapped) = asked(&c, &a, &b);
-    let from_start = first == First { answer: 0, differs: 1, place: Place { row: 0, column: 0 } };
-    let kept = |at: usize| mapped.room[at] == noise(at);
-    let map = &mapped.room[MARGIN..][..MOST / TILE * MOST / TILE];
-    let full =
-        mapped.answer == 0 && map.iter().all(|e| *e == ERROR) && (0..MARGIN).all(kept) && kept(MARGIN + map.len());
-    b.copy_from_slice(&a);
-    b[MOST * MOST - 1] = 0;
-    let (first, mapped) = asked(&c, &a, &b);
-    let at_end = first == First { answer: 0, differs: 1, place: Place { row: MOST - 1, column: MOST - 1 } };
-    let errors = mapped.room[MARGIN..].iter().filter(|e| **e > 0 && **e <= ERROR).count();
-    let held = from_start && full && at_end && errors == 1;
-    println!(
-        "located: 16,384 by 16,384 at depth 12, all and the last sample: {}",
-        if held { "as they should" } else { "FAILED" }
-    );
-    held
+    let row = vec![4_095u16; SIDE];
+    let bright = Mapped::new(&row, &row, SIDE).map_err(|e| format!("nothing mapped: {}", e))?;
+    let mut other = vec![0u16; SIDE * SIDE];
+    let tiles = Tiles { across: SIDE / TILE, down: SIDE / TILE };
+    let count = tiles.across * tiles.down;
+    let held = |said: (First, Map), row: usize, column: usize, error: &dyn Fn(usize) -> u64| {
+        let (first, map) = said;
+        let wanted = |at: usize| if (MARGIN..MARGIN + count).contains(&at) { error(at - MARGIN) } else { noise(at) };
+        first == First { answer: 0, differs: 1, place: Place { row, column } }
+            && (map.answer, map.tiles) == (0, tiles)
+            && map.room.iter().enumerate().all(|(at, place)| *place == wanted(at))
+    };
+    if !held(asked(&c, &bright, &other), 0, 0, &|_| ERROR) {
+        return Err("where all samples differ".to_string());
+    }
+    let zeros = vec![0u16; SIDE * SIDE];
+    other[SIDE * SIDE - 1] = 4_095;
+    if !held(asked(&c, &zeros, &other), SIDE - 1, SIDE - 1, &|tile| if tile + 1 == count { 4_095 * 4_095 } else { 0 }) {
+        return Err("where the last sample differs".to_string());
+    }
+    Ok(())
+}
+
+/// Sees to the largest planes, and says how long that took.
+fn all_of_the_largest() -> bool {
+    let began = Instant::now();
+    let said = largest();
+    let word = said.as_ref().map_or_else(|why| format!("FAILED {}", why), |()| "as they should".to_string());
+    let time = began.elapsed().as_secs_f64();
+    println!("located: {} by {}, depth 12, all samples off and the last: {} in {:.1} s", SIDE, SIDE, word, time);
+    said.is_ok()
 }

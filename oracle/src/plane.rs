@@ -1,31 +1,51 @@
 //! What a plane may be: the check of both widths, against the model.
 
 use crate::family::{number, run, Family, Run};
-use crate::limits::{SIDE, STRIDE};
+use crate::limits::{SAMPLES, SIDE, STRIDE};
+use crate::mapped::Mapped;
 use crate::model::{Check, Plane};
 use crate::random::Random;
 use fuavelino::{no_alloc, Sample, Shape};
+use std::time::Instant;
 
 /// Random planes hold no more samples than this.
 const ROOM: u128 = 80_000;
 
 pub fn compare(ask: Run) -> bool {
     let cases = if ask.full { 5_000_000 } else { 250_000 };
-    let mut checks = Checks { cases, large: large(ask.full) };
-    run("plane", &mut checks, cases, ask)
+    run("plane", &mut Checks { listed: walls() }, cases, ask) && all_of_the_largest() && as_told()
+}
+
+/// Sees to the largest planes, and says how long that took.
+fn all_of_the_largest() -> bool {
+    let began = Instant::now();
+    let said = largest();
+    let word = said.as_ref().map_or_else(|why| format!("FAILED: {}", why), |()| "as they should".to_string());
+    println!("plane: {} by {}: {} in {:.1} s", SIDE, SIDE, word, began.elapsed().as_secs_f64());
+    said.is_ok()
+}
+
+/// The limits that the bindings name are those that all families expect.
+fn as_told() -> bool {
+    let told = (fuavelino::MOST_SIDE, fuavelino::MOST_STRIDE, fuavelino::MOST_SAMPLES);
+    let same = told == (SIDE, STRIDE, SAMPLES);
+    println!(
+        "plane: the limits that the bindings name, {:?}: {}",
+        told,
+        if same { "as they should" } else { "FAILED" }
+    );
+    same
 }
 
 struct Checks {
-    cases: u64,
-    large: Vec<Check>,
+    listed: Vec<Check>,
 }
 
 impl Family for Checks {
     type Case = Check;
 
     fn case(&self, number: u64, random: &mut Random) -> Check {
-        // the large ones last, since they take long to make small
-        match self.large.get((self.cases - 1 - number) as usize) {
+        match self.listed.get(number as usize) {
             Some(case) => case.clone(),
             None => {
                 let least = random.pick(&[0, 0, 1, 8, 16]);
@@ -155,22 +175,62 @@ fn smaller_plane(list: &mut Vec<Check>, c: &Check, place: fn(&mut Check) -> &mut
     with(list, c, place, planes);
 }
 
-/// The largest planes, sound and with the last sample too large.
-fn large(full: bool) -> Vec<Check> {
+/// Sides and strides at their limits and one past them, and about the limits that were.
+fn walls() -> Vec<Check> {
     let mut list = Vec::new();
-    let strides: &[usize] = if full { &[SIDE, STRIDE] } else { &[SIDE] };
-    for stride in strides {
-        for (wide, depth) in [(false, 7), (false, 8), (true, 12)] {
-            let plane =
-                Plane { stride: *stride, len: stride * (SIDE - 1) + SIDE, fill: 0, padding: 0, odd: Vec::new() };
-            let sound = Check { wide, depth, width: SIDE, height: SIDE, least: 16, a: plane.clone(), b: plane };
-            let mut bad = sound.clone();
-            bad.b.odd.push((sound.b.len - 1, 1 << depth.min(7)));
-            bad.depth = depth.min(10);
-            list.extend([sound, bad]);
+    for (wide, depth) in [(false, 7), (false, 8), (true, 9), (true, 12)] {
+        let padding = if wide { u16::MAX } else { 255 };
+        let of = |width: usize, height: usize, [a, b]: [usize; 2]| {
+            let plane = |stride: usize| {
+                let plane = Plane { stride, len: 0, fill: (1 << depth) - 1, padding, odd: Vec::new() };
+                Plane { len: plane.needs(width, height) as usize, ..plane }
+            };
+            Check { wide, depth, width, height, least: 0, a: plane(a), b: plane(b) }
+        };
+        for side in [SIDE - 1, SIDE, SIDE + 1, 8_191, 8_192, 8_193, 8_194] {
+            list.extend([1, 2].map(|rows| of(side, rows, [side, side + 1])));
+            list.extend([1, 2].map(|columns| of(columns, side, [columns, columns + 1])));
+        }
+        for stride in [STRIDE - 1, STRIDE, STRIDE + 1, 16_383, 16_384, 16_385, 16_386] {
+            for width in [3, SIDE] {
+                list.extend([[width, stride], [stride, width]].map(|strides| of(width, 2, strides)));
+            }
         }
     }
     list
+}
+
+/// The largest planes at either end of the strides, sound, and with the last sample too large. The padding would be refused if it were
+/// read. Nearly all of them is mapped.
+fn largest() -> Result<(), String> {
+    for stride in [SIDE, STRIDE] {
+        largest_of(stride, 8, [255u8; 3])?;
+        largest_of(stride, 7, [127u8, 128, 255])?;
+        largest_of(stride, 12, [4_095u16, 4_096, u16::MAX])?;
+    }
+    Ok(())
+}
+
+/// Of the samples one is seen, one is the last of the second plane, and one is padding.
+fn largest_of<T: Sample + Copy + PartialEq>(
+    stride: usize,
+    depth: u32,
+    [seen, last, padding]: [T; 3],
+) -> Result<(), String> {
+    let row = [vec![seen; SIDE], vec![padding; stride - SIDE]].concat();
+    let mut end = row.clone();
+    end[SIDE - 1] = last;
+    let mapped = |end: &[T]| Mapped::new(&row, end, SIDE).map_err(|e| format!("nothing mapped: {}", e));
+    let (a, b, shape) = (mapped(&row)?, mapped(&end)?, Shape { width: SIDE, height: SIDE, bit_depth: depth });
+    let wanted = if last == seen { 0 } else { 6 };
+    for (b, wanted) in [(&a, 0), (&b, wanted)] {
+        let [a, b] = [&a, b].map(|rows| fuavelino::Plane { data: &rows[..stride * (SIDE - 1) + SIDE], stride });
+        let answer = number(no_alloc::check(a, b, shape, 16));
+        if answer != wanted {
+            return Err(format!("at stride {} and depth {} answered {}, not {}", stride, depth, answer, wanted));
+        }
+    }
+    Ok(())
 }
 
 /// A check of planes of one value each, sound or with a few oddities.

@@ -1,7 +1,8 @@
 //! Squared error of both widths: the published record of the unpadded copies, and the model's refusals.
 
 use crate::family::{number, run, Family, Run};
-use crate::limits::SIDE;
+use crate::limits::{SAMPLES, SIDE, STRIDE};
+use crate::mapped::Mapped;
 use crate::plane;
 use crate::random::Random;
 use crate::samples::{sound, sound_of, Pair};
@@ -9,6 +10,7 @@ use fuavelino::{no_alloc, PsnrMetrics, Sample};
 use published::plane::Plane;
 use published::video::pixel::Pixel;
 use published::video::psnr;
+use std::time::Instant;
 
 /// What is left at the three places: the error's bits, n, sample_max.
 type Left = (u64, u64, u32);
@@ -16,9 +18,12 @@ type Left = (u64, u64, u32);
 /// What they hold before a call, and must hold after a refusal.
 const BEFORE: Left = (0x7FF4_DEAD_BEEF_0001, 0x0123_4567_89AB_CDEF, 0xFEED_F00D);
 
+/// 16,384² × 4,095², the largest error of one plane: below 2^53.
+const LARGEST: u64 = 4_501_400_872_550_400;
+
 pub fn compare(ask: Run) -> bool {
     let cases = if ask.full { 1_000_000 } else { 200_000 };
-    run("squared", &mut Errors { listed: listed() }, cases, ask) && (!ask.full || largest())
+    run("squared", &mut Errors { listed: listed() }, cases, ask) && all_of_the_largest(ask)
 }
 
 struct Errors {
@@ -103,7 +108,7 @@ fn sides(r: &mut Random) -> (usize, usize) {
     }
 }
 
-/// Sides at their limits and one past them, at every depth; the largest error of each.
+/// Sides and strides at their limits and one past them, and at the limits that were, at every depth; the largest error of each.
 fn listed() -> Vec<Pair> {
     let mut r = Random::of(0, "squared error, listed", 0);
     let mut list = Vec::new();
@@ -113,6 +118,9 @@ fn listed() -> Vec<Pair> {
         {
             list.push(sound_of(&mut r, depth, width, height));
         }
+        let old_walls = [(8_191, 2), (8_192, 1), (8_193, 1), (8_194, 2), (1, 8_192), (1, 8_193), (2, 8_194)];
+        list.extend(old_walls.map(|(width, height)| sound_of(&mut r, depth, width, height)));
+        list.extend(STRIDES.map(|strides| at_strides(depth, strides)));
         let max = (1 << depth) - 1;
         list.push(Pair::plain(depth, 64, [vec![max; 64 * 48], vec![0; 64 * 48]]));
         list.push(Pair::plain(depth, 64, [vec![0; 64 * 48], vec![max; 64 * 48]]));
@@ -121,9 +129,30 @@ fn listed() -> Vec<Pair> {
     list
 }
 
+/// The limit of strides and one past it, and the same of the limit that was.
+const STRIDES: [[usize; 2]; 6] = [
+    [16_384, 16_385],
+    [16_386, 16_385],
+    [STRIDE - 1, STRIDE],
+    [STRIDE, STRIDE],
+    [STRIDE, STRIDE + 1],
+    [STRIDE + 1, STRIDE],
+];
+
+/// Two short rows of the largest error so far apart, and padding that would be refused if it were read.
+fn at_strides(depth: u32, strides: [usize; 2]) -> Pair {
+    let (max, top) = ((1 << depth) - 1, if depth > 8 { u16::MAX } else { 255 });
+    let samples = [0, 1].map(|i| {
+        let row = vec![[max, 0][i]; 5];
+        [row.clone(), vec![top; strides[i] - row.len()], row].concat()
+    });
+    Pair { wide: depth > 8, depth, width: 5, height: 2, strides, samples }
+}
+
 /// About as long as a walk may make the parts of a row that it adds up in a smaller word, at the largest difference of
 /// some depth.
-const WIDTHS: [usize; 14] = [127, 128, 129, 255, 256, 257, 1_023, 1_024, 1_025, 4_095, 4_096, 4_097, 8_191, 8_192];
+const WIDTHS: [usize; 17] =
+    [127, 128, 129, 255, 256, 257, 1_023, 1_024, 1_025, 4_095, 4_096, 4_097, 8_191, 8_192, 8_193, SIDE - 1, SIDE];
 
 /// Two rows with the largest error; and the same with one sample too large, by one or as large as its width allows, at
 /// either end of the last row of either plane.
@@ -141,20 +170,51 @@ fn at_width(depth: u32, width: usize) -> Vec<Pair> {
     list
 }
 
-/// The largest planes of the largest error that there is, accepted and exact.
-fn largest() -> bool {
-    let (a, b) = (vec![4_095u16; SIDE * SIDE], vec![0u16; SIDE * SIDE]);
-    let shape =
-        Pair { wide: true, depth: 12, width: SIDE, height: SIDE, strides: [SIDE; 2], samples: [vec![], vec![]] };
-    let (answer, left) = asked(&shape, &a, &b);
-    let exact = 4_095 * 4_095 * (SIDE * SIDE) as u64;
-    let published = record(&[Plane::new(a, SIDE, SIDE), Plane::new(b, SIDE, SIDE)], 12);
-    let held = answer == 0 && left == published && f64::from_bits(left.0) as u64 == exact;
-    let word = if held { "accepted and exact" } else { "FAILED" };
-    let error = f64::from_bits(left.0);
-    println!(
-        "squared: 16,384 by 16,384 at depth 12 with the largest error, {}: {} ({}, {}, {})",
-        exact, word, error, left.1, left.2
-    );
-    held
+/// The largest planes of the largest error that there is, either way round and at either end of the strides: accepted and exact. The
+/// padding would be refused if it were read. Nearly all of them is mapped, and the zeros are pages that nobody writes.
+fn largest() -> Result<(), String> {
+    let wanted = (0, ((LARGEST as f64).to_bits(), SAMPLES, 4_095));
+    for stride in [SIDE, STRIDE] {
+        let len = stride * (SIDE - 1) + SIDE;
+        let row = [vec![4_095; SIDE], vec![u16::MAX; stride - SIDE]].concat();
+        let bright = Mapped::new(&row, &row, SIDE).map_err(|e| format!("nothing mapped: {}", e))?;
+        let (bright, zeros) = (&bright[..len], &vec![0u16; len][..]);
+        for (a, b) in [(bright, zeros), (zeros, bright)] {
+            let (answer, left) = asked(&widest(stride), a, b);
+            if (answer, left) != wanted {
+                let error = f64::from_bits(left.0);
+                return Err(format!(
+                    "at stride {} answered {} and left {} {} {}",
+                    stride, answer, error, left.1, left.2
+                ));
+            }
+        }
+    }
+    Ok(())
+}
+
+/// The published record of planes of the largest error, which has no padding and is all in memory.
+fn largest_published() -> Result<(), String> {
+    let planes = [4_095u16, 0].map(|sample| Plane::new(vec![sample; SIDE * SIDE], SIDE, SIDE));
+    let (error, n, max) = record(&planes, 12);
+    let error = f64::from_bits(error);
+    if (error, n, max) == (LARGEST as f64, SAMPLES, 4_095) {
+        return Ok(());
+    }
+    Err(format!("the published record is {} {} {}", error, n, max))
+}
+
+/// Planes of the largest sides, whose samples stand elsewhere.
+fn widest(stride: usize) -> Pair {
+    Pair { wide: true, depth: 12, width: SIDE, height: SIDE, strides: [stride; 2], samples: [vec![], vec![]] }
+}
+
+/// Sees to the largest planes, and says how long that took.
+fn all_of_the_largest(ask: Run) -> bool {
+    let began = Instant::now();
+    let said = largest().and_then(|()| if ask.full { largest_published() } else { Ok(()) });
+    let word = said.as_ref().map_or_else(|why| format!("FAILED: {}", why), |()| "accepted and exact".to_string());
+    let time = began.elapsed().as_secs_f64();
+    println!("squared: {} by {}, depth 12, the largest error, {}: {} in {:.1} s", SIDE, SIDE, LARGEST, word, time);
+    said.is_ok()
 }
