@@ -127,14 +127,20 @@ fn model(c: &Case) -> (u8, [u64; 10]) {
     }
 }
 
-/// The least sides and one below, odd sides, a large one, and bright planes at every depth.
+/// The least sides and one below, odd sides, the largest, and bright planes at every depth.
 fn listed() -> Vec<Case> {
     let mut r = Random::of(0, "scales, listed", 0);
     let mut list = Vec::new();
-    for (width, height) in
-        [(15, 16), (16, 15), (16, 16), (17, 31), (33, 16), (95, 63), (320, 180), (SIDE, 16), (16, SIDE + 1)]
-    {
+    for (width, height) in [(15, 16), (16, 15), (16, 16), (17, 31), (33, 16), (95, 63), (320, 180)] {
         list.push(Case { pair: sound(&mut r, width, height), over: [0; 3] });
+    }
+    // sides at their limit, with just enough lent and with one place less, and one past the limit
+    for depth in [8, 12] {
+        for (width, height) in [(SIDE, 16), (16, SIDE), (SIDE, 17), (SIDE + 1, 16), (16, SIDE + 1)] {
+            let pair = sound_of(&mut r, depth, width, height);
+            let short = [[0; 3], [-1, 0, 0], [0, -1, 0], [0, 0, -1]];
+            list.extend(short.map(|over| Case { pair: pair.clone(), over }));
+        }
     }
     for depth in 1..=12 {
         let max = (1u16 << depth) - 1;

@@ -17,7 +17,67 @@ const MOST_ERROR: u64 = 1 << 53;
 
 pub fn compare(ask: Run) -> bool {
     let cases = if ask.full { 5_000_000 } else { 1_000_000 };
-    run("series", &mut Series { listed: listed() }, cases, ask)
+    run("series", &mut Series { listed: listed() }, cases, ask) && all_stated()
+}
+
+/// The error and the count of a series, or its refusal.
+type Owed = Result<(u64, u64), u8>;
+
+/// Records of the largest error of one plane, told in numbers: how many of them, and what the series of them is.
+const STATED: [(usize, Owed); 6] = [
+    (1, Ok((4_501_400_872_550_400, 268_435_456))),
+    (2, Ok((9_002_801_745_100_800, 536_870_912))),
+    (3, Err(11)),
+    // 4,098 of them come to just below 2^64, and one more, in 64 bits, to less than 2^53
+    (4_098, Err(11)),
+    (4_099, Err(11)),
+    (65_536, Err(11)),
+];
+
+fn all_stated() -> bool {
+    let said = stated();
+    let word = said.as_ref().map_or_else(|why| format!("FAILED: {}", why), |()| "as stated".to_string());
+    println!("series: of 1, 2, 3 and more records of the largest error, and of 65,536 records of none: {}", word);
+    said.is_ok()
+}
+
+/// The series in numbers; and each with a bad record after it, or before it, which makes it 10 whatever it comes to.
+fn stated() -> Result<(), String> {
+    let record = |error: u64| Record { sq_err: error as f64, n_pixels: 268_435_456, sample_max: 4_095 };
+    let largest = record(4_501_400_872_550_400);
+    for (count, wanted) in STATED {
+        let records = vec![largest; count];
+        told(&records, wanted)?;
+        for kind in (0..KINDS).filter(|_| count < MOST_RECORDS) {
+            told(&run_of(count, largest, spoilt(&largest, kind)), Err(10))?;
+            told(&[vec![spoilt(&largest, kind)], records.clone()].concat(), Err(10))?;
+        }
+    }
+    told(&vec![record(0); 65_536], Ok((0, 1 << 44)))?;
+    told(&vec![record(0); 65_537], Err(10))
+}
+
+fn told(records: &[Record], wanted: Owed) -> Result<(), String> {
+    let mut total = Record { sq_err: f64::from_bits(BEFORE.0), n_pixels: BEFORE.1, sample_max: BEFORE.2 };
+    let answer = number(no_alloc::series(records, &mut total));
+    let (owed, left) = match wanted {
+        Ok((error, n)) => (0, ((error as f64).to_bits(), n, 4_095)),
+        Err(refused) => (refused, BEFORE),
+    };
+    if (answer, (total.sq_err.to_bits(), total.n_pixels, total.sample_max)) == (owed, left) {
+        return Ok(());
+    }
+    let Record { sq_err, n_pixels, sample_max } = total;
+    let ends = [records[0], records[records.len() - 1]];
+    Err(format!(
+        "{} records, {:?}, answered {} and left {} {} {}",
+        records.len(),
+        ends,
+        answer,
+        sq_err,
+        n_pixels,
+        sample_max
+    ))
 }
 
 /// The error as a whole number, or None where the record is bad, the first record's max being known.
@@ -121,7 +181,7 @@ fn smaller_record(record: &Record) -> Vec<Record> {
 /// A sound record of this depth.
 fn sound(r: &mut Random, depth: u32) -> Record {
     let max = (1u64 << depth) - 1;
-    let some = r.bits(26) + 1;
+    let some = r.bits(28) + 1;
     let n = r.pick(&[1, 2, SAMPLES - 1, SAMPLES, some, some, some]);
     let most = n * max * max;
     let error = r.next() % (most + 1);
@@ -190,7 +250,7 @@ fn any(r: &mut Random) -> Vec<Record> {
 
 /// A series whose error is 2^53, or a little off it.
 fn near_the_limit(r: &mut Random) -> Vec<Record> {
-    let most = SAMPLES * 4_095 * 4_095;
+    let most = SAMPLES * 4_095 * 4_095 / r.pick(&[1, 1, 4, 9]);
     let mut left = MOST_ERROR + r.pick(&[0, 0, 1, 1, 2, 3, 1_000]) - r.pick(&[0, 0, 0, 1, 2]);
     let mut records = Vec::new();
     while left > 0 {
@@ -216,15 +276,17 @@ fn run_of(count: usize, record: Record, last: Record) -> Vec<Record> {
 fn listed() -> Vec<Vec<Record>> {
     let full = |error: u64| Record { sq_err: error as f64, n_pixels: SAMPLES, sample_max: 4_095 };
     let most = SAMPLES * 4_095 * 4_095;
+    let (count, rest) = ((MOST_ERROR / most) as usize, MOST_ERROR % most);
     let small = Record { sq_err: 3.0, n_pixels: 7, sample_max: 255 };
     let same = Record { sq_err: 0.0, ..small };
     let mut list = vec![
         vec![],
         vec![same],
         vec![same; 5],
-        run_of(8, full(most), full(MOST_ERROR - 8 * most)),
-        run_of(8, full(most), full(MOST_ERROR - 8 * most + 1)),
+        run_of(count, full(most), full(rest)),
+        run_of(count, full(most), full(rest + 1)),
     ];
+    list.extend([1, 2, 3, 4_098, 4_099].map(|count| vec![full(most); count]));
     for record in [small, same, full(most), full(0)] {
         list.extend([MOST_RECORDS - 1, MOST_RECORDS, MOST_RECORDS + 1].map(|count| vec![record; count]));
     }
@@ -233,7 +295,7 @@ fn listed() -> Vec<Vec<Record>> {
     let rest = (most * times as u64).wrapping_neg();
     list.extend([0, 1, 5].map(|more| run_of(times, full(most), full(rest + more))));
     // a total in a double stays at 2^53 whatever ones are added
-    list.push([run_of(8, full(most), full(MOST_ERROR - 8 * most)), vec![full(1); 9]].concat());
+    list.push([run_of(count, full(most), full(rest)), vec![full(1); 9]].concat());
     for (kind, series) in
         (0..KINDS).flat_map(|kind| bases(small, full(most), full(0)).into_iter().map(move |s| (kind, s)))
     {
@@ -250,5 +312,16 @@ fn listed() -> Vec<Vec<Record>> {
 /// Short and long, with little error, with none, and with more than 2^53.
 fn bases(small: Record, full: Record, none: Record) -> Vec<Vec<Record>> {
     let one = Record { sq_err: 1.0, n_pixels: 1, sample_max: 1 };
-    vec![vec![small], vec![small; 3], vec![full; 9], vec![none; 4], vec![full; 101], vec![one; 3], vec![small; 1_001]]
+    vec![
+        vec![small],
+        vec![small; 3],
+        vec![full; 9],
+        vec![none; 4],
+        vec![full; 101],
+        vec![one; 3],
+        vec![small; 1_001],
+        vec![full],
+        vec![full; 2],
+        vec![full; 3],
+    ]
 }

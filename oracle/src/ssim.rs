@@ -1,10 +1,11 @@
 //! SSIM of both widths: the published pair of the unpadded copies, the rules' refusals, and what is left in the scratch.
 
 use crate::family::{number, run, Family, Run};
+use crate::heights;
 use crate::limits::SIDE;
 use crate::plane::{self, less};
 use crate::random::Random;
-use crate::samples::{sound, Pair};
+use crate::samples::{sound, sound_of, Pair};
 use crate::ssim_ways;
 use fuavelino::{no_alloc, Sample};
 use published::video::ssim;
@@ -196,8 +197,25 @@ fn listed() -> Vec<Case> {
         }
     }
     list.push(exact(sound(&mut r, SIDE, 2), long));
+    list.extend(walls(&mut r));
     for kernel in unlawful() {
         list.push(exact(sound(&mut r, 5, 4), kernel));
+    }
+    list
+}
+
+/// Sides at their limit, both widths of samples, under a short kernel and the longest that the published code builds, with just enough
+/// scratch and one place less; and sides one past the limit.
+fn walls(r: &mut Random) -> Vec<Case> {
+    let longest = heights::kernel(SIDE);
+    let mut list = Vec::new();
+    for depth in [8, 12] {
+        for (width, height) in [(SIDE, 1), (SIDE, 3), (1, SIDE), (2, SIDE), (SIDE + 1, 1), (1, SIDE + 1)] {
+            for kernel in [&vec![64, 128, 64], &longest] {
+                let enough = exact(sound_of(r, depth, width, height), kernel.clone());
+                list.extend([Case { places: enough.places - 1, ..enough.clone() }, enough]);
+            }
+        }
     }
     list
 }

@@ -18,6 +18,7 @@ use published::plane::Plane;
 use published::prelude::ChromaSampling as Published;
 use published::video::pixel::Pixel;
 use published::video::{psnr, psnr_hvs, ssim};
+use std::time::Instant;
 
 const SAMPLINGS: [(ChromaSampling, Published); 4] = [
     (ChromaSampling::Cs420, Published::Cs420),
@@ -47,9 +48,12 @@ pub fn compare(ask: Run) -> bool {
 
 /// The kernels that the bindings take from the chart or build, for planes of every height and for other arguments.
 fn kernels(ask: Run) -> Result<(), String> {
+    let began = Instant::now();
+    let mut seen = Kernels { most_taps: 0, idle_ends: 0 };
     for height in 1..=SIDE {
-        of_height(height).map_err(|e| format!("height {}, {}", height, e))?;
+        of_height(height, &mut seen).map_err(|e| format!("height {}, {}", height, e))?;
     }
+    let time = began.elapsed().as_secs_f64();
     for number in 0..10_000 {
         let r = &mut Random::of(ask.seed, "kernels", number);
         let sigma = r.within(1, 4_000) as f64 / 64.0 * r.pick(&[1.0, 0.01, 1.1]);
@@ -57,18 +61,29 @@ fn kernels(ask: Run) -> Result<(), String> {
         let ours = fuavelino::build_gaussian_kernel(sigma, most, weight);
         same("kernel", ours, ssim::probe_kernel(sigma, most, weight)).map_err(|e| format!("sigma {}, {}", sigma, e))?;
     }
-    println!("together: the kernels of every height are those published");
+    let Kernels { most_taps, idle_ends } = seen;
+    println!("together: the kernels of every height to {} are those published, and lawful, in {:.1} s", SIDE, time);
+    println!("together: they have at most {} taps, and {} of them end in 0", most_taps, idle_ends);
     Ok(())
 }
 
+/// What is told of the kernels.
+struct Kernels {
+    most_taps: usize,
+    idle_ends: usize,
+}
+
 /// Where the chart lists the height and the width is no smaller, the kernel is the chart's.
-fn of_height(height: usize) -> Result<(), String> {
+fn of_height(height: usize, seen: &mut Kernels) -> Result<(), String> {
     let listed = HEIGHTS.contains(&height);
     for width in [height, (height - 1).max(1), height / 3 + 1, SIDE] {
         let kernel = Kernel::for_plane(width, height);
         let taps: Vec<i64> = kernel.taps().iter().map(|t| i64::from(*t)).collect();
         same("kernel", taps, ssim::probe_kernel(height as f64 * 1.5 / 256.0, width.min(height), 256))?;
         same("taken from the chart", kernel.is_charted(), listed && width >= height)?;
+        same("lawful", similarity::lawful(kernel.taps()), true)?;
+        seen.most_taps = seen.most_taps.max(kernel.taps().len());
+        seen.idle_ends += usize::from(kernel.taps()[0] == 0);
     }
     let owed = listed.then(|| heights::kernel(height)).ok_or(Refusal::Height);
     same("charted", Kernel::charted(height).map(|kernel| kernel.taps().to_vec()), owed)
