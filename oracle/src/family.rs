@@ -59,6 +59,15 @@ pub fn run<F: Family>(name: &str, family: &mut F, cases: u64, run: Run) -> bool 
     true
 }
 
+/// Sees to one thing more of a family, prints one line, and says whether it is as it should be.
+pub fn also(what: &str, see: impl FnOnce() -> Result<(), String>) -> bool {
+    let began = Instant::now();
+    let said = see();
+    let word = said.as_ref().map_or_else(|why| format!("FAILED: {}", why), |()| "as it should be".to_string());
+    println!("{}: {} in {:.1} s", what, word, began.elapsed().as_secs_f64());
+    said.is_ok()
+}
+
 fn counts(met: &[u64; 256]) -> String {
     let list = met.iter().enumerate().filter(|(_, n)| **n > 0);
     let words: Vec<String> = list.map(|(answer, n)| format!("{}: {}", answer, n)).collect();

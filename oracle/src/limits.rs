@@ -1,4 +1,5 @@
-//! The limits of SCOPE, "What a plane may be" and "When the desk says no", written a second time: all that is expected goes by these.
+//! The limits of SCOPE, "What a plane may be" and "When the desk says no", written a second time: every family expects
+//! what these say.
 
 /// The largest width and height.
 pub const SIDE: usize = 16_384;

@@ -35,7 +35,8 @@ pub struct Mapped<T> {
 }
 
 impl<T: Sample> Mapped<T> {
-    /// So many rows that are all the same, but for the last one. A piece has to be made of whole rows, and the plane of whole pieces.
+    /// So many rows that are all the same, but for the last one. A piece has to be made of whole rows, and the plane of
+    /// whole pieces.
     pub fn new(row: &[T], last: &[T], rows: usize) -> Result<Mapped<T>> {
         let (in_row, in_all) = (size_of_val(row), rows * size_of_val(row));
         assert!(row.len() == last.len() && PIECE % in_row == 0 && in_all > 0 && in_all % PIECE == 0);
@@ -50,7 +51,7 @@ impl<T: Sample> Mapped<T> {
         let mapped = Mapped { start: start.cast(), len: rows * row.len() };
         for at in (0..in_all).step_by(PIECE) {
             let offset = if at + PIECE == in_all { PIECE } else { 0 };
-            // SAFETY: the piece replaces a part of what was taken above, which nobody has read; the file holds two pieces.
+            // SAFETY: the piece replaces a part of what was taken above and nobody has read; the file holds two pieces.
             taken(unsafe {
                 mmap(start.cast::<u8>().add(at).cast(), PIECE, READ, SHARED | FIXED, file.as_raw_fd(), offset as i64)
             })?;

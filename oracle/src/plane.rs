@@ -1,40 +1,29 @@
 //! What a plane may be: the check of both widths, against the model.
 
-use crate::family::{number, run, Family, Run};
+use crate::family::{also, number, run, Family, Run};
 use crate::limits::{SAMPLES, SIDE, STRIDE};
 use crate::mapped::Mapped;
 use crate::model::{Check, Plane};
 use crate::random::Random;
 use fuavelino::{no_alloc, Sample, Shape};
-use std::time::Instant;
 
 /// Random planes hold no more samples than this.
 const ROOM: u128 = 80_000;
 
 pub fn compare(ask: Run) -> bool {
     let cases = if ask.full { 5_000_000 } else { 250_000 };
-    run("plane", &mut Checks { listed: walls() }, cases, ask) && all_of_the_largest() && as_told()
+    run("plane", &mut Checks { listed: walls() }, cases, ask)
+        && also("plane: 16,384 by 16,384, sound and with the last sample too large", largest)
+        && also("plane: the limits that the bindings name", named)
 }
 
-/// Sees to the largest planes, and says how long that took.
-fn all_of_the_largest() -> bool {
-    let began = Instant::now();
-    let said = largest();
-    let word = said.as_ref().map_or_else(|why| format!("FAILED: {}", why), |()| "as they should".to_string());
-    println!("plane: {} by {}: {} in {:.1} s", SIDE, SIDE, word, began.elapsed().as_secs_f64());
-    said.is_ok()
-}
-
-/// The limits that the bindings name are those that all families expect.
-fn as_told() -> bool {
-    let told = (fuavelino::MOST_SIDE, fuavelino::MOST_STRIDE, fuavelino::MOST_SAMPLES);
-    let same = told == (SIDE, STRIDE, SAMPLES);
-    println!(
-        "plane: the limits that the bindings name, {:?}: {}",
-        told,
-        if same { "as they should" } else { "FAILED" }
-    );
-    same
+/// The limits that the bindings name are those that every family expects.
+fn named() -> Result<(), String> {
+    let named = (fuavelino::MOST_SIDE, fuavelino::MOST_STRIDE, fuavelino::MOST_SAMPLES);
+    if named == (SIDE, STRIDE, SAMPLES) {
+        return Ok(());
+    }
+    Err(format!("{:?}", named))
 }
 
 struct Checks {
@@ -200,8 +189,8 @@ fn walls() -> Vec<Check> {
     list
 }
 
-/// The largest planes at either end of the strides, sound, and with the last sample too large. The padding would be refused if it were
-/// read. Nearly all of them is mapped.
+/// The largest planes at the least and at the largest stride, sound, and with the last sample too large. The padding
+/// would be refused if it were read.
 fn largest() -> Result<(), String> {
     for stride in [SIDE, STRIDE] {
         largest_of(stride, 8, [255u8; 3])?;

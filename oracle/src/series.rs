@@ -1,6 +1,6 @@
 //! Series of records, against the rules of SCOPE, "When the desk says no" and "Squared error", in wide whole numbers.
 
-use crate::family::{number, run, Family, Run};
+use crate::family::{also, number, run, Family, Run};
 use crate::limits::SAMPLES;
 use crate::plane::less;
 use crate::random::Random;
@@ -17,7 +17,8 @@ const MOST_ERROR: u64 = 1 << 53;
 
 pub fn compare(ask: Run) -> bool {
     let cases = if ask.full { 5_000_000 } else { 1_000_000 };
-    run("series", &mut Series { listed: listed() }, cases, ask) && all_stated()
+    run("series", &mut Series { listed: listed() }, cases, ask)
+        && also("series: 1, 2, 3 and more records of the largest error, and 65,536 of none", stated)
 }
 
 /// The error and the count of a series, or its refusal.
@@ -33,13 +34,6 @@ const STATED: [(usize, Owed); 6] = [
     (4_099, Err(11)),
     (65_536, Err(11)),
 ];
-
-fn all_stated() -> bool {
-    let said = stated();
-    let word = said.as_ref().map_or_else(|why| format!("FAILED: {}", why), |()| "as stated".to_string());
-    println!("series: of 1, 2, 3 and more records of the largest error, and of 65,536 records of none: {}", word);
-    said.is_ok()
-}
 
 /// The series in numbers; and each with a bad record after it, or before it, which makes it 10 whatever it comes to.
 fn stated() -> Result<(), String> {

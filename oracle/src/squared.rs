@@ -1,6 +1,6 @@
 //! Squared error of both widths: the published record of the unpadded copies, and the model's refusals.
 
-use crate::family::{number, run, Family, Run};
+use crate::family::{also, number, run, Family, Run};
 use crate::limits::{SAMPLES, SIDE, STRIDE};
 use crate::mapped::Mapped;
 use crate::plane;
@@ -10,7 +10,6 @@ use fuavelino::{no_alloc, PsnrMetrics, Sample};
 use published::plane::Plane;
 use published::video::pixel::Pixel;
 use published::video::psnr;
-use std::time::Instant;
 
 /// What is left at the three places: the error's bits, n, sample_max.
 type Left = (u64, u64, u32);
@@ -23,7 +22,9 @@ const LARGEST: u64 = 4_501_400_872_550_400;
 
 pub fn compare(ask: Run) -> bool {
     let cases = if ask.full { 1_000_000 } else { 200_000 };
-    run("squared", &mut Errors { listed: listed() }, cases, ask) && all_of_the_largest(ask)
+    run("squared", &mut Errors { listed: listed() }, cases, ask)
+        && also("squared: 16,384 by 16,384 at depth 12, with the largest error", largest)
+        && (!ask.full || also("squared: the published record of such planes", largest_published))
 }
 
 struct Errors {
@@ -108,7 +109,8 @@ fn sides(r: &mut Random) -> (usize, usize) {
     }
 }
 
-/// Sides and strides at their limits and one past them, and at the limits that were, at every depth; the largest error of each.
+/// Sides and strides at their limits and one past them, and about the limits that were, at every depth; the largest
+/// error of each.
 fn listed() -> Vec<Pair> {
     let mut r = Random::of(0, "squared error, listed", 0);
     let mut list = Vec::new();
@@ -170,8 +172,8 @@ fn at_width(depth: u32, width: usize) -> Vec<Pair> {
     list
 }
 
-/// The largest planes of the largest error that there is, either way round and at either end of the strides: accepted and exact. The
-/// padding would be refused if it were read. Nearly all of them is mapped, and the zeros are pages that nobody writes.
+/// The largest planes of the largest error that there is, either way round, at the least and at the largest stride:
+/// accepted and exact. The padding would be refused if it were read. The zeros are pages that nobody writes.
 fn largest() -> Result<(), String> {
     let wanted = (0, ((LARGEST as f64).to_bits(), SAMPLES, 4_095));
     for stride in [SIDE, STRIDE] {
@@ -207,14 +209,4 @@ fn largest_published() -> Result<(), String> {
 /// Planes of the largest sides, whose samples stand elsewhere.
 fn widest(stride: usize) -> Pair {
     Pair { wide: true, depth: 12, width: SIDE, height: SIDE, strides: [stride; 2], samples: [vec![], vec![]] }
-}
-
-/// Sees to the largest planes, and says how long that took.
-fn all_of_the_largest(ask: Run) -> bool {
-    let began = Instant::now();
-    let said = largest().and_then(|()| if ask.full { largest_published() } else { Ok(()) });
-    let word = said.as_ref().map_or_else(|why| format!("FAILED: {}", why), |()| "accepted and exact".to_string());
-    let time = began.elapsed().as_secs_f64();
-    println!("squared: {} by {}, depth 12, the largest error, {}: {} in {:.1} s", SIDE, SIDE, LARGEST, word, time);
-    said.is_ok()
 }

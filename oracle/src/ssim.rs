@@ -204,8 +204,8 @@ fn listed() -> Vec<Case> {
     list
 }
 
-/// Sides at their limit, both widths of samples, under a short kernel and the longest that the published code builds, with just enough
-/// scratch and one place less; and sides one past the limit.
+/// Sides at their limit, both widths of samples, under a short kernel and the longest that the published code builds,
+/// with just enough scratch and one place less; and sides one past the limit.
 fn walls(r: &mut Random) -> Vec<Case> {
     let longest = heights::kernel(SIDE);
     let mut list = Vec::new();

@@ -17,7 +17,7 @@ use model::{Check, Plane};
 use random::Random;
 use scored::Samples;
 
-/// The program's planes hold this many samples, so that a row of the largest width fits; a sample set at this place is none.
+/// The program's planes hold this many samples, a row of the largest width; a sample set at this place is none.
 const ROOM: usize = SIDE;
 
 fn main() {
