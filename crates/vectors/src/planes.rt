@@ -4,7 +4,7 @@ use crate::rows::Row;
 use crate::tell;
 
 // The samples of a plane, as many as the table's places reach: at this place no sample is set.
-const ROOM: usize = 16384;
+const ROOM: usize = plane::SIDE_LIMIT;
 
 // A plane of bytes that are 0 but for one.
 fn bytes(at: usize, value: usize) -> [u8; ROOM] {
