@@ -38,9 +38,9 @@ uint32_t fuavelino_version(void);
 enum fuavelino_refusal {
     FUAVELINO_ACCEPTED = 0,
     FUAVELINO_DEPTH = 1,       /* the depth does not suit the sample width */
-    FUAVELINO_SIZE = 2,        /* width or height is 0 or above 16384 */
+    FUAVELINO_SIZE = 2,        /* width or height is 0 or above FUAVELINO_MOST_SIDE */
     FUAVELINO_SIDE = 3,        /* a side is below the call's least */
-    FUAVELINO_STRIDE = 4,      /* a stride is below the width or above 32768 */
+    FUAVELINO_STRIDE = 4,      /* a stride is below the width or above FUAVELINO_MOST_STRIDE */
     FUAVELINO_SHORT = 5,       /* a plane has fewer than stride * (height - 1) + width samples */
     FUAVELINO_SAMPLE = 6,      /* a visible sample is above 2^depth - 1 */
     FUAVELINO_KERNEL = 7,      /* the kernel is unlawful */

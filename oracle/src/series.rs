@@ -270,15 +270,16 @@ fn run_of(count: usize, record: Record, last: Record) -> Vec<Record> {
 fn listed() -> Vec<Vec<Record>> {
     let full = |error: u64| Record { sq_err: error as f64, n_pixels: SAMPLES, sample_max: 4_095 };
     let most = SAMPLES * 4_095 * 4_095;
-    let (count, rest) = ((MOST_ERROR / most) as usize, MOST_ERROR % most);
+    // so many of the largest error, and what they are short of 2^53
+    let (count, short) = ((MOST_ERROR / most) as usize, MOST_ERROR % most);
     let small = Record { sq_err: 3.0, n_pixels: 7, sample_max: 255 };
     let same = Record { sq_err: 0.0, ..small };
     let mut list = vec![
         vec![],
         vec![same],
         vec![same; 5],
-        run_of(count, full(most), full(rest)),
-        run_of(count, full(most), full(rest + 1)),
+        run_of(count, full(most), full(short)),
+        run_of(count, full(most), full(short + 1)),
     ];
     list.extend([1, 2, 3, 4_098, 4_099].map(|count| vec![full(most); count]));
     for record in [small, same, full(most), full(0)] {
@@ -289,7 +290,7 @@ fn listed() -> Vec<Vec<Record>> {
     let rest = (most * times as u64).wrapping_neg();
     list.extend([0, 1, 5].map(|more| run_of(times, full(most), full(rest + more))));
     // a total in a double stays at 2^53 whatever ones are added
-    list.push([run_of(count, full(most), full(rest)), vec![full(1); 9]].concat());
+    list.push([run_of(count, full(most), full(short)), vec![full(1); 9]].concat());
     for (kind, series) in
         (0..KINDS).flat_map(|kind| bases(small, full(most), full(0)).into_iter().map(move |s| (kind, s)))
     {
