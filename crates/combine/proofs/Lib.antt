@@ -1,5 +1,7 @@
 -- What combining answers case by case, and the laws of its figures.
 mod Answers
+pub mod Average
+mod Joined
 pub mod Overflow
 pub mod Swap
 pub mod Weight

@@ -1,20 +1,74 @@
--- What overflows on the way is not lost: where a figure is finite, so is every step that led to it. Assumes nothing.
-use mathlib.Core.Path.{_≡_}
-use mathlib.Core.Bool.{true}
-use lib.Ieee.{Float, binary64}
+-- What overflows on the way is not lost: where a figure is finite, so is every step that led to it. Of a quotient that holds where the weight is
+-- finite, as that of a lawful c is; and, since the weight is at least 1, the quotient overflows nowhere else: HVS's 9, too, turns on the sum alone.
+-- Assumes nothing.
+use mathlib.Core.Path.{_≡_, refl, sym, _∙_}
+use mathlib.Core.Bool.{Bool, true, false}
+use Prim.Native.Nat.{_≤_}
+use native.Mathlib.Omega.{arith}
+use lib.Dec.{T}
+use lib.Ieee.{Float, binary64, le, fits, ofBits}
+use lib.Ieee.Fits.{add-fits}
+use lib.Ieee.Positive.{num, den, positive, between, le→cross}
 use lib.Ieee.Scale.{finite}
-use Rattle.number.specs.Steps.{_⊕_, _⊗_}
-use Rattle.number.proofs.Overflow.{add-finite, mul-finite}
+use Rattle.number.specs.Literals.{oneD}
+use Rattle.number.specs.Steps.{_⊕_, _⊗_, _⊘_}
+use Rattle.number.proofs.Overflow.{add-finite, mul-finite, div-finite}
+use Rattle.number.proofs.Parts.{over-finite}
 use Rattle.combine.specs.declared.Planar.{Planar}
-use Rattle.combine.specs.Combine.{weightedSum, wholeWeight, visualScore}
+use Rattle.combine.specs.Combine.{weightedSum, wholeWeight, visualScore, combinable, combinedRefusal, scoreFor, scoreOr, combinedHvsOf}
+use Rattle.combine.proofs.Weight.{three, lawful, weight-bounds, weight-finite}
 
-module _ (c : Float) (s : Planar) where
-  sum-steps : finite (weightedSum c s) ≡ true → (finite (s .u ⊕ s .v) ≡ true) × (finite (c ⊗ (s .u ⊕ s .v)) ≡ true)
-  unfolding weightedSum
-  sum-steps e =
-      let product = add-finite binary64 (s .y) (c ⊗ (s .u ⊕ s .v)) e .1 in
-      (mul-finite binary64 c (s .u ⊕ s .v) product .1, product)
+sum-steps : (c : Float) (s : Planar) → finite (weightedSum c s) ≡ true → (finite (s .u ⊕ s .v) ≡ true) × (finite (c ⊗ (s .u ⊕ s .v)) ≡ true)
+unfolding weightedSum
+sum-steps c s e =
+    let product = add-finite binary64 (s .y) (c ⊗ (s .u ⊕ s .v)) e .1 in
+    (mul-finite binary64 c (s .u ⊕ s .v) product .1, product)
 
-  pub score-steps : finite (visualScore c s) ≡ true → (finite (wholeWeight c) ≡ true) × (finite (weightedSum c s) ≡ true)
+-- every step of the HVS figure is finite
+pub record Steps (c : Float) (s : Planar) : Type 0 where
+  pub chroma : finite (s .u ⊕ s .v) ≡ true
+  pub product : finite (c ⊗ (s .u ⊕ s .v)) ≡ true
+  pub sum : finite (weightedSum c s) ≡ true
+  pub weight : finite (wholeWeight c) ≡ true
+
+module _ (c : Float) (s : Planar) (ok : combinable c s ≡ true) where
+  pub score-steps : finite (visualScore c s) ≡ true → Steps c s
   unfolding visualScore
-  score-steps e = mul-finite binary64 (wholeWeight c) (weightedSum c s) e
+  score-steps e =
+      let sum = div-finite binary64 (weightedSum c s) (wholeWeight c) (weight-finite c s ok) e in
+      record { chroma = sum-steps c s sum .0; product = sum-steps c s sum .1; sum = sum; weight = weight-finite c s ok }
+
+  bounds : T (le oneD (wholeWeight c)) × T (le (wholeWeight c) three)
+  bounds = weight-bounds c (lawful c s ok .0) (lawful c s ok .1)
+
+  weight-positive : T (positive (wholeWeight c))
+  unfolding ofBits
+  weight-positive = between oneD (wholeWeight c) three tt tt (bounds .0) (bounds .1)
+
+  weight-from-one : den (wholeWeight c) ≤ num (wholeWeight c)
+  unfolding ofBits
+  weight-from-one = omega (arith, le→cross oneD (wholeWeight c) tt weight-positive (bounds .0))
+
+  sum-fits : T (fits binary64 (weightedSum c s))
+  unfolding weightedSum
+  sum-fits = add-fits binary64 (s .y) (c ⊗ (s .u ⊕ s .v))
+
+  quotient-finite : finite (weightedSum c s) ≡ true → finite (visualScore c s) ≡ true
+  unfolding visualScore
+  quotient-finite e = over-finite (weightedSum c s) (wholeWeight c) sum-fits e weight-positive weight-from-one
+
+  score-finite : finite (weightedSum c s) ≡ finite (visualScore c s)
+  score-finite = go (finite (weightedSum c s)) (finite (visualScore c s)) refl refl
+    where
+      go : (a b : Bool) → finite (weightedSum c s) ≡ a → finite (visualScore c s) ≡ b → a ≡ b
+      go true b p q = sym (quotient-finite p) ∙ q
+      go false true p q = sym p ∙ score-steps q .sum
+      go false false p q = refl
+
+-- HVS's 9 turns on its sum alone
+pub hvs-by-sum : (c : Float) (s : Planar) → combinedHvsOf c s ≡ scoreFor (combinedRefusal (combinable c s) (finite (weightedSum c s))) (visualScore c s)
+hvs-by-sum c s = go (combinable c s) refl
+  where
+    go : (b : Bool) → combinable c s ≡ b → scoreOr b (visualScore c s) ≡ scoreFor (combinedRefusal b (finite (weightedSum c s))) (visualScore c s)
+    go true e = rw (score-finite c s e)
+    go false e = refl

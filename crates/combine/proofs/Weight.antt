@@ -68,11 +68,24 @@ between-finite (inf true) p q = absurd p
 between-finite (inf false) p q = absurd q
 between-finite (fin s m e) p q = refl
 
-weight-finite : (c : Float) (s : Planar) → combinable c s ≡ true → finite (wholeWeight c) ≡ true
+-- what 13 leaves of the weight
+pub lawful : (c : Float) (s : Planar) → combinable c s ≡ true → T (le zeroD c) × T (le c oneD)
 unfolding combinable
-weight-finite c s e =
+lawful c s e =
     let within-both : (le zeroD c && le c oneD) ≡ true = and-left (le zeroD c && le c oneD) (finite (s .y) && finite (s .u) && finite (s .v)) e in
-    let bounds = weight-bounds c (subst T (sym (and-left (le zeroD c) (le c oneD) within-both)) tt) (subst T (sym (and-right (le zeroD c) (le c oneD) within-both)) tt) in
+    (subst T (sym (and-left (le zeroD c) (le c oneD) within-both)) tt, subst T (sym (and-right (le zeroD c) (le c oneD) within-both)) tt)
+
+-- and of the numbers
+pub numbers : (c : Float) (s : Planar) → combinable c s ≡ true → (finite (s .y) ≡ true) × ((finite (s .u) ≡ true) × (finite (s .v) ≡ true))
+unfolding combinable
+numbers c s e =
+    let all : (finite (s .y) && finite (s .u) && finite (s .v)) ≡ true = and-right (le zeroD c && le c oneD) (finite (s .y) && finite (s .u) && finite (s .v)) e in
+    let two : (finite (s .y) && finite (s .u)) ≡ true = and-left (finite (s .y) && finite (s .u)) (finite (s .v)) all in
+    (and-left (finite (s .y)) (finite (s .u)) two, (and-right (finite (s .y)) (finite (s .u)) two, and-right (finite (s .y) && finite (s .u)) (finite (s .v)) all))
+
+pub weight-finite : (c : Float) (s : Planar) → combinable c s ≡ true → finite (wholeWeight c) ≡ true
+weight-finite c s e =
+    let bounds = weight-bounds c (lawful c s e .0) (lawful c s e .1) in
     between-finite (wholeWeight c) (bounds .0) (bounds .1)
 
 -- SSIM's 9 turns on its sum alone

@@ -8,7 +8,7 @@ use lib.Ieee.Scale.{finite}
 use Rattle.refusal.specs.Numbers.{notFiniteNo, weightNo}
 use Rattle.refusal.specs.First.{firstBroken, byRefusal}
 use Rattle.number.specs.Literals.{zeroD, oneD, twoD}
-use Rattle.number.specs.Steps.{_⊕_, _⊗_}
+use Rattle.number.specs.Steps.{_⊕_, _⊗_, _⊘_}
 use Rattle.combine.specs.declared.Planar.{Planar}
 use Rattle.combine.specs.declared.CombinedSsim.{CombinedSsim}
 use Rattle.combine.specs.declared.CombinedSsim.the-variants as similarity
@@ -25,9 +25,9 @@ weightedSum c s = s .y ⊕ c ⊗ (s .u ⊕ s .v)
 unfoldable pub wholeWeight : Float → Float
 wholeWeight c = oneD ⊕ twoD ⊗ c
 
--- HVS: (1 + 2c) × (y + c × (u + v))
+-- HVS: (y + c × (u + v)) / (1 + 2c)
 unfoldable pub visualScore : Float → Planar → Float
-visualScore c s = wholeWeight c ⊗ weightedSum c s
+visualScore c s = weightedSum c s ⊘ wholeWeight c
 
 -- ---- the refusals
 

@@ -45,7 +45,7 @@ fn whole_weight(c: f64) -> f64
 fn visual_score(c: f64, scores: Planar) -> f64
     ensures { λ r. ⌜ r ≡ visualScore c scores ⌝ }
 {
-    whole_weight(c) * weighted_sum(c, scores)
+    weighted_sum(c, scores) / whole_weight(c)
 }
 
 // The weighted sum of three SSIM scores and its weight: 13 where the weight or a score is unlawful, 9 where a result is not finite.

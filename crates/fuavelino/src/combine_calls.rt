@@ -31,7 +31,7 @@ pub extern "C" fn fuavelino_combine_ssim(
     }
 }
 
-// Three PSNR-HVS scores in one, chroma weighted by c: (1 + 2c) * (y + c * (u + v)). 0, or 13, then 9.
+// Three PSNR-HVS scores in one, chroma weighted by c: (y + c * (u + v)) / (1 + 2c). 0, or 13, then 9.
 #[no_mangle]
 pub extern "C" fn fuavelino_combine_hvs(c: f64, y: f64, u: f64, v: f64, score: &mut f64) -> u8
     ensures { λ r. ⌜ r ≡ combinedHvsNumber (combinedHvsOf c (planar y u v)) ⌝ }

@@ -9,5 +9,7 @@ pub mod Folds
 pub mod Order
 pub mod Swap
 pub mod Overflow
+mod Rounding
+pub mod Parts
 pub mod Lists
 pub mod Fractions

@@ -25,7 +25,7 @@ use Rattle.number.proofs.Doubles.{units-are, units-value, units-fit, sc
 
 -- ---- a double is at most 53 digits, moved up
 
-record Shape (n : ℕ) : Type 0 where
+pub record Shape (n : ℕ) : Type 0 where
   pub digits : ℕ
   pub places : ℕ
   pub few : digits < 2 ^ 53
@@ -50,7 +50,7 @@ places-of : (l m : ℕ) (e : ℤ) → down e ≤ 2 ^ l → (g : ℕ) × (m * up 
 places-of l m (pos k) h = (k + l, div-one _ ∙ mul-assoc m (2 ^ k) (2 ^ l) ∙ ap (λ (x : ℕ). m * x) (sym (pow-add 2 k l)))
 places-of l m (negsuc k) h = (l - suc k, moved-down l k m (power-le (suc k) l h))
 
-shape : (s : Bool) (m : ℕ) (e : ℤ) → T (fits binary64 (fin s m e)) → (d : Shape (unitsOf (fin s m e))) × (d .digits ≡ m)
+pub shape : (s : Bool) (m : ℕ) (e : ℤ) → T (fits binary64 (fin s m e)) → (d : Shape (unitsOf (fin s m e))) × (d .digits ≡ m)
 unfolding fits unitsOf
 shape s zero e h = (record { digits = 0; places = 0; few = omega arith; is = ap (λ (x : ℕ). x * 2 ^ low binary64 / down e) (zero-mul (up e)) ∙ ap (λ (x : ℕ). x / down e) (zero-mul (2 ^ low binary64)) ∙ zero-div (down e) }, refl)
 shape s (suc m) e h =
@@ -271,7 +271,7 @@ places-in l t c n w q i h a least =
     let k : 2 ^ (w - 970) ≤ 2 ^ (t + l) = le-of-lt (lt-of-le-of-lt a (subst (λ (x : ℕ). n < x) (sym (pow-add 2 t l)) h)) in
     omega (arith, power-le (w - 970) (t + l) k)
 
-units-in : (m : ℕ) (e : ℤ) → T (fits binary64 (fin false (suc m) e)) → unitsOf (fin false (suc m) e) < 2 ^ suc (emax binary64) * 2 ^ low binary64
+pub units-in : (m : ℕ) (e : ℤ) → T (fits binary64 (fin false (suc m) e)) → unitsOf (fin false (suc m) e) < 2 ^ suc (emax binary64) * 2 ^ low binary64
 unfolding fits unitsOf
 units-in m e h =
     let A = eqb (suc m % 2) 1 in

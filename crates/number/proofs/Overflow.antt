@@ -1,8 +1,9 @@
--- A finite sum has finite terms, and a finite product finite factors: what overflows on the way is not lost. Assumes nothing.
+-- A finite sum has finite terms, a finite product finite factors, and what a finite number divides into a finite quotient is finite: what
+-- overflows on the way is not lost. Assumes nothing.
 use mathlib.Core.Path.{_≡_, refl, sym}
 use mathlib.Core.Bool.{Bool, true, false, cond, true≢false}
 use lib.Dec.{eqb}
-use lib.Ieee.{Float, nan, inf, fin, Format, add, mul, unlike}
+use lib.Ieee.{Float, nan, inf, fin, Format, add, mul, div, unlike}
 use lib.Ieee.Scale.{finite}
 
 never : false ≡ true → ⊥
@@ -35,3 +36,12 @@ mul-finite f (inf s) (fin t n d) e = absurd (inf-times (eqb n 0) (unlike s t) e)
 mul-finite f (fin s m k) nan e = absurd (never e)
 mul-finite f (fin s m k) (inf t) e = absurd (inf-times (eqb m 0) (unlike s t) e)
 mul-finite f (fin s m k) (fin t n d) e = (refl, refl)
+
+-- not by an infinity, which makes 0 of every finite number
+pub div-finite : (f : Format) (x y : Float) → finite y ≡ true → finite (div f x y) ≡ true → finite x ≡ true
+unfolding div
+div-finite f x nan p e = absurd (never p)
+div-finite f x (inf t) p e = absurd (never p)
+div-finite f nan (fin t n d) p e = absurd (never e)
+div-finite f (inf s) (fin t n d) p e = absurd (never e)
+div-finite f (fin s m k) (fin t n d) p e = refl
