@@ -2,6 +2,7 @@
 mod Answers
 pub mod Average
 mod Joined
+mod Rounded
 pub mod Overflow
 pub mod Swap
 pub mod Weight

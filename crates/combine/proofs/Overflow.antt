@@ -13,7 +13,7 @@ use lib.Ieee.Scale.{finite}
 use Rattle.number.specs.Literals.{oneD}
 use Rattle.number.specs.Steps.{_⊕_, _⊗_, _⊘_}
 use Rattle.number.proofs.Overflow.{add-finite, mul-finite, div-finite}
-use Rattle.number.proofs.Parts.{over-finite}
+use Rattle.number.proofs.Quotients.{over-finite}
 use Rattle.combine.specs.declared.Planar.{Planar}
 use Rattle.combine.specs.Combine.{weightedSum, wholeWeight, visualScore, combinable, combinedRefusal, scoreFor, scoreOr, combinedHvsOf}
 use Rattle.combine.proofs.Weight.{three, lawful, weight-bounds, weight-finite}

@@ -11,5 +11,8 @@ pub mod Swap
 pub mod Overflow
 mod Rounding
 pub mod Parts
+pub mod Sums
+pub mod Products
+pub mod Quotients
 pub mod Lists
 pub mod Fractions

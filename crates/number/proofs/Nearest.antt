@@ -39,7 +39,7 @@ moved-down l k m h =
     ∙ sym (mul-assoc m (2 ^ (l - suc k)) (2 ^ suc k)))
     ∙ mul-div-cancel (m * 2 ^ (l - suc k)) (pow-pos (suc k))
 
-power-le : (a b : ℕ) → 2 ^ a ≤ 2 ^ b → a ≤ b
+pub power-le : (a b : ℕ) → 2 ^ a ≤ 2 ^ b → a ≤ b
 power-le a b h = go (decLe a b)
   where
     go : Dec (a ≤ b) → a ≤ b

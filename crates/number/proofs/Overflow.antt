@@ -6,7 +6,7 @@ use lib.Dec.{eqb}
 use lib.Ieee.{Float, nan, inf, fin, Format, add, mul, div, unlike}
 use lib.Ieee.Scale.{finite}
 
-never : false ≡ true → ⊥
+pub never : false ≡ true → ⊥
 never e = true≢false (sym e)
 
 -- an infinity times a number is infinite, or nan for a zero
