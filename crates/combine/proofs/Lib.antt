@@ -6,3 +6,4 @@ mod Rounded
 pub mod Overflow
 pub mod Swap
 pub mod Weight
+pub mod Worked
