@@ -5,6 +5,7 @@ use Prim.Native.Nat.{ℕ, _+_, _-_, _*_, _^_, _≤_, _<_}
 use native.Mathlib.Nat.{mul-le-mul-left, mul-le-mul-right, le-of-mul-le-mul-right}
 use native.Mathlib.Decide.{decLe}
 use native.Mathlib.Omega.{arith}
+use Rattle.number.proofs.Rounding.{Most, Least}
 
 -- ---- s over x, where 2 ^ 53 times it is at most r and 2 ^ 52 times t. m is 2 ^ 57, which adding up need not know
 
@@ -33,16 +34,13 @@ module _ (m a b d y e p q f g h : ℕ) where
   lack i j k u v w r s t = omega (arith, mul-le-mul-left m i, mul-le-mul-left m j, mul-le-mul-left m k)
 
 module _ (a b d y e p q : ℕ) where
-  pub sum-most : 2 ^ 53 * b ≤ (2 ^ 53 + 1) * a + 2 ^ 52 * p → 2 ^ 53 * d ≤ (2 ^ 53 + 1) * b + 2 ^ 52 * q → 2 ^ 53 * e ≤ (2 ^ 53 + 1) * (y + d) + 2 ^ 52 * q
+  pub sum-most : Most b a p → Most d b q → Most e (y + d) q
       → m * e ≤ (m + 49) * (y + a) + (m + 64) * (q + 2 * p)
-  sum-most i j k =
-      let f : 2 ^ 53 * b ≤ 2 ^ 53 * a + (a + 2 ^ 52 * p) = omega (arith, i) in
-      let g : 2 ^ 53 * d ≤ 2 ^ 53 * b + (b + 2 ^ 52 * q) = omega (arith, j) in
-      let h : 2 ^ 53 * e ≤ 2 ^ 53 * (y + d) + (y + d + 2 ^ 52 * q) = omega (arith, k) in
+  sum-most f g h =
       surplus m a b d y e p q (b - a) (d - b) (e - (y + d)) (over b a a p f) (over d b b q g) (over e (y + d) (y + d) q h)
       (small b a a p f) (small d b b q g) (small e (y + d) (y + d) q h) (few b a a p f) (few d b b q g)
 
-  pub sum-least : 2 ^ 53 * a ≤ 2 ^ 53 * b + (a + 2 ^ 52 * p) → 2 ^ 53 * b ≤ 2 ^ 53 * d + (b + 2 ^ 52 * q) → 2 ^ 53 * (y + d) ≤ 2 ^ 53 * e + (y + d + 2 ^ 52 * q)
+  pub sum-least : Least b a p → Least d b q → Least e (y + d) q
       → m * (y + a) ≤ (m + 50) * e + (m + 256) * (q + 2 * p)
   sum-least f g h =
       lack m a b d y e p q (a - b) (b - d) (y + d - e) (over a b a p f) (over b d b q g) (over (y + d) e (y + d) q h)
@@ -50,17 +48,17 @@ module _ (a b d y e p q : ℕ) where
 
 -- a step's bound times p, and one of a sum times q
 module _ (p r x : ℕ) where
-  pub spread-most : 2 ^ 53 * r ≤ (2 ^ 53 + 1) * x + 2 ^ 52 → 2 ^ 53 * (p * r) ≤ (2 ^ 53 + 1) * (p * x) + 2 ^ 52 * p
+  pub spread-most : Most r x 1 → Most (p * r) (p * x) p
   spread-most h = omega (arith, mul-le-mul-left p h)
 
-  pub spread-least : 2 ^ 53 * x ≤ 2 ^ 53 * r + (x + 2 ^ 52) → 2 ^ 53 * (p * x) ≤ 2 ^ 53 * (p * r) + (p * x + 2 ^ 52 * p)
+  pub spread-least : Least r x 1 → Least (p * r) (p * x) p
   spread-least h = omega (arith, mul-le-mul-left p h)
 
 module _ (q r x y : ℕ) where
-  pub joined-most : 2 ^ 53 * r ≤ (2 ^ 53 + 1) * (x + y) + 2 ^ 52 → 2 ^ 53 * (q * r) ≤ (2 ^ 53 + 1) * (q * x + q * y) + 2 ^ 52 * q
+  pub joined-most : Most r (x + y) 1 → Most (q * r) (q * x + q * y) q
   joined-most h = omega (arith, mul-le-mul-left q h)
 
-  pub joined-least : 2 ^ 53 * (x + y) ≤ 2 ^ 53 * r + (x + y + 2 ^ 52) → 2 ^ 53 * (q * x + q * y) ≤ 2 ^ 53 * (q * r) + (q * x + q * y + 2 ^ 52 * q)
+  pub joined-least : Least r (x + y) 1 → Least (q * r) (q * x + q * y) q
   joined-least h = omega (arith, mul-le-mul-left q h)
 
 -- ---- the quotient: a is the rounded weight and b the exact one, on one denominator; s is the sum, n the exact one, x the score times the exact
@@ -99,10 +97,9 @@ out : (a x n d : ℕ) → m * (a * x) ≤ (m + 128) * (a * n) + 2 * (m * (a * d)
 out a x n d h = omega (arith, h)
 
 module _ (a b s n d x : ℕ) (A : 0 < a) where
-  pub quotient-most : m * b ≤ (m + 33) * a → 2 ^ 53 * (a * x) ≤ (2 ^ 53 + 1) * (b * s) + 2 ^ 52 * (a * d) → m * s ≤ (m + 49) * n + (m + 64) * d
+  pub quotient-most : m * b ≤ (m + 33) * a → Most (a * x) (b * s) (a * d) → m * s ≤ (m + 49) * n + (m + 64) * d
       → 2 ^ 50 * x ≤ (2 ^ 50 + 1) * n + 2 ^ 51 * d
-  quotient-most w q t =
-      let h : 2 ^ 53 * (a * x) ≤ 2 ^ 53 * (b * s) + (b * s + 2 ^ 52 * (a * d)) = omega (arith, q) in
+  quotient-most w h t =
       let g : m * (b * s) ≤ (m + 33) * (a * s) = omega (arith, mul-le-mul-right s w) in
       let f : m * (a * s) ≤ (m + 49) * (a * n) + (m + 64) * (a * d) = omega (arith, mul-le-mul-left a t) in
       let k : m * (a * x) ≤ (m + 128) * (a * n) + 2 * (m * (a * d)) =
@@ -111,7 +108,7 @@ module _ (a b s n d x : ℕ) (A : 0 < a) where
       (sum-few (a * s) (a * n) (a * d) f) (weight-few (b * s) (a * s) g) (omega arith) in
       le-of-mul-le-mul-right {m = 2 ^ 50 * x} {n = (2 ^ 50 + 1) * n + 2 ^ 51 * d} {k = a} (out a x n d k) A
 
-  pub quotient-least : m * a ≤ (m + 33) * b → 2 ^ 53 * (b * s) ≤ 2 ^ 53 * (a * x) + (b * s + 2 ^ 52 * (a * d)) → m * n ≤ (m + 50) * s + (m + 256) * d
+  pub quotient-least : m * a ≤ (m + 33) * b → Least (a * x) (b * s) (a * d) → m * n ≤ (m + 50) * s + (m + 256) * d
       → 2 ^ 50 * n ≤ 2 ^ 50 * x + (n + 2 ^ 51 * d)
   quotient-least w h t = go (decLe x n)
     where
@@ -132,10 +129,10 @@ module _ (a b s n d x : ℕ) (A : 0 < a) where
 
 -- both sides of a quotient times what is common
 module _ (q n z s r d : ℕ) where
-  pub widened-most : 2 ^ 53 * (n * r) ≤ (2 ^ 53 + 1) * (z * s) + 2 ^ 52 * n → 2 ^ 53 * (q * n * (d * r)) ≤ (2 ^ 53 + 1) * (d * z * (q * s)) + 2 ^ 52 * (q * n * d)
+  pub widened-most : Most (n * r) (z * s) n → Most (q * n * (d * r)) (d * z * (q * s)) (q * n * d)
   widened-most h = omega (arith, mul-le-mul-left (q * d) h)
 
-  pub widened-least : 2 ^ 53 * (z * s) ≤ 2 ^ 53 * (n * r) + (z * s + 2 ^ 52 * n) → 2 ^ 53 * (d * z * (q * s)) ≤ 2 ^ 53 * (q * n * (d * r)) + (d * z * (q * s) + 2 ^ 52 * (q * n * d))
+  pub widened-least : Least (n * r) (z * s) n → Least (q * n * (d * r)) (d * z * (q * s)) (q * n * d)
   widened-least h = omega (arith, mul-le-mul-left (q * d) h)
 
 -- ---- the weight, in units: l is 1, c is c, g is 2c and w is 1 + 2c
@@ -150,17 +147,13 @@ module _ (m l c g w e f : ℕ) where
   weight-lack i j u v s t k n = omega (arith, mul-le-mul-left m i, mul-le-mul-left m j)
 
 module _ (l c g w : ℕ) (large : 2 ^ 60 ≤ l) where
-  pub weight-most : 2 ^ 53 * (1 * g) ≤ (2 ^ 53 + 1) * (2 * c) + 2 ^ 52 * 1 → 2 ^ 53 * w ≤ (2 ^ 53 + 1) * (l + g) + 2 ^ 52 → m * w ≤ (m + 33) * (l + 2 * c)
-  weight-most a b =
-      let i : 2 ^ 53 * g ≤ 2 ^ 53 * (2 * c) + (2 * c + 2 ^ 52 * 1) = omega (arith, a) in
-      let j : 2 ^ 53 * w ≤ 2 ^ 53 * (l + g) + (l + g + 2 ^ 52 * 1) = omega (arith, b) in
+  pub weight-most : Most g (2 * c) 1 → Most w (l + g) 1 → m * w ≤ (m + 33) * (l + 2 * c)
+  weight-most i j =
       weight-surplus m l c g w (g - 2 * c) (w - (l + g)) (covers g (2 * c)) (covers w (l + g)) (small g (2 * c) (2 * c) 1 i) (small w (l + g) (l + g) 1 j) (few g (2 * c) (2 * c) 1 i)
       (omega (arith, large)) (omega (arith, large))
 
-  pub weight-least : 2 ^ 53 * (2 * c) ≤ 2 ^ 53 * (1 * g) + (2 * c + 2 ^ 52 * 1) → 2 ^ 53 * (l + g) ≤ 2 ^ 53 * w + (l + g + 2 ^ 52) → m * (l + 2 * c) ≤ (m + 33) * w
-  weight-least a b =
-      let i : 2 ^ 53 * (2 * c) ≤ 2 ^ 53 * g + (2 * c + 2 ^ 52 * 1) = omega (arith, a) in
-      let j : 2 ^ 53 * (l + g) ≤ 2 ^ 53 * w + (l + g + 2 ^ 52 * 1) = omega (arith, b) in
+  pub weight-least : Least g (2 * c) 1 → Least w (l + g) 1 → m * (l + 2 * c) ≤ (m + 33) * w
+  weight-least i j =
       weight-lack m l c g w (2 * c - g) (l + g - w) (covers (2 * c) g) (covers (l + g) w) (small (2 * c) g (2 * c) 1 i) (small (l + g) w (l + g) 1 j) (few (2 * c) g (2 * c) 1 i) (few (l + g) w (l + g) 1 j)
       (omega (arith, large)) (omega (arith, large))
 

@@ -11,7 +11,7 @@ use lib.Ieee.Fits.{add-fits}
 use lib.Ieee.Positive.{num, den, positive, between, le→cross}
 use lib.Ieee.Scale.{finite}
 use Rattle.number.specs.Literals.{oneD}
-use Rattle.number.specs.Steps.{_⊕_, _⊗_, _⊘_}
+use Rattle.number.specs.Steps.{_⊕_, _⊗_}
 use Rattle.number.proofs.Overflow.{add-finite, mul-finite, div-finite}
 use Rattle.number.proofs.Quotients.{over-finite}
 use Rattle.combine.specs.declared.Planar.{Planar}

@@ -3,7 +3,7 @@
 use mathlib.Core.Path.{_≡_, refl, sym, subst}
 use mathlib.Core.Bool.{Bool, true, false, not, true≢false}
 use Prim.Native.Nat.{ℕ, zero, suc, _+_, _*_, _^_, _≤_, _<_}
-use native.Mathlib.Nat.{mul-pos}
+use native.Mathlib.Nat.{one-mul, mul-pos}
 use native.Mathlib.Omega.{arith}
 use lib.Dec.{T, lit≤}
 use lib.Pow.{pow-pos, pow-mono}
@@ -14,12 +14,13 @@ use lib.Ieee.Positive.{num, den, positive, den-pos, between}
 use lib.Ieee.Scale.{finite}
 use Rattle.number.specs.Literals.{zeroD, oneD, twoD}
 use Rattle.number.specs.Root.{unitsOf}
-use Rattle.number.specs.Steps.{_⊕_, _⊗_, _⊘_}
+use Rattle.number.specs.Steps.{_⊕_, _⊗_}
 use Rattle.number.proofs.Order.{Within, within}
 use Rattle.number.proofs.Overflow.{add-finite}
 use Rattle.number.proofs.Parts.{one, part, within-none, within-units, positive-units, positive-above}
 use Rattle.number.proofs.Products.{mul-most, mul-least}
 use Rattle.number.proofs.Quotients.{div-most, div-least}
+use Rattle.number.proofs.Rounding.{Most, Least}
 use Rattle.number.proofs.Sums.{add-most, add-least}
 use Rattle.combine.specs.declared.Planar.{Planar}
 use Rattle.combine.specs.Combine.{weightedSum, wholeWeight, visualScore, combinable}
@@ -58,28 +59,28 @@ module _ (c : Float) (range : T (le zeroD c) × T (le c oneD)) (C : T (fits bina
   unfolding wholeWeight
   twice-finite = add-finite binary64 oneD twice W .1
 
-  twice-most : (b : Bool) → 2 ^ 53 * (1 * part b twice) ≤ (2 ^ 53 + 1) * (2 * part b c) + 2 ^ 52 * 1
+  twice-most : (b : Bool) → Most (part b twice) (2 * part b c) 1
   unfolding ofBits
-  twice-most b = mul-most 2 b twoD c two-within C twice-finite
+  twice-most b = subst (λ (x : ℕ). Most x (2 * part b c) 1) (one-mul (part b twice)) (mul-most 2 b twoD c two-within C twice-finite)
 
-  twice-least : 2 ^ 53 * (2 * part false c) ≤ 2 ^ 53 * (1 * part false twice) + (2 * part false c + 2 ^ 52 * 1)
+  twice-least : Least (part false twice) (2 * part false c) 1
   unfolding ofBits
-  twice-least = mul-least 2 false twoD c two-within C twice-finite
+  twice-least = subst (λ (x : ℕ). Least x (2 * part false c) 1) (one-mul (part false twice)) (mul-least 2 false twoD c two-within C twice-finite)
 
   none-of-twice : part true twice ≡ 0
   none-of-twice = empty (part true twice) (part true c) (within-none 1 c in-range C) (twice-most true)
     where
-      empty : (g k : ℕ) → k ≡ 0 → 2 ^ 53 * (1 * g) ≤ (2 ^ 53 + 1) * (2 * k) + 2 ^ 52 * 1 → g ≡ 0
+      empty : (g k : ℕ) → k ≡ 0 → Most g (2 * k) 1 → g ≡ 0
       empty g k z h = omega (arith, z, h)
 
-  whole-most : 2 ^ 53 * part false (wholeWeight c) ≤ (2 ^ 53 + 1) * (one + part false twice) + 2 ^ 52
+  whole-most : Most (part false (wholeWeight c)) (one + part false twice) 1
   unfolding wholeWeight
-  whole-most = subst (λ (x : ℕ). 2 ^ 53 * part false (oneD ⊕ twice) ≤ (2 ^ 53 + 1) * (x + part false twice) + 2 ^ 52) one-is (add-most false oneD twice one-fits (mul-fits binary64 twoD c) W)
+  whole-most = subst (λ (x : ℕ). Most (part false (oneD ⊕ twice)) (x + part false twice) 1) one-is (add-most false oneD twice one-fits (mul-fits binary64 twoD c) W)
 
-  whole-least : 2 ^ 53 * (one + part false twice) ≤ 2 ^ 53 * part false (wholeWeight c) + (one + part false twice + 2 ^ 52)
+  whole-least : Least (part false (wholeWeight c)) (one + part false twice) 1
   unfolding wholeWeight
   whole-least =
-      subst (λ (x : ℕ). 2 ^ 53 * (x + part false twice) ≤ 2 ^ 53 * part false (oneD ⊕ twice) + (x + part false twice + 2 ^ 52)) one-is
+      subst (λ (x : ℕ). Least (part false (oneD ⊕ twice)) (x + part false twice) 1) one-is
       (add-least false oneD twice one-fits (mul-fits binary64 twoD c) none-of-one none-of-twice W)
 
   large : 2 ^ 60 ≤ one
@@ -161,13 +162,13 @@ module _ (c : Float) (s : Planar) (t : Answered c s) where
   w-positive : T (positive (wholeWeight c))
   w-positive = weight-positive c range (t .doubles .weight) (steps .weight)
 
-  chroma-most : (b : Bool) → 2 ^ 53 * part b chroma ≤ (2 ^ 53 + 1) * (part b (s .u) + part b (s .v)) + 2 ^ 52
+  chroma-most : (b : Bool) → Most (part b chroma) (part b (s .u) + part b (s .v)) 1
   chroma-most b = add-most b (s .u) (s .v) (t .doubles .cb) (t .doubles .cr) (steps .chroma)
 
-  product-most : (b : Bool) → 2 ^ 53 * (q * part b (c ⊗ chroma)) ≤ (2 ^ 53 + 1) * (p * part b chroma) + 2 ^ 52 * q
+  product-most : (b : Bool) → Most (q * part b (c ⊗ chroma)) (p * part b chroma) q
   product-most b = mul-most 1 b c chroma c-within (add-fits binary64 (s .u) (s .v)) (steps .product)
 
-  weighted-most : (b : Bool) → 2 ^ 53 * part b (weightedSum c s) ≤ (2 ^ 53 + 1) * (part b (s .y) + part b (c ⊗ chroma)) + 2 ^ 52
+  weighted-most : (b : Bool) → Most (part b (weightedSum c s)) (part b (s .y) + part b (c ⊗ chroma)) 1
   unfolding weightedSum
   weighted-most b = add-most b (s .y) (c ⊗ chroma) (t .doubles .luma) (mul-fits binary64 c chroma) (steps .sum)
 
@@ -175,7 +176,7 @@ module _ (c : Float) (s : Planar) (t : Answered c s) where
   unfolding weightedSum
   sum-fits = add-fits binary64 (s .y) (c ⊗ chroma)
 
-  score-over-most : (b : Bool) → 2 ^ 53 * (n * part b (visualScore c s)) ≤ (2 ^ 53 + 1) * (z * part b (weightedSum c s)) + 2 ^ 52 * n
+  score-over-most : (b : Bool) → Most (n * part b (visualScore c s)) (z * part b (weightedSum c s)) n
   unfolding visualScore
   score-over-most b = div-most b (weightedSum c s) (wholeWeight c) sum-fits w-positive (t .given)
 
@@ -193,11 +194,11 @@ module _ (c : Float) (s : Planar) (t : Answered c s) where
 
   -- where nothing is on a side, nothing of the score is
   module _ (b : Bool) (no-y : part b (s .y) ≡ 0) (no-u : part b (s .u) ≡ 0) (no-v : part b (s .v) ≡ 0) where
-    none : (x k l : ℕ) → 0 < l → k ≡ 0 → (m : ℕ) → 2 ^ 53 * (l * x) ≤ (2 ^ 53 + 1) * (m * k) + 2 ^ 52 * l → x ≡ 0
+    none : (x k l : ℕ) → 0 < l → k ≡ 0 → (m : ℕ) → Most (l * x) (m * k) l → x ≡ 0
     none zero k l L e m h = refl
-    none (suc x) k l L e m h = absurd (omega (arith, L, subst (λ (i : ℕ). 2 ^ 53 * (l * suc x) ≤ (2 ^ 53 + 1) * (m * i) + 2 ^ 52 * l) e h))
+    none (suc x) k l L e m h = absurd (omega (arith, L, subst (λ (i : ℕ). Most (l * suc x) (m * i) l) e h))
 
-    none-added : (x i k : ℕ) → i ≡ 0 → k ≡ 0 → 2 ^ 53 * x ≤ (2 ^ 53 + 1) * (i + k) + 2 ^ 52 → x ≡ 0
+    none-added : (x i k : ℕ) → i ≡ 0 → k ≡ 0 → Most x (i + k) 1 → x ≡ 0
     none-added x i k e f h = omega (arith, e, f, h)
 
     no-chroma : part b chroma ≡ 0
@@ -214,17 +215,17 @@ module _ (c : Float) (s : Planar) (t : Answered c s) where
 
   -- where all is on one side, at least the exact average less its 2^50th part and two units
   module _ (b : Bool) (no-y : part (not b) (s .y) ≡ 0) (no-u : part (not b) (s .u) ≡ 0) (no-v : part (not b) (s .v) ≡ 0) where
-    chroma-least : 2 ^ 53 * (part b (s .u) + part b (s .v)) ≤ 2 ^ 53 * part b chroma + (part b (s .u) + part b (s .v) + 2 ^ 52)
+    chroma-least : Least (part b chroma) (part b (s .u) + part b (s .v)) 1
     chroma-least = add-least b (s .u) (s .v) (t .doubles .cb) (t .doubles .cr) no-u no-v (steps .chroma)
 
-    product-least : 2 ^ 53 * (p * part b chroma) ≤ 2 ^ 53 * (q * part b (c ⊗ chroma)) + (p * part b chroma + 2 ^ 52 * q)
+    product-least : Least (q * part b (c ⊗ chroma)) (p * part b chroma) q
     product-least = mul-least 1 b c chroma c-within (add-fits binary64 (s .u) (s .v)) (steps .product)
 
-    weighted-least : 2 ^ 53 * (part b (s .y) + part b (c ⊗ chroma)) ≤ 2 ^ 53 * part b (weightedSum c s) + (part b (s .y) + part b (c ⊗ chroma) + 2 ^ 52)
+    weighted-least : Least (part b (weightedSum c s)) (part b (s .y) + part b (c ⊗ chroma)) 1
     unfolding weightedSum
     weighted-least = add-least b (s .y) (c ⊗ chroma) (t .doubles .luma) (mul-fits binary64 c chroma) no-y (no-product (not b) no-y no-u no-v) (steps .sum)
 
-    score-over-least : 2 ^ 53 * (z * part b (weightedSum c s)) ≤ 2 ^ 53 * (n * part b (visualScore c s)) + (z * part b (weightedSum c s) + 2 ^ 52 * n)
+    score-over-least : Least (n * part b (visualScore c s)) (z * part b (weightedSum c s)) n
     unfolding visualScore
     score-over-least = div-least b (weightedSum c s) (wholeWeight c) sum-fits w-positive (t .given)
 

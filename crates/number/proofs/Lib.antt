@@ -9,7 +9,7 @@ pub mod Folds
 pub mod Order
 pub mod Swap
 pub mod Overflow
-mod Rounding
+pub mod Rounding
 pub mod Parts
 pub mod Sums
 pub mod Products

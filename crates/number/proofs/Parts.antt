@@ -18,7 +18,7 @@ use Rattle.number.proofs.Doubles.{units-are}
 use Rattle.number.proofs.Nearest.{power-le}
 use Rattle.number.proofs.Order.{Within, or-le}
 use Rattle.number.proofs.Overflow.{never}
-use Rattle.number.proofs.Rounding.{round-has, round-off}
+use Rattle.number.proofs.Rounding.{Most, Least, round-has, round-off}
 
 -- 1.0 in units
 abbrev pub one : ℕ
@@ -60,33 +60,24 @@ part-is b (fin t m e) s g h = ap₂ (λ (z : Bool) (n : ℕ). on b z n) (h .0) (
 
 -- ---- a fraction a / c, rounded
 
-most-of : (z l n c : ℕ) → 2 ^ 53 * z ≤ 2 ^ 53 * l + (l + 2 ^ 52 * c) → l ≤ n → 2 ^ 53 * z ≤ (2 ^ 53 + 1) * n + 2 ^ 52 * c
+most-of : (z l n c : ℕ) → Most z l c → l ≤ n → Most z n c
 most-of z l n c h k = omega arith
 
-none-of : (n c : ℕ) → 2 ^ 53 * (0 * c) ≤ (2 ^ 53 + 1) * n + 2 ^ 52 * c
+none-of : (n c : ℕ) → Most (0 * c) n c
 none-of n c = omega arith
 
-first-le : (l m : ℕ) → l ≤ l + m
-first-le l m = omega arith
-
-second-le : (l m : ℕ) → m ≤ l + m
-second-le l m = omega arith
-
 module _ (a c : ℕ) (C : 0 < c) where
-  errs : (2 ^ 53 * (grid binary64 a c * c) ≤ 2 ^ 53 * (a * one) + (a * one + 2 ^ 52 * c)) × (2 ^ 53 * (a * one) ≤ 2 ^ 53 * (grid binary64 a c * c) + (a * one + 2 ^ 52 * c))
-  errs = round-off a c C (a * one + 2 ^ 52 * c) (first-le (a * one) (2 ^ 52 * c)) (second-le (a * one) (2 ^ 52 * c))
-
   pub round-most : (b s : Bool) (n : ℕ) → finite (round binary64 s a c) ≡ true → on b s (a * one) ≤ n
-      → 2 ^ 53 * (part b (round binary64 s a c) * c) ≤ (2 ^ 53 + 1) * n + 2 ^ 52 * c
+      → Most (part b (round binary64 s a c) * c) n c
   round-most b s n e h =
-      subst (λ (z : ℕ). 2 ^ 53 * (z * c) ≤ (2 ^ 53 + 1) * n + 2 ^ 52 * c) (sym (part-is b (round binary64 s a c) s (grid binary64 a c) (round-has s a c e))) (go (Bool·beq s b) h)
+      subst (λ (z : ℕ). Most (z * c) n c) (sym (part-is b (round binary64 s a c) s (grid binary64 a c) (round-has s a c e))) (go (Bool·beq s b) h)
     where
-      go : (t : Bool) → cond t (a * one) 0 ≤ n → 2 ^ 53 * (cond t (grid binary64 a c) 0 * c) ≤ (2 ^ 53 + 1) * n + 2 ^ 52 * c
-      go true k = most-of (grid binary64 a c * c) (a * one) n c (errs .0) k
+      go : (t : Bool) → cond t (a * one) 0 ≤ n → Most (cond t (grid binary64 a c) 0 * c) n c
+      go true k = most-of (grid binary64 a c * c) (a * one) n c (round-off a c C .0) k
       go false k = none-of n c
 
-  pub round-least : (b : Bool) → finite (round binary64 b a c) ≡ true → 2 ^ 53 * (a * one) ≤ 2 ^ 53 * (part b (round binary64 b a c) * c) + (a * one + 2 ^ 52 * c)
-  round-least b e = subst (λ (z : ℕ). 2 ^ 53 * (a * one) ≤ 2 ^ 53 * (z * c) + (a * one + 2 ^ 52 * c)) (sym own) (errs .1)
+  pub round-least : (b : Bool) → finite (round binary64 b a c) ≡ true → Least (part b (round binary64 b a c) * c) (a * one) c
+  round-least b e = subst (λ (z : ℕ). Least (z * c) (a * one) c) (sym own) (round-off a c C .1)
     where
       same : (b : Bool) (g : ℕ) → on b b g ≡ g
       same true g = refl

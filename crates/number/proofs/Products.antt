@@ -1,5 +1,5 @@
 -- What a product has on one side of zero, of a number from -0 on and a double: what the exact one has, but for the error of rounding. Assumes nothing.
-use mathlib.Core.Path.{_≡_, refl, sym, ap, _∙_}
+use mathlib.Core.Path.{_≡_, refl, sym, ap}
 use mathlib.Core.Bool.{Bool, true, false, cond, Bool·beq}
 use Prim.Native.Nat.{ℕ, _+_, _*_, _^_, _≤_, _<_, zero-le}
 use native.Mathlib.Nat.{zero-mul, mul-pos, le-of-mul-le-mul-right}
@@ -15,6 +15,7 @@ use Rattle.number.specs.Steps.{_⊗_}
 use Rattle.number.proofs.Order.{Within}
 use Rattle.number.proofs.Overflow.{never, mul-finite}
 use Rattle.number.proofs.Parts.{one, on, part, units-exact, on-units, round-most, round-least}
+use Rattle.number.proofs.Rounding.{Most, Least}
 
 times-le : (b s : Bool) (p y l : ℕ) → on b s (p * y * l) ≤ p * (on b s y * l)
 times-le b s p y l = go (Bool·beq s b)
@@ -31,21 +32,21 @@ nothing-le b s p y l n h = go (Bool·beq s b)
     go false = zero-le
 
 module _ (r p q x u d l : ℕ) (D : 0 < d) (h : x * l ≡ u * d) where
-  pub times-upto : 2 ^ 53 * (r * (q * d)) ≤ (2 ^ 53 + 1) * (p * (x * l)) + 2 ^ 52 * (q * d) → 2 ^ 53 * (q * r) ≤ (2 ^ 53 + 1) * (p * u) + 2 ^ 52 * q
-  times-upto k = le-of-mul-le-mul-right {m = 2 ^ 53 * (q * r)} {n = (2 ^ 53 + 1) * (p * u) + 2 ^ 52 * q} {k = d} (omega (arith, ap (λ (z : ℕ). p * z) h, k)) D
+  pub times-upto : Most (r * (q * d)) (p * (x * l)) (q * d) → Most (q * r) (p * u) q
+  times-upto k = le-of-mul-le-mul-right {m = 2 ^ 53 * (q * r)} {n = 2 ^ 53 * (p * u) + (p * u + 2 ^ 52 * q)} {k = d} (omega (arith, ap (λ (z : ℕ). p * z) h, k)) D
 
-  pub times-from : 2 ^ 53 * (p * x * l) ≤ 2 ^ 53 * (r * (q * d)) + (p * x * l + 2 ^ 52 * (q * d)) → 2 ^ 53 * (p * u) ≤ 2 ^ 53 * (q * r) + (p * u + 2 ^ 52 * q)
+  pub times-from : Least (r * (q * d)) (p * x * l) (q * d) → Least (q * r) (p * u) q
   times-from k = le-of-mul-le-mul-right {m = 2 ^ 53 * (p * u)} {n = 2 ^ 53 * (q * r) + (p * u + 2 ^ 52 * q)} {k = d} (omega (arith, ap (λ (z : ℕ). p * z) h, k)) D
 
-no-times : (p q r : ℕ) → p ≡ 0 → (u : ℕ) → 2 ^ 53 * (p * u) ≤ 2 ^ 53 * (q * r) + (p * u + 2 ^ 52 * q)
+no-times : (p q r : ℕ) → p ≡ 0 → (u : ℕ) → Least (q * r) (p * u) q
 no-times p q r h u = rw (h, zero-mul u) zero-le
 
-pub of-none : (p q r : ℕ) → 2 ^ 53 * (p * 0) ≤ 2 ^ 53 * (q * r) + (p * 0 + 2 ^ 52 * q)
+pub of-none : (p q r : ℕ) → Least (q * r) (p * 0) q
 of-none p q r = omega arith
 
 module _ (k : ℕ) where
   product-most : (b s t : Bool) (m n : ℕ) (e d : ℤ) → Within k (fin s m e) → T (fits binary64 (fin t n d)) → finite (fin s m e ⊗ fin t n d) ≡ true
-      → 2 ^ 53 * (down e * part b (fin s m e ⊗ fin t n d)) ≤ (2 ^ 53 + 1) * (m * up e * part b (fin t n d)) + 2 ^ 52 * down e
+      → Most (down e * part b (fin s m e ⊗ fin t n d)) (m * up e * part b (fin t n d)) (down e)
   unfolding mul
   product-most b s t m n e d w g h =
       times-upto (part b (fin s m e ⊗ fin t n d)) (m * up e) (down e) (on b t (n * up d)) (part b (fin t n d)) (down d) one (down-pos d)
@@ -58,7 +59,7 @@ module _ (k : ℕ) where
       signed false false w = times-le b false (m * up e) (n * up d) one
 
   product-least : (b s t : Bool) (m n : ℕ) (e d : ℤ) → Within k (fin s m e) → T (fits binary64 (fin t n d)) → finite (fin s m e ⊗ fin t n d) ≡ true
-      → 2 ^ 53 * (m * up e * part b (fin t n d)) ≤ 2 ^ 53 * (down e * part b (fin s m e ⊗ fin t n d)) + (m * up e * part b (fin t n d) + 2 ^ 52 * down e)
+      → Least (down e * part b (fin s m e ⊗ fin t n d)) (m * up e * part b (fin t n d)) (down e)
   unfolding mul
   product-least b true t m n e d w g h = no-times (m * up e) (down e) (part b (fin true m e ⊗ fin t n d)) (w .0 refl) (part b (fin t n d))
   product-least true false true m n e d w g h =
@@ -71,25 +72,25 @@ module _ (k : ℕ) where
   product-least false false true m n e d w g h = of-none (m * up e) (down e) (part false (fin false m e ⊗ fin true n d))
 
   pub mul-most : (b : Bool) (c x : Float) → Within k c → T (fits binary64 x) → finite (c ⊗ x) ≡ true
-      → 2 ^ 53 * (den c * part b (c ⊗ x)) ≤ (2 ^ 53 + 1) * (num c * part b x) + 2 ^ 52 * den c
+      → Most (den c * part b (c ⊗ x)) (num c * part b x) (den c)
   mul-most b nan x w f h = absurd w
   mul-most b (inf s) x w f h = absurd w
   mul-most b (fin s m e) x w f h = go x f h (mul-finite binary64 (fin s m e) x h .1)
     where
       go : (x : Float) → T (fits binary64 x) → finite (fin s m e ⊗ x) ≡ true → finite x ≡ true
-          → 2 ^ 53 * (down e * part b (fin s m e ⊗ x)) ≤ (2 ^ 53 + 1) * (m * up e * part b x) + 2 ^ 52 * down e
+          → Most (down e * part b (fin s m e ⊗ x)) (m * up e * part b x) (down e)
       go nan f h q = absurd (never q)
       go (inf t) f h q = absurd (never q)
       go (fin t n d) f h q = product-most b s t m n e d w f h
 
   pub mul-least : (b : Bool) (c x : Float) → Within k c → T (fits binary64 x) → finite (c ⊗ x) ≡ true
-      → 2 ^ 53 * (num c * part b x) ≤ 2 ^ 53 * (den c * part b (c ⊗ x)) + (num c * part b x + 2 ^ 52 * den c)
+      → Least (den c * part b (c ⊗ x)) (num c * part b x) (den c)
   mul-least b nan x w f h = absurd w
   mul-least b (inf s) x w f h = absurd w
   mul-least b (fin s m e) x w f h = go x f h (mul-finite binary64 (fin s m e) x h .1)
     where
       go : (x : Float) → T (fits binary64 x) → finite (fin s m e ⊗ x) ≡ true → finite x ≡ true
-          → 2 ^ 53 * (m * up e * part b x) ≤ 2 ^ 53 * (down e * part b (fin s m e ⊗ x)) + (m * up e * part b x + 2 ^ 52 * down e)
+          → Least (down e * part b (fin s m e ⊗ x)) (m * up e * part b x) (down e)
       go nan f h q = absurd (never q)
       go (inf t) f h q = absurd (never q)
       go (fin t n d) f h q = product-least b s t m n e d w f h

@@ -17,10 +17,11 @@ use lib.Ieee.Positive.{num, den, positive}
 use lib.Ieee.Scale.{finite}
 use Rattle.number.specs.Root.{unitsOf}
 use Rattle.number.specs.Steps.{_⊘_}
-use Rattle.number.proofs.Nearest.{Shape, shape, units-in}
+use Rattle.number.proofs.Nearest.{shape, units-in}
 use Rattle.number.proofs.Overflow.{never, div-finite}
 use Rattle.number.proofs.Parts.{one, on, part, units-exact, on-units, round-most, round-least}
 use Rattle.number.proofs.Products.{times-upto, times-from, of-none}
+use Rattle.number.proofs.Rounding.{Most, Least}
 
 over-le : (b s : Bool) (x k l : ℕ) → on b s (x * k * l) ≤ k * (on b s x * l)
 over-le b s x k l = go (Bool·beq s b)
@@ -39,52 +40,52 @@ module _ (n : ℕ) (d : ℤ) (N : 0 < n) where
   n-pos e = mul-pos (mul-pos N (up-pos d)) (down-pos e)
 
   quotient-most : (b s : Bool) (m : ℕ) (e : ℤ) → T (fits binary64 (fin s m e)) → finite (fin s m e ⊘ fin false n d) ≡ true
-      → 2 ^ 53 * (n * up d * part b (fin s m e ⊘ fin false n d)) ≤ (2 ^ 53 + 1) * (down d * part b (fin s m e)) + 2 ^ 52 * (n * up d)
+      → Most (n * up d * part b (fin s m e ⊘ fin false n d)) (down d * part b (fin s m e)) (n * up d)
   quotient-most b s m e f h =
       times-upto (part b (fin s m e ⊘ fin false n d)) (down d) (n * up d) (on b s (m * up e)) (part b (fin s m e)) (down e) one (down-pos e)
       (on-units b s (unitsOf (fin s m e)) (m * up e) (down e) one (units-exact s m e f))
-      (subst (λ (z : Float). 2 ^ 53 * (part b z * (n * up d * down e)) ≤ (2 ^ 53 + 1) * (down d * (on b s (m * up e) * one)) + 2 ^ 52 * (n * up d * down e)) (sym (over-is s m e))
+      (subst (λ (z : Float). Most (part b z * (n * up d * down e)) (down d * (on b s (m * up e) * one)) (n * up d * down e)) (sym (over-is s m e))
       (round-most (m * up e * down d) (n * up d * down e) (n-pos e) b s (down d * (on b s (m * up e) * one)) (subst (λ (z : Float). finite z ≡ true) (over-is s m e) h) (over-le b s (m * up e) (down d) one)))
 
-  exchanged : (r p q x u k l : ℕ) → 0 < k → u * k ≡ x * l → 2 ^ 53 * (x * p * l) ≤ 2 ^ 53 * (r * (q * k)) + (x * p * l + 2 ^ 52 * (q * k))
-      → 2 ^ 53 * (p * u) ≤ 2 ^ 53 * (q * r) + (p * u + 2 ^ 52 * q)
+  exchanged : (r p q x u k l : ℕ) → 0 < k → u * k ≡ x * l → Least (r * (q * k)) (x * p * l) (q * k)
+      → Least (q * r) (p * u) q
   exchanged r p q x u k l K h g = times-from r p q x u k l K (sym h) (omega (arith, g))
 
   quotient-least : (b s : Bool) (m : ℕ) (e : ℤ) → T (fits binary64 (fin s m e)) → finite (fin s m e ⊘ fin false n d) ≡ true
-      → 2 ^ 53 * (down d * part b (fin s m e)) ≤ 2 ^ 53 * (n * up d * part b (fin s m e ⊘ fin false n d)) + (down d * part b (fin s m e) + 2 ^ 52 * (n * up d))
+      → Least (n * up d * part b (fin s m e ⊘ fin false n d)) (down d * part b (fin s m e)) (n * up d)
   quotient-least true false m e f h = of-none (down d) (n * up d) (part true (fin false m e ⊘ fin false n d))
   quotient-least false true m e f h = of-none (down d) (n * up d) (part false (fin true m e ⊘ fin false n d))
   quotient-least true true m e f h =
       exchanged (part true (fin true m e ⊘ fin false n d)) (down d) (n * up d) (m * up e) (unitsOf (fin true m e)) (down e) one (down-pos e) (units-exact true m e f)
-      (subst (λ (z : Float). 2 ^ 53 * (m * up e * down d * one) ≤ 2 ^ 53 * (part true z * (n * up d * down e)) + (m * up e * down d * one + 2 ^ 52 * (n * up d * down e))) (sym (over-is true m e))
+      (subst (λ (z : Float). Least (part true z * (n * up d * down e)) (m * up e * down d * one) (n * up d * down e)) (sym (over-is true m e))
       (round-least (m * up e * down d) (n * up d * down e) (n-pos e) true (subst (λ (z : Float). finite z ≡ true) (over-is true m e) h)))
   quotient-least false false m e f h =
       exchanged (part false (fin false m e ⊘ fin false n d)) (down d) (n * up d) (m * up e) (unitsOf (fin false m e)) (down e) one (down-pos e) (units-exact false m e f)
-      (subst (λ (z : Float). 2 ^ 53 * (m * up e * down d * one) ≤ 2 ^ 53 * (part false z * (n * up d * down e)) + (m * up e * down d * one + 2 ^ 52 * (n * up d * down e))) (sym (over-is false m e))
+      (subst (λ (z : Float). Least (part false z * (n * up d * down e)) (m * up e * down d * one) (n * up d * down e)) (sym (over-is false m e))
       (round-least (m * up e * down d) (n * up d * down e) (n-pos e) false (subst (λ (z : Float). finite z ≡ true) (over-is false m e) h)))
 
 pub div-most : (b : Bool) (x w : Float) → T (fits binary64 x) → T (positive w) → finite (x ⊘ w) ≡ true
-    → 2 ^ 53 * (num w * part b (x ⊘ w)) ≤ (2 ^ 53 + 1) * (den w * part b x) + 2 ^ 52 * num w
+    → Most (num w * part b (x ⊘ w)) (den w * part b x) (num w)
 div-most b x nan f p h = absurd p
 div-most b x (inf t) f p h = absurd p
 div-most b x (fin true n d) f p h = absurd p
 div-most b x (fin false n d) f p h = go x f h (div-finite binary64 x (fin false n d) refl h)
   where
     go : (x : Float) → T (fits binary64 x) → finite (x ⊘ fin false n d) ≡ true → finite x ≡ true
-        → 2 ^ 53 * (n * up d * part b (x ⊘ fin false n d)) ≤ (2 ^ 53 + 1) * (down d * part b x) + 2 ^ 52 * (n * up d)
+        → Most (n * up d * part b (x ⊘ fin false n d)) (down d * part b x) (n * up d)
     go nan f h q = absurd (never q)
     go (inf s) f h q = absurd (never q)
     go (fin s m e) f h q = quotient-most n d (ltb→lt 0 n p) b s m e f h
 
 pub div-least : (b : Bool) (x w : Float) → T (fits binary64 x) → T (positive w) → finite (x ⊘ w) ≡ true
-    → 2 ^ 53 * (den w * part b x) ≤ 2 ^ 53 * (num w * part b (x ⊘ w)) + (den w * part b x + 2 ^ 52 * num w)
+    → Least (num w * part b (x ⊘ w)) (den w * part b x) (num w)
 div-least b x nan f p h = absurd p
 div-least b x (inf t) f p h = absurd p
 div-least b x (fin true n d) f p h = absurd p
 div-least b x (fin false n d) f p h = go x f h (div-finite binary64 x (fin false n d) refl h)
   where
     go : (x : Float) → T (fits binary64 x) → finite (x ⊘ fin false n d) ≡ true → finite x ≡ true
-        → 2 ^ 53 * (down d * part b x) ≤ 2 ^ 53 * (n * up d * part b (x ⊘ fin false n d)) + (down d * part b x + 2 ^ 52 * (n * up d))
+        → Least (n * up d * part b (x ⊘ fin false n d)) (down d * part b x) (n * up d)
     go nan f h q = absurd (never q)
     go (inf s) f h q = absurd (never q)
     go (fin s m e) f h q = quotient-least n d (ltb→lt 0 n p) b s m e f h

@@ -1,20 +1,27 @@
--- How far rounding errs. A unit is the smallest double above zero. A fraction as a double is off by at most its 2^53rd part, or by half a
--- unit where that is more. Assumes nothing.
-use mathlib.Core.Path.{_≡_, refl, sym, ap, _∙_, subst}
+-- How far rounding errs. A unit is the smallest double above zero. A fraction as a double is off by at most its 2^53rd part and half
+-- a unit. Assumes nothing.
+use mathlib.Core.Path.{_≡_, sym, ap, _∙_, subst}
 use mathlib.Core.Logic.{inl, inr}
 use mathlib.Core.Bool.{Bool, true, false, not, cond, true≢false}
-use Prim.Native.Nat.{ℕ, suc, _+_, _-_, _*_, _/_, _%_, _^_, _≤_, _<_, compare, Ordering, Ordering·lt, Ordering·eq, Ordering·gt}
-use native.Mathlib.Nat.{eq-zero-or-pos, mul-assoc, mul-comm, mul-left-comm, mul-one, mul-pos, suc-mul, mul-le-mul-right, le-div-iff-mul-le, div-add-mod', mod-lt}
+use Prim.Native.Nat.{ℕ, suc, _+_, _*_, _/_, _%_, _^_, _≤_, _<_, compare, Ordering, Ordering·lt, Ordering·eq, Ordering·gt}
+use native.Mathlib.Nat.{eq-zero-or-pos, mul-assoc, mul-comm, mul-one, mul-pos, suc-mul, mul-le-mul-right, le-div-iff-mul-le, div-add-mod', mod-lt}
 use native.Mathlib.Omega.{arith}
 use lib.Dec.{T, ltb, isLe, isEq, leb→le, nleb→lt, eqb→eq}
 use lib.Pow.{pow-add, pow-pos}
-use lib.Ieee.{Float, nan, inf, fin, Format, binary64, prec, emax, low, size, nearest, odd, units, round}
+use lib.Ieee.{Float, inf, Format, binary64, prec, emax, low, nearest, odd, units, round}
 use lib.Ieee.Digits.{size-reaches}
 use lib.Ieee.Fits.{nearest-le, round-is}
 use lib.Ieee.Exact.{HasValue, odd-sign}
 use lib.Ieee.Nearest.{closest, nearest-ge}
 use lib.Ieee.Order.{drop, kept}
 use lib.Ieee.Scale.{grid, finite}
+
+-- z, rounded, is at most n and its 2^53rd part and half of c; and at least n less that
+abbrev pub Most : ℕ → ℕ → ℕ → Type 0
+Most z n c = 2 ^ 53 * z ≤ 2 ^ 53 * n + (n + 2 ^ 52 * c)
+
+abbrev pub Least : ℕ → ℕ → ℕ → Type 0
+Least z n c = 2 ^ 53 * n ≤ 2 ^ 53 * z + (n + 2 ^ 52 * c)
 
 -- ---- the nearest whole number to n / u, times u: off by at most half of u
 
@@ -36,9 +43,9 @@ module _ (n u : ℕ) (U : 0 < u) where
           omega (arith, is, e tt, from, upto, suc-mul (n / u) u)
       go Ordering·gt l g e = omega (arith, is, g tt, mod-lt n U, suc-mul (n / u) u)
 
--- ---- to 53 digits: t is at least the fraction's 2^53rd part and at least half a unit, both 2^53 times
+-- ---- n / c to 53 digits, times c
 
-module _ (n c : ℕ) (C : 0 < c) (t : ℕ) (part : n ≤ t) (unit : 2 ^ 52 * c ≤ t) where
+module _ (n c : ℕ) (C : 0 < c) where
   abbrev k : ℕ
   k = drop 53 n c
 
@@ -46,9 +53,9 @@ module _ (n c : ℕ) (C : 0 < c) (t : ℕ) (part : n ≤ t) (unit : 2 ^ 52 * c �
   u = c * 2 ^ k
 
   -- the last place that is kept
-  place : 2 ^ 52 * u ≤ t
+  place : 2 ^ 52 * u ≤ n + 2 ^ 52 * c
   place = elim (eq-zero-or-pos k) [
-    | inl z ↦ subst (λ (x : ℕ). 2 ^ 52 * (c * 2 ^ x) ≤ t) (sym z) (subst (λ (x : ℕ). 2 ^ 52 * x ≤ t) (sym (mul-one c)) unit)
+    | inl z ↦ subst (λ (x : ℕ). 2 ^ 52 * (c * 2 ^ x) ≤ n + 2 ^ 52 * c) (sym z) (subst (λ (x : ℕ). 2 ^ 52 * x ≤ n + 2 ^ 52 * c) (sym (mul-one c)) (omega arith))
     | inr l ↦
         let reaches : 2 ^ (52 + k) ≤ n / c = size-reaches (n / c) (52 + k) (omega arith) in
         let whole : 2 ^ (52 + k) * c ≤ n = le-div-iff-mul-le C .0 reaches in
@@ -56,13 +63,13 @@ module _ (n c : ℕ) (C : 0 < c) (t : ℕ) (part : n ≤ t) (unit : 2 ^ 52 * c �
         omega (arith, whole, same)
   ]
 
-  off : (z v : ℕ) → 2 ^ 52 * v ≤ t → (2 * z ≤ 2 * n + v) × (2 * n ≤ 2 * z + v) → (2 ^ 53 * z ≤ 2 ^ 53 * n + t) × (2 ^ 53 * n ≤ 2 ^ 53 * z + t)
+  off : (z v : ℕ) → 2 ^ 52 * v ≤ n + 2 ^ 52 * c → (2 * z ≤ 2 * n + v) × (2 * n ≤ 2 * z + v) → Most z n c × Least z n c
   off z v h e = omega (arith, h, e)
 
-  rounded : (2 ^ 53 * (kept 53 n c * 2 ^ k * c) ≤ 2 ^ 53 * n + t) × (2 ^ 53 * n ≤ 2 ^ 53 * (kept 53 n c * 2 ^ k * c) + t)
+  rounded : Most (kept 53 n c * 2 ^ k * c) n c × Least (kept 53 n c * 2 ^ k * c) n c
   rounded =
       let same : kept 53 n c * u ≡ kept 53 n c * 2 ^ k * c = ap (λ (x : ℕ). kept 53 n c * x) (mul-comm c (2 ^ k)) ∙ sym (mul-assoc (kept 53 n c) (2 ^ k) c) in
-      subst (λ (z : ℕ). (2 ^ 53 * z ≤ 2 ^ 53 * n + t) × (2 ^ 53 * n ≤ 2 ^ 53 * z + t)) same (off (kept 53 n c * u) u place (near n u (mul-pos C (pow-pos k))))
+      subst (λ (z : ℕ). Most z n c × Least z n c) same (off (kept 53 n c * u) u place (near n u (mul-pos C (pow-pos k))))
 
 -- ---- a fraction a / c as a double, which is finite
 
@@ -82,6 +89,6 @@ round-has s a c e =
     subst (λ (z : Float). HasValue z s (grid binary64 a c) (2 ^ low binary64)) (sym is)
     (units-has binary64 s (kept 53 n c) (drop 53 n c) (subst (λ (z : Float). finite z ≡ true) is e))
 
-module _ (a c : ℕ) (C : 0 < c) (t : ℕ) (part : a * 2 ^ low binary64 ≤ t) (unit : 2 ^ 52 * c ≤ t) where
-  pub round-off : (2 ^ 53 * (grid binary64 a c * c) ≤ 2 ^ 53 * (a * 2 ^ low binary64) + t) × (2 ^ 53 * (a * 2 ^ low binary64) ≤ 2 ^ 53 * (grid binary64 a c * c) + t)
-  round-off = rounded (a * 2 ^ low binary64) c C t part unit
+-- in units, times c
+pub round-off : (a c : ℕ) → 0 < c → Most (grid binary64 a c * c) (a * 2 ^ low binary64) c × Least (grid binary64 a c * c) (a * 2 ^ low binary64) c
+round-off a c C = rounded (a * 2 ^ low binary64) c C

@@ -16,6 +16,7 @@ use lib.Ieee.Scale.{finite}
 use Rattle.number.specs.Steps.{_⊕_}
 use Rattle.number.proofs.Overflow.{never, add-finite}
 use Rattle.number.proofs.Parts.{one, on, part, part-over, part-over', round-most, round-least}
+use Rattle.number.proofs.Rounding.{Most, Least}
 
 -- ---- of fractions
 
@@ -41,29 +42,29 @@ right-le b s a x y l h = go (Bool·beq s b)
     go false = zero-le
 
 module _ (b : Bool) (x y c : ℕ) (C : 0 < c) where
-  abbrev Most : Bool → Bool → Float → Type 0
-  Most s t r = 2 ^ 53 * (part b r * c) ≤ (2 ^ 53 + 1) * ((on b s x + on b t y) * one) + 2 ^ 52 * c
+  abbrev SumMost : Bool → Bool → Float → Type 0
+  SumMost s t r = Most (part b r * c) ((on b s x + on b t y) * one) c
 
-  below-less : finite (sum binary64 true x false y c) ≡ true → Most true false (sum binary64 true x false y c)
+  below-less : finite (sum binary64 true x false y c) ≡ true → SumMost true false (sum binary64 true x false y c)
   unfolding sum
   below-less = go (ltb x y) (ltb y x) refl
     where
       go : (p q : Bool) → ltb y x ≡ q → finite (cond p (round binary64 false (y - x) c) (round binary64 q (x - y) c)) ≡ true
-          → Most true false (cond p (round binary64 false (y - x) c) (round binary64 q (x - y) c))
+          → SumMost true false (cond p (round binary64 false (y - x) c) (round binary64 q (x - y) c))
       go true q h e = round-most (y - x) c C b false ((on b true x + on b false y) * one) e (right-le b false (y - x) (on b true x) y one (omega arith))
       go false true h e = round-most (x - y) c C b true ((on b true x + on b false y) * one) e (left-le b true (x - y) x (on b false y) one (omega arith))
       go false false h e = round-most (x - y) c C b false ((on b true x + on b false y) * one) e (right-le b false (x - y) (on b true x) y one (omega (arith, ltb-false y x h)))
 
-  above-less : finite (sum binary64 false x true y c) ≡ true → Most false true (sum binary64 false x true y c)
+  above-less : finite (sum binary64 false x true y c) ≡ true → SumMost false true (sum binary64 false x true y c)
   unfolding sum
   above-less = go (ltb x y)
     where
       go : (p : Bool) → finite (cond p (round binary64 true (y - x) c) (round binary64 false (x - y) c)) ≡ true
-          → Most false true (cond p (round binary64 true (y - x) c) (round binary64 false (x - y) c))
+          → SumMost false true (cond p (round binary64 true (y - x) c) (round binary64 false (x - y) c))
       go true e = round-most (y - x) c C b true ((on b false x + on b true y) * one) e (right-le b true (y - x) (on b false x) y one (omega arith))
       go false e = round-most (x - y) c C b false ((on b false x + on b true y) * one) e (left-le b false (x - y) x (on b true y) one (omega arith))
 
-  sum-most : (s t : Bool) → finite (sum binary64 s x t y c) ≡ true → Most s t (sum binary64 s x t y c)
+  sum-most : (s t : Bool) → finite (sum binary64 s x t y c) ≡ true → SumMost s t (sum binary64 s x t y c)
   unfolding sum
   sum-most true true e = round-most (x + y) c C b true ((on b true x + on b true y) * one) e (like-le b true x y one)
   sum-most false false e = round-most (x + y) c C b false ((on b false x + on b false y) * one) e (like-le b false x y one)
@@ -92,7 +93,7 @@ one-side false true false x y c p q h =
     rw (lt-ltb x y (omega (arith, p, h)), z)
 
 sum-least : (b s t : Bool) (x y c : ℕ) → 0 < c → on (not b) s x ≡ 0 → on (not b) t y ≡ 0 → finite (sum binary64 s x t y c) ≡ true
-    → 2 ^ 53 * ((on b s x + on b t y) * one) ≤ 2 ^ 53 * (part b (sum binary64 s x t y c) * c) + ((on b s x + on b t y) * one + 2 ^ 52 * c)
+    → Least (part b (sum binary64 s x t y c) * c) ((on b s x + on b t y) * one) c
 sum-least b s t x y c C p q e = go (decLe (on b s x + on b t y) 0)
   where
     n : ℕ
@@ -101,23 +102,23 @@ sum-least b s t x y c C p q e = go (decLe (on b s x + on b t y) 0)
     r : Float
     r = sum binary64 s x t y c
 
-    none : (n l z : ℕ) → n ≤ 0 → 2 ^ 53 * (n * l) ≤ 2 ^ 53 * z + (n * l + 2 ^ 52 * c)
+    none : (n l z : ℕ) → n ≤ 0 → Least z (n * l) c
     none zero l z h = omega arith
     none (suc n) l z h = absurd (omega arith)
 
-    go : Dec (n ≤ 0) → 2 ^ 53 * (n * one) ≤ 2 ^ 53 * (part b r * c) + (n * one + 2 ^ 52 * c)
+    go : Dec (n ≤ 0) → Least (part b r * c) (n * one) c
     go (yes l) = none n one (part b r * c) l
     go (no l) =
         let is = one-side b s t x y c p q (omega (arith, l)) in
-        subst (λ (z : Float). 2 ^ 53 * (n * one) ≤ 2 ^ 53 * (part b z * c) + (n * one + 2 ^ 52 * c)) (sym is) (round-least n c C b (subst (λ (z : Float). finite z ≡ true) is e))
+        subst (λ (z : Float). Least (part b z * c) (n * one) c) (sym is) (round-least n c C b (subst (λ (z : Float). finite z ≡ true) is e))
 
 -- ---- of doubles
 
 module _ (r x y u v c l : ℕ) (C : 0 < c) (p : x * l ≡ u * c) (q : y * l ≡ v * c) where
-  sum-upto : 2 ^ 53 * (r * c) ≤ (2 ^ 53 + 1) * ((x + y) * l) + 2 ^ 52 * c → 2 ^ 53 * r ≤ (2 ^ 53 + 1) * (u + v) + 2 ^ 52
-  sum-upto h = le-of-mul-le-mul-right {m = 2 ^ 53 * r} {n = (2 ^ 53 + 1) * (u + v) + 2 ^ 52} {k = c} (omega (arith, p, q, h)) C
+  sum-upto : Most (r * c) ((x + y) * l) c → Most r (u + v) 1
+  sum-upto h = le-of-mul-le-mul-right {m = 2 ^ 53 * r} {n = 2 ^ 53 * (u + v) + (u + v + 2 ^ 52)} {k = c} (omega (arith, p, q, h)) C
 
-  sum-from : 2 ^ 53 * ((x + y) * l) ≤ 2 ^ 53 * (r * c) + ((x + y) * l + 2 ^ 52 * c) → 2 ^ 53 * (u + v) ≤ 2 ^ 53 * r + (u + v + 2 ^ 52)
+  sum-from : Least (r * c) ((x + y) * l) c → Least r (u + v) 1
   sum-from h = le-of-mul-le-mul-right {m = 2 ^ 53 * (u + v)} {n = 2 ^ 53 * r + (u + v + 2 ^ 52)} {k = c} (omega (arith, p, q, h)) C
 
 module _ (b s t : Bool) (m n : ℕ) (e d : ℤ) (f : T (fits binary64 (fin s m e))) (g : T (fits binary64 (fin t n d))) where
@@ -127,7 +128,7 @@ module _ (b s t : Bool) (m n : ℕ) (e d : ℤ) (f : T (fits binary64 (fin s m e
   c-pos : 0 < c
   c-pos = mul-pos (down-pos e) (down-pos d)
 
-  sum-parts-most : finite (fin s m e ⊕ fin t n d) ≡ true → 2 ^ 53 * part b (fin s m e ⊕ fin t n d) ≤ (2 ^ 53 + 1) * (part b (fin s m e) + part b (fin t n d)) + 2 ^ 52
+  sum-parts-most : finite (fin s m e ⊕ fin t n d) ≡ true → Most (part b (fin s m e ⊕ fin t n d)) (part b (fin s m e) + part b (fin t n d)) 1
   unfolding add
   sum-parts-most h =
       sum-upto (part b (fin s m e ⊕ fin t n d)) (on b s (m * up e * down d)) (on b t (n * up d * down e)) (part b (fin s m e)) (part b (fin t n d)) c one c-pos (part-over b s m e (down d) f) (part-over' b t n d (down e) g)
@@ -144,18 +145,18 @@ module _ (b s t : Bool) (m n : ℕ) (e d : ℤ) (f : T (fits binary64 (fin s m e
   none-second h = empty (on (not b) t (n * up d * down e)) one (pow-pos (low binary64)) (part-over' (not b) t n d (down e) g ∙ ap (λ (x : ℕ). x * c) h ∙ zero-mul c ∙ sym (zero-mul one))
 
   sum-parts-least : part (not b) (fin s m e) ≡ 0 → part (not b) (fin t n d) ≡ 0 → finite (fin s m e ⊕ fin t n d) ≡ true
-      → 2 ^ 53 * (part b (fin s m e) + part b (fin t n d)) ≤ 2 ^ 53 * part b (fin s m e ⊕ fin t n d) + (part b (fin s m e) + part b (fin t n d) + 2 ^ 52)
+      → Least (part b (fin s m e ⊕ fin t n d)) (part b (fin s m e) + part b (fin t n d)) 1
   unfolding add
   sum-parts-least p q h =
       sum-from (part b (fin s m e ⊕ fin t n d)) (on b s (m * up e * down d)) (on b t (n * up d * down e)) (part b (fin s m e)) (part b (fin t n d)) c one c-pos (part-over b s m e (down d) f) (part-over' b t n d (down e) g)
       (sum-least b s t (m * up e * down d) (n * up d * down e) c c-pos (none-first p) (none-second q) h)
 
 pub add-most : (b : Bool) (x y : Float) → T (fits binary64 x) → T (fits binary64 y) → finite (x ⊕ y) ≡ true
-    → 2 ^ 53 * part b (x ⊕ y) ≤ (2 ^ 53 + 1) * (part b x + part b y) + 2 ^ 52
+    → Most (part b (x ⊕ y)) (part b x + part b y) 1
 add-most b x y f g h = go x y f g h (add-finite binary64 x y h .0) (add-finite binary64 x y h .1)
   where
     go : (x y : Float) → T (fits binary64 x) → T (fits binary64 y) → finite (x ⊕ y) ≡ true → finite x ≡ true → finite y ≡ true
-        → 2 ^ 53 * part b (x ⊕ y) ≤ (2 ^ 53 + 1) * (part b x + part b y) + 2 ^ 52
+        → Most (part b (x ⊕ y)) (part b x + part b y) 1
     go nan y f g h p q = absurd (never p)
     go (inf s) y f g h p q = absurd (never p)
     go (fin s m e) nan f g h p q = absurd (never q)
@@ -163,11 +164,11 @@ add-most b x y f g h = go x y f g h (add-finite binary64 x y h .0) (add-finite b
     go (fin s m e) (fin t n d) f g h p q = sum-parts-most b s t m n e d f g h
 
 pub add-least : (b : Bool) (x y : Float) → T (fits binary64 x) → T (fits binary64 y) → part (not b) x ≡ 0 → part (not b) y ≡ 0 → finite (x ⊕ y) ≡ true
-    → 2 ^ 53 * (part b x + part b y) ≤ 2 ^ 53 * part b (x ⊕ y) + (part b x + part b y + 2 ^ 52)
+    → Least (part b (x ⊕ y)) (part b x + part b y) 1
 add-least b x y f g i j h = go x y f g i j h (add-finite binary64 x y h .0) (add-finite binary64 x y h .1)
   where
     go : (x y : Float) → T (fits binary64 x) → T (fits binary64 y) → part (not b) x ≡ 0 → part (not b) y ≡ 0 → finite (x ⊕ y) ≡ true → finite x ≡ true → finite y ≡ true
-        → 2 ^ 53 * (part b x + part b y) ≤ 2 ^ 53 * part b (x ⊕ y) + (part b x + part b y + 2 ^ 52)
+        → Least (part b (x ⊕ y)) (part b x + part b y) 1
     go nan y f g i j h p q = absurd (never p)
     go (inf s) y f g i j h p q = absurd (never p)
     go (fin s m e) nan f g i j h p q = absurd (never q)
