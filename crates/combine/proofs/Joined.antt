@@ -1,5 +1,7 @@
 -- The errors of the steps of an average, joined. All are whole numbers: units on one side of zero, or these times something. What a step gives
--- is at most what it is given and a surplus, or at least that but for a lack; these add up. Assumes nothing.
+-- is at most what it is given and a surplus, or at least that but for a lack; these add up. Counted in 2^57ths, of which a step's 2^53rd part is 16,
+-- the sum's three steps err by less than 49 upwards and 50 downwards, the weight's two by less than 33 and the quotient by 16: in all by less than 128, a
+-- 2^50th. Assumes nothing.
 use mathlib.Core.Path.{_≡_, ap}
 use Prim.Native.Nat.{ℕ, _+_, _-_, _*_, _^_, _≤_, _<_}
 use native.Mathlib.Nat.{mul-le-mul-left, mul-le-mul-right, le-of-mul-le-mul-right}
@@ -12,10 +14,10 @@ use Rattle.number.proofs.Rounding.{Most, Least}
 abbrev pub m : ℕ
 m = 2 ^ 57
 
-module _ (s x r t : ℕ) (h : 2 ^ 53 * s ≤ 2 ^ 53 * x + (r + 2 ^ 52 * t)) where
-  over : s ≤ x + (s - x)
-  over = omega arith
+covers : (u v : ℕ) → u ≤ v + (u - v)
+covers u v = omega arith
 
+module _ (s x r t : ℕ) (h : 2 ^ 53 * s ≤ 2 ^ 53 * x + (r + 2 ^ 52 * t)) where
   small : 2 * (m * (s - x)) ≤ 32 * r + m * t
   small = omega (arith, h)
 
@@ -37,13 +39,13 @@ module _ (a b d y e p q : ℕ) where
   pub sum-most : Most b a p → Most d b q → Most e (y + d) q
       → m * e ≤ (m + 49) * (y + a) + (m + 64) * (q + 2 * p)
   sum-most f g h =
-      surplus m a b d y e p q (b - a) (d - b) (e - (y + d)) (over b a a p f) (over d b b q g) (over e (y + d) (y + d) q h)
+      surplus m a b d y e p q (b - a) (d - b) (e - (y + d)) (covers b a) (covers d b) (covers e (y + d))
       (small b a a p f) (small d b b q g) (small e (y + d) (y + d) q h) (few b a a p f) (few d b b q g)
 
   pub sum-least : Least b a p → Least d b q → Least e (y + d) q
       → m * (y + a) ≤ (m + 50) * e + (m + 256) * (q + 2 * p)
   sum-least f g h =
-      lack m a b d y e p q (a - b) (b - d) (y + d - e) (over a b a p f) (over b d b q g) (over (y + d) e (y + d) q h)
+      lack m a b d y e p q (a - b) (b - d) (y + d - e) (covers a b) (covers b d) (covers (y + d) e)
       (small a b a p f) (small b d b q g) (small (y + d) e (y + d) q h) (few a b a p f) (few b d b q g) (few (y + d) e (y + d) q h)
 
 -- a step's bound times p, and one of a sum times q
@@ -89,9 +91,6 @@ module _ (u v w : ℕ) where
 
   sum-short : m * v ≤ (m + 50) * u + (m + 256) * w → m * (v - u) ≤ 50 * u + (m + 256) * w
   sum-short h = omega (arith, h)
-
-covers : (u v : ℕ) → u ≤ v + (u - v)
-covers u v = omega arith
 
 out : (a x n d : ℕ) → m * (a * x) ≤ (m + 128) * (a * n) + 2 * (m * (a * d)) → 2 ^ 50 * x * a ≤ ((2 ^ 50 + 1) * n + 2 ^ 51 * d) * a
 out a x n d h = omega (arith, h)
