@@ -184,8 +184,8 @@ uint8_t fuavelino_psnr_hvs_v16(const uint16_t *a, size_t a_len, const uint16_t *
 #define fuavelino_psnr_hvs_u_16 fuavelino_psnr_hvs_u16
 #define fuavelino_psnr_hvs_v_16 fuavelino_psnr_hvs_v16
 
-/* Scores of three planes with chroma weight c, 0 to 1. SSIM: y + c * (u + v), and 1 + 2c. HVS: (1 + 2c) * (y + c * (u + v)).
- * Refuse 13, then 9. */
+/* Scores of three planes with chroma weight c, 0 to 1. SSIM: y + c * (u + v), and 1 + 2c. HVS: the average, (y + c * (u + v)) / (1 + 2c),
+ * where av-metrics multiplies. Refuse 13, then 9. */
 uint8_t fuavelino_combine_ssim(double c, double y, double u, double v, double *sum, double *weight);
 uint8_t fuavelino_combine_hvs(double c, double y, double u, double v, double *score);
 

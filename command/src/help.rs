@@ -28,8 +28,8 @@ fuavelino: compares a decoded video with its original, and passes only what is s
       --min-scale X      SSIM of each of the five scales, at least X
       --min-msssim X     MS-SSIM, at least X
       --min-msssim-db X  MS-SSIM in decibels, at least X
-      --max-hvs X        PSNR-HVS score, at most X; the combination, which is scaled, only by combined=X
-      --min-hvs-db X     PSNR-HVS in decibels, at least X; the combination likewise
+      --max-hvs X        PSNR-HVS score, at most X
+      --min-hvs-db X     PSNR-HVS in decibels, at least X
       --run-max-error X, --run-min-psnr X, --run-min-ssim X, --run-min-cs X, --run-min-ssim-db X, --run-min-scale X,
       --run-min-msssim X, --run-min-msssim-db X, --run-max-hvs X, --run-min-hvs-db X
                          the same of the whole run's figures

@@ -83,13 +83,9 @@ impl Threshold {
         self.plane.map_or(false, |plane| !there(plane))
     }
 
-    /// Without a plane's name it holds for each and for their combination; but that of PSNR-HVS is scaled, so that one limit
-    /// cannot suit both.
+    /// Without a plane's name it holds for each and for their combination.
     fn holds_for(&self, plane: &str) -> bool {
-        match self.plane {
-            Some(own) => own == plane,
-            None => plane != COMBINED || !matches!(self.kind.figure, Figure::Hvs | Figure::HvsDb),
-        }
+        self.plane.map_or(true, |own| own == plane)
     }
 }
 
@@ -227,14 +223,25 @@ mod tests {
     #[test]
     fn a_plane_that_is_named_is_judged_alone() {
         let bad = |hvs| Scores { hvs: Some(hvs), ..Scores::default() };
-        let scores = FrameScores { planes: vec![bad(3.0), bad(2.0), bad(4.0)], combined: bad(9.0) };
+        let scores = FrameScores { planes: vec![bad(3.0), bad(2.0), bad(4.0)], combined: bad(3.5) };
         let planes = |plane, limit| -> Vec<&str> {
             let held = Threshold { plane, ..threshold("--max-hvs", limit) };
             broken(&[held], Some(7), &scores).iter().map(|one| one.plane).collect()
         };
-        assert_eq!(planes(None, 2.5), ["y", "v"]);
+        assert_eq!(planes(None, 2.5), ["y", "v", "combined"]);
         assert_eq!(planes(Some("u"), 1.5), ["u"]);
-        assert_eq!(planes(Some("combined"), 8.0), ["combined"]);
-        assert!(planes(Some("combined"), 9.0).is_empty() && planes(Some("v"), 4.0).is_empty());
+        assert_eq!(planes(Some("combined"), 3.0), ["combined"]);
+        assert!(planes(Some("combined"), 3.5).is_empty() && planes(Some("v"), 4.0).is_empty());
+    }
+
+    /// No option passes over the combination.
+    #[test]
+    fn without_a_name_the_combination_is_judged_too() {
+        let alone = FrameScores { planes: vec![], combined: Scores::default() };
+        for kind in &KINDS {
+            let held = Threshold { kind, run: false, plane: None, limit: 0.0 };
+            let list = broken(&[held], Some(0), &alone);
+            assert!(!list.is_empty() && list.iter().all(|one| one.plane == COMBINED), "{}", held.option());
+        }
     }
 }

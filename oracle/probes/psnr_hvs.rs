@@ -20,12 +20,7 @@ pub fn probe_tables() -> [[[f64; 8]; 8]; 3] {
     [CSF_Y, CSF_CB420, CSF_CR420]
 }
 
-/// The product that `log10_convert` makes of the frame function's sum and weight. Nothing gives it bare, so it is written again.
-pub fn probe_combined(c: f64, [y, u, v]: [f64; 3]) -> f64 {
-    (1.0 + 2.0 * c) * (y + c * (u + v))
-}
-
-/// The decibels of a combined score.
+/// The decibels of a score. Of a combined one the product's is another than the published, weight × sum, which nothing gives bare.
 pub fn probe_decibels(score: f64) -> f64 {
     log10_convert(score, 1.0)
 }

@@ -1,10 +1,13 @@
-//! The published scores of two Y4M files, for comparison with the command's report.
+//! The published scores of two Y4M files, for comparison with the command's report. One figure is not the published one, combined PSNR-HVS with its
+//! decibels: the Rust multiplies by 1 + 2c, where an average must divide. It is given here by its rule (`averaged.rs`).
 //!
 //! clip ORIGINAL DECODED: prints `SCOPE PLANE FIELD BITS` for each figure; SCOPE is a frame's number, or run. The files are
 //! the tests' own, so that they are trusted to be sound.
 
+mod averaged;
 mod five;
 
+use averaged::averaged;
 use published::plane::Plane;
 use published::video::pixel::Pixel;
 use published::video::{psnr, psnr_hvs, ssim};
@@ -175,16 +178,16 @@ fn seen(scope: &str, plane: &str, score: f64) {
     }
 }
 
-/// The Rust's weighted sums: over the weight for SSIM, times the weight for PSNR-HVS.
+/// The Rust's weighted sums over their weight, for SSIM and its like. For PSNR-HVS the rule's average of the sums, over the count: not the Rust's.
 fn combined(scope: &str, planes: &[Vec<f64>], weight: f64, count: f64) {
     for (at, field) in FIELDS.iter().enumerate() {
-        let of = |plane: usize| planes.get(plane).map_or(0.0, |list| list[at]);
-        let sum = of(0) + weight * (of(1) + of(2));
-        let whole = 1.0 + 2.0 * weight;
+        let [y, u, v] = [0, 1, 2].map(|plane: usize| planes.get(plane).map_or(0.0, |list| list[at]));
         if *field == "hvs" {
-            line(scope, "combined", field, whole * sum / count);
-            seen(scope, "combined", whole * sum / count);
+            let score = averaged(weight, [y, u, v]) / count;
+            line(scope, "combined", field, score);
+            seen(scope, "combined", score);
         } else {
+            let (sum, whole) = (y + weight * (u + v), 1.0 + 2.0 * weight);
             line(scope, "combined", field, sum / (whole * count));
             decibels(scope, "combined", field, sum, whole * count);
         }

@@ -1,6 +1,13 @@
-//! Combining the scores of three planes, for SSIM and for HVS: the published expressions, bit for bit, and the model's refusals. What the
-//! published code gives are decibels only; those made of the product's figures must be those that it gives itself.
+//! Combining the scores of three planes. Of SSIM the published expressions, bit for bit, and the model's refusals. What the published code gives
+//! are decibels only; those made of the product's figures must be those that it gives itself.
+//!
+//! Combined HVS is the one figure that is not the published one: the Rust multiplies the weighted sum by its weight, where an average must divide.
+//! It is compared with its rule (`averaged.rs`), and nothing else leaves the comparison. The published decibels of HVS must be those of
+//! weight × sum, for the pair that the product gives of the same scores: so the two differ in the last step alone.
 
+use crate::averaged::averaged;
+use crate::combine_laws::{among, Equals};
+use crate::combine_ways::{Met, AVERAGES, PAIRS, SHARP};
 use crate::family::{number, run, Family, Run};
 use crate::random::Random;
 use fuavelino::no_alloc;
@@ -61,17 +68,14 @@ pub fn compare(ask: Run) -> bool {
         println!("combine: FAILED: {}", why);
         return false;
     }
-    let mut sums = Sums { told: vec![0; WAYS.len()] };
+    let mut sums = Sums::default();
     let cases = if ask.full { 80_000_000 } else { 4_000_000 };
     if !run("combine", &mut sums, cases, ask) {
         return false;
     }
-    let counted = WAYS.iter().zip(&sums.told);
-    let untold: Vec<&str> = counted.filter(|(_, told)| **told == 0).map(|(way, _)| way.0).collect();
-    if !untold.is_empty() {
-        println!("combine: FAILED: no case tells the published steps from {}", untold.join(", "));
-    }
-    untold.is_empty()
+    let said = sums.enough().and_then(|()| sums.equals.tell());
+    println!("combine: {}", said.as_ref().map_or_else(|why| format!("FAILED: {}", why), String::clone));
+    said.is_ok()
 }
 
 /// A call with the bits of its four numbers.
@@ -106,17 +110,14 @@ impl Case {
         (number(said), places.map(f64::to_bits))
     }
 
-    /// What the rules and the published expressions say.
+    /// What the rules say: of SSIM by the published expressions, of HVS by its own.
     fn wanted(&self) -> (u8, Left) {
         let (c, scores) = self.numbers();
         if !(0.0..=1.0).contains(&c) || scores.iter().any(|s| !s.is_finite()) {
             return (WEIGHT, BEFORE);
         }
-        let (first, second) = if self.hvs {
-            (psnr_hvs::probe_combined(c, scores), f64::from_bits(BEFORE[1]))
-        } else {
-            ssim::probe_combined(c, scores)
-        };
+        let (first, second) =
+            if self.hvs { (averaged(c, scores), f64::from_bits(BEFORE[1])) } else { ssim::probe_combined(c, scores) };
         if first.is_finite() && (self.hvs || second.is_finite()) {
             (0, [first.to_bits(), second.to_bits()])
         } else {
@@ -124,47 +125,118 @@ impl Case {
         }
     }
 
-    /// Decibels of what the product gave, and those that the published code gives for the same scores.
-    fn decibels(&self, [first, second]: Left) -> (f64, f64) {
-        let (c, scores) = self.numbers();
-        let [first, second] = [first, second].map(f64::from_bits);
-        if self.hvs {
-            (psnr_hvs::probe_decibels(first), psnr_hvs::probe_aggregate(c, scores))
-        } else {
-            (ssim::probe_decibels(first, second), ssim::probe_aggregate(c, scores))
+    /// The product's answer is the one wanted, to the bit.
+    fn answer(&self) -> Result<(u8, Left), String> {
+        let (answer, left) = self.asked();
+        let (wanted, then) = self.wanted();
+        if (answer, left) == (wanted, then) {
+            return Ok((answer, left));
         }
+        Err(format!("answered {} and left {}, not {} and {}", answer, hex(&left), wanted, hex(&then)))
+    }
+
+    /// The sum and the weight that the product gives of the same scores, whichever call this is: both calls refuse alike.
+    fn pair(&self, answer: u8) -> Result<[f64; 2], String> {
+        let (said, pair) = Case { hvs: false, ..*self }.answer()?;
+        if said == answer {
+            return Ok(pair.map(f64::from_bits));
+        }
+        Err(format!("answered {}, where the pair is answered {}", answer, said))
+    }
+
+    /// The published code's decibels of a sum and its weight. Of HVS this is the last step as the Rust has it, and not the product's.
+    fn decibels(&self, [sum, weight]: [f64; 2]) -> f64 {
+        if self.hvs {
+            psnr_hvs::probe_decibels(weight * sum)
+        } else {
+            ssim::probe_decibels(sum, weight)
+        }
+    }
+
+    /// The decibels that the published code gives for these scores.
+    fn published(&self) -> f64 {
+        let (c, scores) = self.numbers();
+        if self.hvs {
+            psnr_hvs::probe_aggregate(c, scores)
+        } else {
+            ssim::probe_aggregate(c, scores)
+        }
+    }
+
+    /// These published decibels are those of the product's pair.
+    fn agrees(&self, pair: [f64; 2], published: f64) -> Result<(), String> {
+        let ours = self.decibels(pair);
+        if same(ours, published) {
+            return Ok(());
+        }
+        Err(format!("the pair {:?} is {} decibels, published {}", pair, ours, published))
+    }
+
+    /// What must hold of an average besides: u and v can change places, it is the pair's quotient, and it lies among the three.
+    fn average(&self, (answer, left): (u8, Left), [sum, weight]: [f64; 2]) -> Result<(), String> {
+        let [y, u, v] = self.scores;
+        if (Case { scores: [y, v, u], ..*self }).asked() != (answer, left) {
+            return Err("with u and v exchanged it is another".to_string());
+        }
+        let score = f64::from_bits(left[0]);
+        if answer == 0 && (sum / weight).to_bits() != left[0] {
+            return Err(format!("{:?} is not the quotient of its pair, {:?} and {:?}", score, sum, weight));
+        }
+        if answer == 0 && !among(score, self.numbers().1) {
+            return Err(format!("{:?} does not lie among the three", score));
+        }
+        Ok(())
     }
 }
 
-/// The steps with one thing done otherwise: the sum, then the weight.
-type Way = (&'static str, fn(f64, [f64; 3]) -> (f64, f64));
-
-const WAYS: [Way; 5] = [
-    ("a weight for each", |c, [y, u, v]| (y + (c * u + c * v), 1.0 + 2.0 * c)),
-    ("y and u first", |c, [y, u, v]| (y + c * u + c * v, 1.0 + 2.0 * c)),
-    ("a fused sum", |c, [y, u, v]| (c.mul_add(u + v, y), 1.0 + 2.0 * c)),
-    ("the weight of u alone", |c, [y, u, v]| (y + (c * u + v), 1.0 + 2.0 * c)),
-    ("1 + c", |c, [y, u, v]| (y + c * (u + v), 1.0 + c)),
-];
-
-/// How many cases told each way from the published one.
+/// How many cases told each way from ours, by a finite number that is another, and were each of the sharp ones; and what became of equal scores.
+#[derive(Default)]
 struct Sums {
-    told: Vec<u64>,
+    pairs: [u64; PAIRS.len()],
+    averages: [u64; AVERAGES.len()],
+    sharp: [u64; SHARP.len()],
+    equals: Equals,
 }
 
 impl Sums {
-    fn count(&mut self, case: &Case, [first, second]: Left) {
+    fn count(&mut self, case: &Case, answer: u8, left: Left) {
         let (c, scores) = case.numbers();
-        for (told, way) in self.told.iter_mut().zip(WAYS) {
-            let (sum, weight) = way.1(c, scores);
-            let differs = if case.hvs {
-                (weight * sum).to_bits() != first
-            } else {
-                [sum, weight].map(f64::to_bits) != [first, second]
-            };
-            *told += u64::from(differs);
+        let [score, weight] = left.map(f64::from_bits);
+        if case.hvs {
+            self.average(&Met { c, scores, answer, score });
+        } else if answer == 0 {
+            let told = |given: [f64; 2]| given.iter().all(|x| x.is_finite()) && given != [score, weight];
+            add(&mut self.pairs, PAIRS.iter().map(|way| told(way.1(c, scores))));
         }
     }
+
+    fn average(&mut self, met: &Met) {
+        add(&mut self.sharp, SHARP.iter().map(|sharp| sharp.1(met)));
+        if met.answer == 0 {
+            let told = |given: f64| given.is_finite() && given != met.score;
+            add(&mut self.averages, AVERAGES.iter().map(|way| told(way.1(met.c, met.scores))));
+            self.equals.count(met.c, met.scores, met.score);
+        }
+    }
+
+    /// Each way was told from ours, and each sharp case met.
+    fn enough(&self) -> Result<(), String> {
+        let none = |names: Vec<&'static str>, counts: &[u64], what: &str| {
+            let lacking = names.into_iter().zip(counts).filter(|(_, n)| **n == 0).map(|(name, _)| name);
+            match &lacking.collect::<Vec<&str>>()[..] {
+                [] => Ok(()),
+                list => Err(format!("no case {} {}", what, list.join(", "))),
+            }
+        };
+        none(PAIRS.iter().map(|way| way.0).collect(), &self.pairs, "tells the published steps from")?;
+        none(AVERAGES.iter().map(|way| way.0).collect(), &self.averages, "tells the rule's steps from")?;
+        none(SHARP.iter().map(|sharp| sharp.0).collect(), &self.sharp, "is")
+    }
+}
+
+/// One more for each that was seen.
+fn add(counts: &mut [u64], seen: impl Iterator<Item = bool>) {
+    counts.iter_mut().zip(seen).for_each(|(n, seen)| *n += u64::from(seen));
 }
 
 impl Family for Sums {
@@ -185,24 +257,24 @@ impl Family for Sums {
             return Case { hvs, c, scores };
         }
         let kind = r.below(KINDS);
+        if r.once_in(8) {
+            return Case { hvs, c: weight(r), scores: [score(r, kind); 3] };
+        }
         let mixed = r.once_in(3);
         let scores = scores.map(|_| if mixed { any(r) } else { score(r, kind) });
         Case { hvs, c: weight(r), scores }
     }
 
     fn judge(&mut self, case: &Case) -> Result<u8, String> {
-        let (answer, left) = case.asked();
-        let (wanted, then) = case.wanted();
-        if (answer, left) != (wanted, then) {
-            return Err(format!("answered {} and left {}, not {} and {}", answer, hex(&left), wanted, hex(&then)));
-        }
+        let (answer, left) = case.answer()?;
+        let pair = case.pair(answer)?;
         if answer == 0 {
-            let (ours, published) = case.decibels(left);
-            if !same(ours, published) {
-                return Err(format!("{} decibels, published {}", ours, published));
-            }
-            self.count(case, left);
+            case.agrees(pair, case.published())?;
         }
+        if case.hvs {
+            case.average((answer, left), pair)?;
+        }
+        self.count(case, answer, left);
         Ok(answer)
     }
 
@@ -287,32 +359,40 @@ fn score(r: &mut Random, kind: usize) -> u64 {
 }
 
 /// The published weight of each sampling.
-const SAMPLINGS: [(ChromaSampling, f64); 4] = [
-    (ChromaSampling::Cs400, 0.0),
-    (ChromaSampling::Cs420, 0.25),
-    (ChromaSampling::Cs422, 0.5),
-    (ChromaSampling::Cs444, 1.0),
+const SAMPLINGS: [(ChromaSampling, f64, &str); 4] = [
+    (ChromaSampling::Cs400, 0.0, "400"),
+    (ChromaSampling::Cs420, 0.25, "420"),
+    (ChromaSampling::Cs422, 0.5, "422"),
+    (ChromaSampling::Cs444, 1.0, "444"),
 ];
+
+/// By how much the product's decibels of HVS are above the published ones, as last seen under each sampling.
+type Shifts = [Option<f64>; SAMPLINGS.len()];
 
 /// Whole frames through the published frame functions.
 fn frames(ask: Run) -> Result<(), String> {
     let count = if ask.full { 20_000 } else { 1_000 };
+    let mut shifts = Shifts::default();
     for number in 0..count {
         let r = &mut Random::of(ask.seed, "frames", number);
         let told = if r.once_in(2) {
-            frame(r, 8, |s| s as u8)
+            frame(r, &mut shifts, 8, |s| s as u8)
         } else {
             let depth = r.within(9, 12);
-            frame(r, depth, |s| s)
+            frame(r, &mut shifts, depth, |s| s)
         };
         told.map_err(|why| format!("frame {} of seed {}: {}", number, ask.seed, why))?;
     }
-    println!("combine: the decibels of {} frames are those of the combined scores", count);
+    println!("combine: the published decibels of {} frames are those of the product's pairs", count);
+    let names = SAMPLINGS.map(|(_, _, name)| name).into_iter();
+    let words = names.zip(shifts).map(|(name, shift)| shift.map(|above| format!("{}: {:.2}", name, above)));
+    let words = words.collect::<Option<Vec<String>>>().ok_or("HVS sees no error in any frame")?;
+    println!("combine: HVS is above the published decibels by 20 × log10(1 + 2c) ({})", words.join(", "));
     Ok(())
 }
 
 /// Two frames that differ in some samples, under each sampling's weight, in both scores.
-fn frame<T: Pixel>(r: &mut Random, depth: usize, cast: fn(u16) -> T) -> Result<(), String> {
+fn frame<T: Pixel>(r: &mut Random, shifts: &mut Shifts, depth: usize, cast: fn(u16) -> T) -> Result<(), String> {
     let (width, height) = (r.within(8, 20), r.within(8, 20));
     let often = r.within(1, 9);
     let sample = |r: &mut Random| r.below(1 << depth) as u16;
@@ -324,21 +404,34 @@ fn frame<T: Pixel>(r: &mut Random, depth: usize, cast: fn(u16) -> T) -> Result<(
     let [a, b] = [first, second].map(|lists| Frame {
         planes: lists.map(|list| Plane::new(list.into_iter().map(cast).collect(), width, height)),
     });
-    for (sampling, c) in SAMPLINGS {
+    for ((sampling, c, _), shift) in SAMPLINGS.into_iter().zip(shifts) {
         let avg = ssim::calculate_frame_ssim(&a, &b, depth, sampling).map_err(|e| e.to_string())?.avg;
-        agrees(Case::of(false, c, ssim::probe_scores(&a, &b, depth)), avg)?;
+        framed(Case::of(false, c, ssim::probe_scores(&a, &b, depth)), avg)?;
         let avg = psnr_hvs::calculate_frame_psnr_hvs(&a, &b, depth, sampling).map_err(|e| e.to_string())?.avg;
-        agrees(Case::of(true, c, psnr_hvs::probe_scores(&a, &b, depth)), avg)?;
+        let ours = framed(Case::of(true, c, psnr_hvs::probe_scores(&a, &b, depth)), avg)?;
+        *shift = shifted(c, psnr_hvs::probe_decibels(ours), avg)?.or(*shift);
     }
     Ok(())
 }
 
-/// The decibels of what the product gives are these.
-fn agrees(case: Case, published: f64) -> Result<(), String> {
-    let (answer, left) = case.asked();
-    let (ours, _) = case.decibels(left);
-    if answer == 0 && same(ours, published) {
-        return Ok(());
+/// The first figure that the product gives, if it is the one wanted and the published decibels are those of its pair.
+fn framed(case: Case, published: f64) -> Result<f64, String> {
+    let (answer, left) = case.answer()?;
+    case.agrees(case.pair(answer)?, published)?;
+    match answer {
+        0 => Ok(f64::from_bits(left[0])),
+        _ => Err(format!("hvs {}: answered {}", case.hvs, answer)),
     }
-    Err(format!("hvs {}: answered {}, {} decibels, published {}", case.hvs, answer, ours, published))
+}
+
+/// How much the decibels of an average are above the published ones: as much as its weight, squared, comes to. None where no error is seen.
+fn shifted(c: f64, ours: f64, published: f64) -> Result<Option<f64>, String> {
+    let (shift, owed) = (ours - published, 20.0 * (1.0 + 2.0 * c).log10());
+    if !published.is_finite() {
+        return Ok(None);
+    }
+    if (shift - owed).abs() < 1e-9 {
+        return Ok(Some(shift));
+    }
+    Err(format!("under {} the decibels are {} above the published ones, not {}", c, shift, owed))
 }

@@ -2,8 +2,11 @@
 //!
 //! judge [--full] [--seed N] [FAMILY..]
 
+mod averaged;
 mod charted;
 mod combine;
+mod combine_laws;
+mod combine_ways;
 mod downscale;
 mod family;
 mod five;

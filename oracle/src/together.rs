@@ -1,6 +1,8 @@
 //! Whole frames through every call of the bindings, in one scratch for all cases: each plane's scores, their combination, and the decibels
-//! of the frame functions, against the published Rust of the unpadded copies, bit for bit.
+//! of the frame functions, against the published Rust of the unpadded copies, bit for bit. One figure is not the published one, combined HVS: it is
+//! compared with its rule (`averaged.rs`), and the published one with the product's pair, multiplied as the Rust does.
 
+use crate::averaged::averaged;
 use crate::family::{run, Family, Run};
 use crate::heights::{self, HEIGHTS};
 use crate::hvs;
@@ -273,7 +275,8 @@ fn combined(c: &Case, scores: &Scores) -> Result<(), String> {
     same("combined SSIM", pair, Ok(ssim::probe_combined(weight, [y, u, v])))?;
     if let Some(list) = scores.hvs.iter().copied().collect::<Option<Vec<f64>>>() {
         let [y, u, v] = three(&list);
-        same("combined HVS", fuavelino::combine_hvs(weight, y, u, v), Ok(psnr_hvs::probe_combined(weight, [y, u, v])))?;
+        let score = fuavelino::combine_hvs(weight, y, u, v).map(f64::to_bits);
+        same("combined HVS", score, Ok(averaged(weight, [y, u, v]).to_bits()))?;
     }
     let sum = scores.records.iter().fold((0.0, 0), |sum, r| (sum.0 + r.sq_err, sum.1 + r.n_pixels));
     let total = fuavelino::series(&scores.records).map(|t| (t.sq_err, t.n_pixels));
@@ -388,10 +391,18 @@ fn seen<T: Sample + Pixel>(
     }
     let m = psnr_hvs::calculate_frame_psnr_hvs(&theirs[0], &theirs[1], depth, published).map_err(|e| e.to_string())?;
     let list = three(&scores.hvs.iter().flatten().copied().collect::<Vec<f64>>());
+    let weight = sampling.get_chroma_weight();
+    same("published frame HVS", bits(multiplied(weight, list)?), bits(m.avg))?;
     let settled = |score: f64, decibels: f64| Some(if score == 0.0 { PERFECT } else { decibels });
-    let all = psnr_hvs::probe_combined(sampling.get_chroma_weight(), list);
+    let all = averaged(weight, list);
     // where there is one plane, the published u and v are of its samples under other tables
     let [u, v] = if c.planes.len() == 1 { [m.y; 2] } else { [m.u, m.v] };
     let planes = [settled(list[0], m.y), settled(list[1], u), settled(list[2], v)];
-    agreed("frame HVS", said, owed(planes, settled(all, m.avg)))
+    agreed("frame HVS", said, owed(planes, settled(all, psnr_hvs::probe_decibels(all))))
+}
+
+/// The decibels of the product's pair with the Rust's last step, by which alone the two differ.
+fn multiplied(weight: f64, [y, u, v]: [f64; 3]) -> Result<f64, String> {
+    let (sum, whole) = fuavelino::combine_ssim(weight, y, u, v).map_err(|e| e.to_string())?;
+    Ok(psnr_hvs::probe_decibels(whole * sum))
 }

@@ -481,10 +481,13 @@ static void combining(void) {
     EXPECT(CALL(fuavelino_combine_ssim, (1.5, 1, 1, 1, &sum, &weight)) == FUAVELINO_WEIGHT);
     EXPECT(CALL(fuavelino_combine_ssim, (1, high, high, 0, &sum, &weight)) == FUAVELINO_NOT_FINITE);
     EXPECT(CALL(fuavelino_combine_hvs, (0.5, HUGE_VAL, 1, 1, &score)) == FUAVELINO_WEIGHT);
-    EXPECT(CALL(fuavelino_combine_hvs, (1, high, 0, 0, &score)) == FUAVELINO_NOT_FINITE);
+    EXPECT(CALL(fuavelino_combine_hvs, (1, high, high, 0, &score)) == FUAVELINO_NOT_FINITE);
+    EXPECT(CALL(fuavelino_combine_hvs, (0, 1, high, high, &score)) == FUAVELINO_NOT_FINITE);
     EXPECT(sum == -7.25 && weight == -8.5 && score == -9.75);
     EXPECT(CALL(fuavelino_combine_ssim, (0.25, 1, 0.5, 0.5, &sum, &weight)) == 0 && sum == 1.25 && weight == 1.5);
-    EXPECT(CALL(fuavelino_combine_hvs, (0.5, 1, 2, 2, &score)) == 0 && score == 6);
+    EXPECT(CALL(fuavelino_combine_hvs, (0.5, 1, 2, 2, &score)) == 0 && score == 1.5);
+    /* what would overflow if it were multiplied by 1 + 2c */
+    EXPECT(CALL(fuavelino_combine_hvs, (1, high, 0, 0, &score)) == 0 && score == high / 3);
 }
 
 static void transform(void) {

@@ -1,10 +1,10 @@
 //! Plane-level video quality scores that cannot mislead a gate: a finite score, or a numbered [`Refusal`].
 //!
 //! These are the calls of `libfuavelino.a`, in which each function is proved to meet its contract: safe for whatever it is lent, with the
-//! exact conditions under which it refuses, and with the numbers of the published av-metrics 0.9.1, bit for bit, for planes with no padding.
-//! No caller checks first. Where two planes differ, [`first_difference`] and [`error_map`] say. What this crate adds to the library, and so is
-//! tested and not proved, is little: slices and scratch are lent for you, a [`Kernel`] that is not in the library's chart is built, and [`video`] has
-//! the decibels of av-metrics' own frame functions.
+//! exact conditions under which it refuses, and with the numbers of the published av-metrics 0.9.1, bit for bit, for planes with no padding. Only
+//! [`combine_hvs`] gives another: an average, where av-metrics multiplies. No caller checks first. Where two planes differ, [`first_difference`]
+//! and [`error_map`] say. What this crate adds to the library, and so is tested and not proved, is little: slices and scratch are lent for you, a
+//! [`Kernel`] that is not in the library's chart is built, and [`video`] has the decibels of av-metrics' own frame functions.
 //!
 //! ```
 //! use fuavelino::{psnr_hvs, squared_error, ssim, Kernel, Plane, PlaneKind, Refusal, Scratch, Shape};

@@ -166,7 +166,7 @@ pub fn combine_ssim(c: f64, y: f64, u: f64, v: f64, sum: &mut f64, weight: &mut 
     outcome(exports::combine_ssim(c, y, u, v, sum, weight))
 }
 
-/// PSNR-HVS of three planes with chroma weight `c`: (1 + 2c) × (y + c × (u + v)). Refuses 13, then 9.
+/// PSNR-HVS of three planes with chroma weight `c`: (y + c × (u + v)) / (1 + 2c). Refuses 13, then 9.
 #[inline]
 pub fn combine_hvs(c: f64, y: f64, u: f64, v: f64, score: &mut f64) -> Result<(), Refusal> {
     outcome(exports::combine_hvs(c, y, u, v, score))

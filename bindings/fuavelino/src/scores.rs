@@ -139,10 +139,18 @@ pub fn combine_ssim(c: f64, y: f64, u: f64, v: f64) -> Result<(f64, f64), Refusa
     Ok((sum, weight))
 }
 
-/// PSNR-HVS of three planes with chroma weight `c`: (1 + 2c) × (y + c × (u + v)). Refuses 13, then 9.
+/// PSNR-HVS of three planes with chroma weight `c`: their average, (y + c × (u + v)) / (1 + 2c). Refuses 13, then 9, exactly where
+/// [`combine_ssim`] does for the same numbers.
+///
+/// It lies between the least and the largest of the three up to rounding: of three equal scores it is that score, or a few units in the last place
+/// off. av-metrics multiplies by 1 + 2c, where this divides.
 ///
 /// ```
-/// assert_eq!(fuavelino::combine_hvs(0.5, 1.0, 2.0, 2.0), Ok(6.0));
+/// use fuavelino::{combine_hvs, Refusal};
+///
+/// assert_eq!(combine_hvs(0.5, 1.0, 2.0, 2.0), Ok(1.5));
+/// assert_eq!(combine_hvs(0.25, 0.75, 0.75, 0.75), Ok(0.75));
+/// assert_eq!(combine_hvs(1.5, 1.0, 2.0, 2.0), Err(Refusal::Weight));
 /// ```
 pub fn combine_hvs(c: f64, y: f64, u: f64, v: f64) -> Result<f64, Refusal> {
     let mut score = 0.0;

@@ -6,7 +6,7 @@ use fuavelino::video::ssim::{calculate_frame_msssim, calculate_frame_ssim, calcu
 use fuavelino::video::{
     psnr, psnr_hvs, ssim, ChromaSampling, Field, Frame, MetricsError, PlanarMetrics, Plane, PlaneConfig,
 };
-use fuavelino::{PsnrMetrics, Refusal, Sample, Scratch};
+use fuavelino::{PlaneKind, PsnrMetrics, Refusal, Sample, Scratch, Shape};
 
 const SIDE: usize = 32;
 const EVERY: [ChromaSampling; 4] =
@@ -61,6 +61,30 @@ fn turned_over_is_no_number() {
     let good = |f: f64| f >= 20.0;
     for figures in [psnr, ssim, hvs].map(Result::unwrap) {
         assert!(![figures.y, figures.u, figures.v, figures.avg].iter().any(|f| good(*f)));
+    }
+}
+
+/// PSNR-HVS of the three is an average: it lies among its planes, and is as far above av-metrics' figure, which multiplies, as is said.
+#[test]
+fn hvs_of_the_three_is_an_average() {
+    let shape = Shape { width: SIDE, height: SIDE, bit_depth: 8 };
+    let (a, b) = (lively(0), [lively(1), lively(2), lively(3)]);
+    let other = Frame { planes: [plane(&b[0]), plane(&b[1]), plane(&b[2])] };
+    let score = |i: usize, kind| {
+        let [a, b] = [&a, &b[i]].map(|data| fuavelino::Plane { data: &data[..], stride: SIDE });
+        fuavelino::psnr_hvs(a, b, shape, kind).unwrap()
+    };
+    let [y, u, v] = [score(0, PlaneKind::Y), score(1, PlaneKind::U), score(2, PlaneKind::V)];
+    for (sampling, c, above) in
+        [(ChromaSampling::Cs420, 0.25, 3.52), (ChromaSampling::Cs422, 0.5, 6.02), (ChromaSampling::Cs444, 1.0, 9.54)]
+    {
+        let figures = calculate_frame_psnr_hvs(&frame(&a), &other, 8, sampling).unwrap();
+        let (low, high) = (figures.y.min(figures.u).min(figures.v), figures.y.max(figures.u).max(figures.v));
+        assert!(low < figures.avg && figures.avg < high, "{:?}", figures);
+        let (sum, weight) = (y + c * (u + v), 1.0 + 2.0 * c);
+        assert_eq!(Some(figures.avg.to_bits()), psnr_hvs::decibels(sum / weight).map(f64::to_bits));
+        let moved = figures.avg - psnr_hvs::decibels(weight * sum).unwrap();
+        assert_eq!(format!("{:.2}", moved), format!("{:.2}", above));
     }
 }
 

@@ -205,8 +205,13 @@ fn combining() {
     let (mut sum, mut weight, mut score) = (3.0, 4.0, 5.0);
     let high = f64::MAX;
     assert_eq!(no_alloc::combine_ssim(1.0, high, high, 0.0, &mut sum, &mut weight), Err(Refusal::NotFinite));
-    assert_eq!(no_alloc::combine_hvs(1.0, high, 0.0, 0.0, &mut score), Err(Refusal::NotFinite));
+    assert_eq!(no_alloc::combine_hvs(1.0, high, high, 0.0, &mut score), Err(Refusal::NotFinite));
+    // 0 times an infinite sum is not a number
+    assert_eq!(no_alloc::combine_hvs(0.0, 1.0, high, high, &mut score), Err(Refusal::NotFinite));
     assert_eq!((sum, weight, score), (3.0, 4.0, 5.0));
+    // what would overflow if it were multiplied by 1 + 2c
+    assert_eq!(combine_hvs(1.0, high, 0.0, 0.0), Ok(high / 3.0));
+    assert_eq!(combine_hvs(-0.0, 1.0, 9.0, 9.0), Ok(1.0));
     assert_eq!(combine_ssim(-0.0, 1.0, 9.0, 9.0), Ok((1.0, 1.0)));
 }
 

@@ -32,16 +32,13 @@ fn files(room: &Room) -> [OsString; 3] {
     [OsString::from("compare"), room.file("a.y4m", &a), room.file("b.y4m", &b)]
 }
 
-/// The worst figure in these frames or in the run, of one plane where it is named, else of all that the option holds for.
-fn worst(scopes: &[&Json], (option, names, least): (&str, &[&str], bool), plane: &str) -> f64 {
+/// The worst figure in these frames or in the run, of one plane where it is named, else of all.
+fn worst(scopes: &[&Json], (names, least): (&[&str], bool), plane: &str) -> f64 {
     let mut worst = if least { f64::INFINITY } else { f64::NEG_INFINITY };
     for scope in scopes {
         let mut rows: Vec<(&str, &Json)> =
             scope.at("planes").list().iter().map(|row| (row.at("plane").text(), row)).collect();
-        // the combination of PSNR-HVS is scaled, and is held only where it is named
-        if !option.contains("hvs") || plane == "combined" {
-            rows.push(("combined", scope.at("combined")));
-        }
+        rows.push(("combined", scope.at("combined")));
         for (_, row) in rows.iter().filter(|row| plane.is_empty() || row.0 == plane) {
             let figures = names.iter().map(|name| row.at(name).number());
             worst = figures.fold(worst, if least { f64::min } else { f64::max });
@@ -50,10 +47,15 @@ fn worst(scopes: &[&Json], (option, names, least): (&str, &[&str], bool), plane:
     worst
 }
 
-/// The limit is met, and one step in the direction that asks for more it is broken, once.
-fn is_the_limit(compare: &[OsString], option: &str, (names, least): (&[&str], bool), plane: &str, limit: f64) {
+/// One step in the direction that asks for more.
+fn harder(limit: f64, least: bool) -> f64 {
     assert!(limit.is_finite() && limit > 0.0);
-    let harder = f64::from_bits(if least { limit.to_bits() + 1 } else { limit.to_bits() - 1 });
+    f64::from_bits(if least { limit.to_bits() + 1 } else { limit.to_bits() - 1 })
+}
+
+/// The limit is met, and one step harder it is broken, once.
+fn is_the_limit(compare: &[OsString], option: &str, (names, least): (&[&str], bool), plane: &str, limit: f64) {
+    let harder = harder(limit, least);
     let prefix = if plane.is_empty() { String::new() } else { format!("{}=", plane) };
     let with = |limit: f64| run(&[compare, &words![option, format!("{}{:?}", prefix, limit), "--json"]].concat());
     let met = with(limit);
@@ -86,10 +88,29 @@ fn the_worst_figure_itself_is_met_and_the_next_number_is_not() {
     let frames: Vec<&Json> = report.at("frames").list().iter().collect();
     for (option, names, least) in OPTIONS {
         for plane in ["", "y", "v", "combined"] {
-            let limit = worst(&frames, (option, names, least), plane);
+            let limit = worst(&frames, (names, least), plane);
             is_the_limit(&compare, &format!("--{}", option), (names, least), plane, limit);
-            let limit = worst(&[report.at("run")], (option, names, least), plane);
+            let limit = worst(&[report.at("run")], (names, least), plane);
             is_the_limit(&compare, &format!("--run-{}", option), (names, least), plane, limit);
+        }
+    }
+}
+
+/// Without a plane's name a limit is about the combination too, whatever the score.
+#[test]
+fn every_limit_holds_for_the_combination() {
+    let room = Room::new("every");
+    let compare = files(&room);
+    let report = Json::read(run(&[&compare[..], &words!["--json"]].concat()).passes());
+    let second = |report: &Json| report.at("frames").list()[1].clone();
+    for (option, names, least) in OPTIONS {
+        for (start, scope) in [("--", second(&report)), ("--run-", report.at("run").clone())] {
+            let limit = harder(worst(&[&scope], (names, least), "combined"), least);
+            let words = words![format!("{}{}", start, option), format!("{:?}", limit), "--json"];
+            let told = Json::read(&run(&[&compare[..], &words].concat()).out);
+            let told = if start == "--" { second(&told) } else { told.at("run").clone() };
+            let planes = told.at("broken").list().iter().map(|broken| broken.at("plane").text());
+            assert_eq!(planes.filter(|plane| *plane == "combined").count(), 1, "{}{}", start, option);
         }
     }
 }

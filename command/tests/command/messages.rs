@@ -23,17 +23,17 @@ fn repeated_messages_are_capped_with_a_count_of_the_rest() {
     let count = |words: &str| ended.err.lines().filter(|line| line.contains(words)).count();
     assert_eq!((ended.status, count("which breaks --max-error")), (1, 10));
     assert_eq!((count("which breaks --max-hvs"), count("which breaks --run-max-error")), (10, 1));
-    // three planes and the combination of 23 frames; of PSNR-HVS the planes
+    // three planes and the combination of 23 frames
     ended.says(
         1,
-        &["fuavelino: --max-error is broken 82 times more\n", "fuavelino: --max-hvs is broken 59 times more\n"],
+        &["fuavelino: --max-error is broken 82 times more\n", "fuavelino: --max-hvs is broken 82 times more\n"],
     );
     assert_eq!(ended.err.lines().count(), 10 + 10 + 1 + 2);
     // the report has them all
     let report = Json::read(&ended.out);
-    assert_eq!(report.at("broken").number(), 92.0 + 69.0 + 1.0);
+    assert_eq!(report.at("broken").number(), 92.0 + 92.0 + 1.0);
     let lists = report.at("frames").list().iter().map(|frame| frame.at("broken").list().len());
-    assert_eq!(lists.sum::<usize>(), 92 + 69);
+    assert_eq!(lists.sum::<usize>(), 92 + 92);
     // ten are no more than can be said
     let ended = run(&[&compare[..], &words!["--metrics=error", "--max-error=combined=0", "--frames=23"]].concat());
     assert!(ended.err.contains("--max-error is broken 13 times more"));

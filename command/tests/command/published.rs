@@ -1,4 +1,5 @@
-//! The published av-metrics on the same clips. Run by tools/command-test, which builds the program that scores a clip by it.
+//! The published av-metrics on the same clips. Run by tools/command-test, which builds the program that scores a clip by it. One figure it gives by
+//! our own rule, combined `hvs` with its decibels: there av-metrics multiplies, where an average must divide.
 
 use crate::json::Json;
 use crate::run::{run, Room};
@@ -48,6 +49,8 @@ fn every_figure_has_the_published_bits() {
         let planes = original.frames[0].len();
         // three frames and the run: 14 figures, and decibels of each plane and of the combination
         assert!(wanted.len() > 3 * (planes + 1) * 17, "{} lines", wanted.len());
+        let combined_hvs = wanted.iter().filter(|words| words[1] == "combined" && words[2] == "hvs");
+        assert_eq!(combined_hvs.count(), 3 + 1);
         for [scope, plane, field, bits] in wanted {
             let told = match &scope[..] {
                 "run" => report.at("run"),

@@ -204,6 +204,51 @@ fn a_run_totals_errors_and_takes_means_of_the_rest() {
     assert!(near("ssim") && near("scale3_cs") && near("msssim") && near("hvs"));
 }
 
+/// Each plane in turn has the largest error.
+fn uneven(original: &Video) -> Video {
+    let mut other = original.clone();
+    for (frame, planes) in other.frames.iter_mut().enumerate() {
+        for (number, plane) in planes.iter_mut().enumerate() {
+            let flipped = 4 << (2 * ((2 + frame + 2 * number) % 3));
+            plane.samples.iter_mut().step_by(3).for_each(|sample| *sample ^= flipped);
+        }
+    }
+    other
+}
+
+/// Combined PSNR-HVS, which lies among its planes' up to rounding, and the average of these.
+fn average(scope: &Json, chroma: &str) -> [f64; 2] {
+    let planes: Vec<f64> = scope.at("planes").list().iter().map(|plane| plane.at("hvs").number()).collect();
+    let (least, most) = planes.iter().fold((f64::MAX, 0.0f64), |(l, m), hvs| (l.min(*hvs), m.max(*hvs)));
+    let combined = scope.at("combined").at("hvs").number();
+    let part = 0.5f64.powi(50);
+    assert!(least < most, "{:?}", planes);
+    assert!(least * (1.0 - part) <= combined && combined <= most * (1.0 + part), "{} of {:?}", combined, planes);
+    let decibels = scope.at("combined").at("hvs_db").number();
+    assert_eq!(decibels.to_bits(), (-10.0 * combined.log10()).to_bits());
+    let c = weight(chroma);
+    [combined, (planes[0] + c * (planes[1] + planes[2])) / (1.0 + 2.0 * c)]
+}
+
+/// What av-metrics gives is none, since it multiplies by 1 + 2c.
+#[test]
+fn hvs_of_a_combination_is_an_average() {
+    let room = Room::new("average");
+    let formats = [(8, "420"), (10, "420"), (8, "422"), (8, "444"), (12, "444")];
+    for (number, (depth, chroma)) in formats.into_iter().enumerate() {
+        let original = Video::new(43, 37, depth, chroma, 3, 40 + number as u64);
+        let (a, b) = (room.file("a.y4m", &original.y4m()), room.file("b.y4m", &uneven(&original).y4m()));
+        let report = Json::read(run(&words!["compare", &a, &b, "--json", "--metrics=hvs"]).passes());
+        for frame in report.at("frames").list() {
+            let [told, wanted] = average(frame, chroma).map(f64::to_bits);
+            assert_eq!(told, wanted, "{}", chroma);
+        }
+        // of the run the sums over the frames are combined, so that its last bits may be others
+        let [told, near] = average(report.at("run"), chroma);
+        assert!((told - near).abs() < near * 1e-12);
+    }
+}
+
 #[test]
 fn identical_files_say_identical_and_100() {
     let room = Room::new("identical");

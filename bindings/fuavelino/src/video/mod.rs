@@ -9,6 +9,8 @@
 //!   number), is 100 decibels, as it is for PSNR of identical planes. Nothing is capped: a score just short of it can be above 100.
 //! - A number that is not one, as MS-SSIM's power of a negative contrast gives in av-metrics, is [`MetricsError::NotANumber`].
 //! - With [`ChromaSampling::Cs400`] only the first plane is looked at, and `u`, `v` and `avg` repeat `y`.
+//!
+//! One figure is another than av-metrics': `avg` of [`psnr_hvs::calculate_frame_psnr_hvs`], which says by how much.
 
 use crate::plane::{PlaneKind, Sample, Shape};
 use crate::refusal::Refusal;

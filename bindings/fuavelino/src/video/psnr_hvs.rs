@@ -4,8 +4,11 @@ use super::{combining, finite, of_planes, scored, ChromaSampling, Field, Frame, 
 use crate::plane::Sample;
 use crate::scores::{combine_hvs, psnr_hvs};
 
-/// PSNR-HVS of two frames in decibels; higher is better, and 100 where no error is seen. `avg` multiplies by 1 + 2c where an average would
-/// divide, as av-metrics does.
+/// PSNR-HVS of two frames in decibels; higher is better, and 100 where no error is seen.
+///
+/// `avg` is not av-metrics' figure, which multiplies by 1 + 2c where an average must divide. It is the decibels of the average, and higher by
+/// 20 × log10(1 + 2c): by 3.52 for `Cs420`, 6.02 for `Cs422`, 9.54 for `Cs444`, by nothing for `Cs400`. A limit that was found with av-metrics'
+/// `avg` has to rise by as much.
 pub fn calculate_frame_psnr_hvs<T: Sample>(
     frame1: &Frame<'_, T>,
     frame2: &Frame<'_, T>,
