@@ -6,9 +6,9 @@ use mathlib.Core.Bool.{Bool, true, false}
 use Prim.Native.Nat.{_≤_}
 use native.Mathlib.Omega.{arith}
 use lib.Dec.{T}
-use lib.Ieee.{Float, binary64, le, fits, ofBits}
+use lib.Ieee.{Float, binary64, fits, ofBits}
 use lib.Ieee.Fits.{add-fits}
-use lib.Ieee.Positive.{num, den, positive, between, le→cross}
+use lib.Ieee.Positive.{num, den, positive, le→cross}
 use lib.Ieee.Scale.{finite}
 use Rattle.number.specs.Literals.{oneD}
 use Rattle.number.specs.Steps.{_⊕_, _⊗_}
@@ -16,13 +16,17 @@ use Rattle.number.proofs.Overflow.{add-finite, mul-finite, div-finite}
 use Rattle.number.proofs.Quotients.{over-finite}
 use Rattle.combine.specs.declared.Planar.{Planar}
 use Rattle.combine.specs.Combine.{weightedSum, wholeWeight, visualScore, combinable, combinedRefusal, scoreFor, scoreOr, combinedHvsOf}
-use Rattle.combine.proofs.Weight.{three, lawful, weight-bounds, weight-finite}
+use Rattle.combine.proofs.Weight.{lawful, weight-bounds, weight-positive, weight-finite}
 
 sum-steps : (c : Float) (s : Planar) → finite (weightedSum c s) ≡ true → (finite (s .u ⊕ s .v) ≡ true) × (finite (c ⊗ (s .u ⊕ s .v)) ≡ true)
 unfolding weightedSum
 sum-steps c s e =
     let product = add-finite binary64 (s .y) (c ⊗ (s .u ⊕ s .v)) e .1 in
     (mul-finite binary64 c (s .u ⊕ s .v) product .1, product)
+
+pub sum-fits : (c : Float) (s : Planar) → T (fits binary64 (weightedSum c s))
+unfolding weightedSum
+sum-fits c s = add-fits binary64 (s .y) (c ⊗ (s .u ⊕ s .v))
 
 -- every step of the HVS figure is finite
 pub record Steps (c : Float) (s : Planar) : Type 0 where
@@ -38,24 +42,16 @@ module _ (c : Float) (s : Planar) (ok : combinable c s ≡ true) where
       let sum = div-finite binary64 (weightedSum c s) (wholeWeight c) (weight-finite c s ok) e in
       record { chroma = sum-steps c s sum .0; product = sum-steps c s sum .1; sum = sum; weight = weight-finite c s ok }
 
-  bounds : T (le oneD (wholeWeight c)) × T (le (wholeWeight c) three)
-  bounds = weight-bounds c (lawful c s ok .0) (lawful c s ok .1)
-
-  weight-positive : T (positive (wholeWeight c))
-  unfolding ofBits
-  weight-positive = between oneD (wholeWeight c) three tt tt (bounds .0) (bounds .1)
+  positive-weight : T (positive (wholeWeight c))
+  positive-weight = weight-positive c (lawful c s ok .0) (lawful c s ok .1)
 
   weight-from-one : den (wholeWeight c) ≤ num (wholeWeight c)
   unfolding ofBits
-  weight-from-one = omega (arith, le→cross oneD (wholeWeight c) tt weight-positive (bounds .0))
-
-  sum-fits : T (fits binary64 (weightedSum c s))
-  unfolding weightedSum
-  sum-fits = add-fits binary64 (s .y) (c ⊗ (s .u ⊕ s .v))
+  weight-from-one = omega (arith, le→cross oneD (wholeWeight c) tt positive-weight (weight-bounds c (lawful c s ok .0) (lawful c s ok .1) .0))
 
   quotient-finite : finite (weightedSum c s) ≡ true → finite (visualScore c s) ≡ true
   unfolding visualScore
-  quotient-finite e = over-finite (weightedSum c s) (wholeWeight c) sum-fits e weight-positive weight-from-one
+  quotient-finite e = over-finite (weightedSum c s) (wholeWeight c) (sum-fits c s) e positive-weight weight-from-one
 
   score-finite : finite (weightedSum c s) ≡ finite (visualScore c s)
   score-finite = go (finite (weightedSum c s)) (finite (visualScore c s)) refl refl

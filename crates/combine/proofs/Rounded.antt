@@ -10,7 +10,7 @@ use lib.Pow.{pow-pos, pow-mono}
 use lib.Ieee.{Float, binary64, low, fits, le, ofBits}
 use lib.Ieee.Bits.{ofBits-fits}
 use lib.Ieee.Fits.{add-fits, mul-fits}
-use lib.Ieee.Positive.{num, den, positive, den-pos, between}
+use lib.Ieee.Positive.{num, den, positive, den-pos}
 use lib.Ieee.Scale.{finite}
 use Rattle.number.specs.Literals.{zeroD, oneD, twoD}
 use Rattle.number.specs.Root.{unitsOf}
@@ -26,8 +26,8 @@ use Rattle.combine.specs.declared.Planar.{Planar}
 use Rattle.combine.specs.Combine.{weightedSum, wholeWeight, visualScore, combinable}
 use Rattle.combine.proofs.Joined.{m, sum-most, sum-least, spread-most, spread-least, joined-most, joined-least, quotient-most, quotient-least}
 use Rattle.combine.proofs.Joined.{widened-most, widened-least, weight-most, weight-least, fraction-most, fraction-least}
-use Rattle.combine.proofs.Overflow.{Steps, score-steps}
-use Rattle.combine.proofs.Weight.{three, lawful, weight-bounds}
+use Rattle.combine.proofs.Overflow.{sum-fits, Steps, score-steps}
+use Rattle.combine.proofs.Weight.{lawful, weight-positive}
 
 -- ---- the rounded weight beside the exact one
 
@@ -90,12 +90,11 @@ module _ (c : Float) (range : T (le zeroD c) × T (le c oneD)) (C : T (fits bina
   unfolding wholeWeight
   weight-fits = add-fits binary64 oneD twice
 
-  weight-positive : T (positive (wholeWeight c))
-  unfolding ofBits
-  weight-positive = between oneD (wholeWeight c) three tt tt (weight-bounds c (range .0) (range .1) .0) (weight-bounds c (range .0) (range .1) .1)
+  above-zero : T (positive (wholeWeight c))
+  above-zero = weight-positive c (range .0) (range .1)
 
   weight-above : 0 < num (wholeWeight c)
-  weight-above = positive-above (wholeWeight c) weight-positive
+  weight-above = positive-above (wholeWeight c) above-zero
 
   abbrev exact : ℕ
   exact = den c + 2 * num c
@@ -103,13 +102,13 @@ module _ (c : Float) (range : T (le zeroD c) × T (le c oneD)) (C : T (fits bina
   whole-upto : m * (den c * num (wholeWeight c)) ≤ (m + 33) * (exact * den (wholeWeight c))
   whole-upto =
       fraction-most one (part false c) (part false (wholeWeight c)) (num c) (den c) (num (wholeWeight c)) (den (wholeWeight c)) (pow-pos (low binary64))
-      (within-units 1 c in-range C) (positive-units (wholeWeight c) weight-positive weight-fits)
+      (within-units 1 c in-range C) (positive-units (wholeWeight c) above-zero weight-fits)
       (weight-most one (part false c) (part false twice) (part false (wholeWeight c)) large (twice-most false) whole-most)
 
   whole-from : m * (exact * den (wholeWeight c)) ≤ (m + 33) * (den c * num (wholeWeight c))
   whole-from =
       fraction-least one (part false c) (part false (wholeWeight c)) (num c) (den c) (num (wholeWeight c)) (den (wholeWeight c)) (pow-pos (low binary64))
-      (within-units 1 c in-range C) (positive-units (wholeWeight c) weight-positive weight-fits)
+      (within-units 1 c in-range C) (positive-units (wholeWeight c) above-zero weight-fits)
       (weight-least one (part false c) (part false twice) (part false (wholeWeight c)) large twice-least whole-least)
 
 -- ---- the score beside the exact average of its parts
@@ -160,7 +159,7 @@ module _ (c : Float) (s : Planar) (t : Answered c s) where
   c-within = in-range c range (t .doubles .weight) (steps .weight)
 
   w-positive : T (positive (wholeWeight c))
-  w-positive = weight-positive c range (t .doubles .weight) (steps .weight)
+  w-positive = above-zero c range (t .doubles .weight) (steps .weight)
 
   chroma-most : (b : Bool) → Most (part b chroma) (part b (s .u) + part b (s .v)) 1
   chroma-most b = add-most b (s .u) (s .v) (t .doubles .cb) (t .doubles .cr) (steps .chroma)
@@ -172,13 +171,9 @@ module _ (c : Float) (s : Planar) (t : Answered c s) where
   unfolding weightedSum
   weighted-most b = add-most b (s .y) (c ⊗ chroma) (t .doubles .luma) (mul-fits binary64 c chroma) (steps .sum)
 
-  sum-fits : T (fits binary64 (weightedSum c s))
-  unfolding weightedSum
-  sum-fits = add-fits binary64 (s .y) (c ⊗ chroma)
-
   score-over-most : (b : Bool) → Most (n * part b (visualScore c s)) (z * part b (weightedSum c s)) n
   unfolding visualScore
-  score-over-most b = div-most b (weightedSum c s) (wholeWeight c) sum-fits w-positive (t .given)
+  score-over-most b = div-most b (weightedSum c s) (wholeWeight c) (sum-fits c s) w-positive (t .given)
 
   common : 0 < q * n
   common = mul-pos (den-pos c) (weight-above c range (t .doubles .weight) (steps .weight))
@@ -227,7 +222,7 @@ module _ (c : Float) (s : Planar) (t : Answered c s) where
 
     score-over-least : Least (n * part b (visualScore c s)) (z * part b (weightedSum c s)) n
     unfolding visualScore
-    score-over-least = div-least b (weightedSum c s) (wholeWeight c) sum-fits w-positive (t .given)
+    score-over-least = div-least b (weightedSum c s) (wholeWeight c) (sum-fits c s) w-positive (t .given)
 
     pub score-least : 2 ^ 50 * parts b ≤ 2 ^ 50 * (heft * part b (visualScore c s)) + (parts b + 2 ^ 51 * heft)
     score-least =

@@ -9,6 +9,7 @@ use lib.Pow.{pow-pos}
 use lib.Ieee.{Float, nan, inf, fin, binary64, prec, emax, low, up, down, round, sum, add, mul, le, ofBits}
 use lib.Ieee.Fits.{down-pos}
 use lib.Ieee.Exact.{round-exact}
+use lib.Ieee.Positive.{positive, between}
 use lib.Ieee.Scale.{finite}
 use borrow.Author.Tests.{le-ltb}
 use Rattle.refusal.proofs.Chain.{and-left, and-right}
@@ -60,6 +61,10 @@ module _ (c : Float) (least : T (le zeroD c)) (most : T (le c oneD)) where
   pub weight-bounds : T (le oneD (wholeWeight c)) × T (le (wholeWeight c) three)
   unfolding wholeWeight ofBits
   weight-bounds = one-more (twoD ⊗ c) (doubled c (within 1 0 c least most))
+
+  pub weight-positive : T (positive (wholeWeight c))
+  unfolding ofBits
+  weight-positive = between oneD (wholeWeight c) three tt tt (weight-bounds .0) (weight-bounds .1)
 
 between-finite : (x : Float) → T (le oneD x) → T (le x three) → finite x ≡ true
 unfolding le ofBits
