@@ -18,8 +18,8 @@ use Rattle.number.specs.Steps.{_⊕_, _⊗_}
 use Rattle.number.proofs.Order.{Within, within}
 use Rattle.number.proofs.Overflow.{add-finite}
 use Rattle.number.proofs.Parts.{one, part, within-none, within-units, positive-units, positive-above}
-use Rattle.number.proofs.Products.{mul-most, mul-least}
-use Rattle.number.proofs.Quotients.{div-most, div-least}
+use Rattle.number.proofs.Products.{mul-rounds}
+use Rattle.number.proofs.Quotients.{div-rounds}
 use Rattle.number.proofs.Rounding.{Most, Least}
 use Rattle.number.proofs.Sums.{add-most, add-least}
 use Rattle.combine.specs.declared.Planar.{Planar}
@@ -61,11 +61,11 @@ module _ (c : Float) (range : T (le zeroD c) × T (le c oneD)) (C : T (fits bina
 
   twice-most : (b : Bool) → Most (part b twice) (2 * part b c) 1
   unfolding ofBits
-  twice-most b = subst (λ (x : ℕ). Most x (2 * part b c) 1) (one-mul (part b twice)) (mul-most 2 b twoD c two-within C twice-finite)
+  twice-most b = subst (λ (x : ℕ). Most x (2 * part b c) 1) (one-mul (part b twice)) (mul-rounds 2 b twoD c two-within C twice-finite .0)
 
   twice-least : Least (part false twice) (2 * part false c) 1
   unfolding ofBits
-  twice-least = subst (λ (x : ℕ). Least x (2 * part false c) 1) (one-mul (part false twice)) (mul-least 2 false twoD c two-within C twice-finite)
+  twice-least = subst (λ (x : ℕ). Least x (2 * part false c) 1) (one-mul (part false twice)) (mul-rounds 2 false twoD c two-within C twice-finite .1)
 
   none-of-twice : part true twice ≡ 0
   none-of-twice = empty (part true twice) (part true c) (within-none 1 c in-range C) (twice-most true)
@@ -165,7 +165,7 @@ module _ (c : Float) (s : Planar) (t : Answered c s) where
   chroma-most b = add-most b (s .u) (s .v) (t .doubles .cb) (t .doubles .cr) (steps .chroma)
 
   product-most : (b : Bool) → Most (q * part b (c ⊗ chroma)) (p * part b chroma) q
-  product-most b = mul-most 1 b c chroma c-within (add-fits binary64 (s .u) (s .v)) (steps .product)
+  product-most b = mul-rounds 1 b c chroma c-within (add-fits binary64 (s .u) (s .v)) (steps .product) .0
 
   weighted-most : (b : Bool) → Most (part b (weightedSum c s)) (part b (s .y) + part b (c ⊗ chroma)) 1
   unfolding weightedSum
@@ -173,7 +173,7 @@ module _ (c : Float) (s : Planar) (t : Answered c s) where
 
   score-over-most : (b : Bool) → Most (n * part b (visualScore c s)) (z * part b (weightedSum c s)) n
   unfolding visualScore
-  score-over-most b = div-most b (weightedSum c s) (wholeWeight c) (sum-fits c s) w-positive (t .given)
+  score-over-most b = div-rounds b (weightedSum c s) (wholeWeight c) (sum-fits c s) w-positive (t .given) .0
 
   common : 0 < q * n
   common = mul-pos (den-pos c) (weight-above c range (t .doubles .weight) (steps .weight))
@@ -214,7 +214,7 @@ module _ (c : Float) (s : Planar) (t : Answered c s) where
     chroma-least = add-least b (s .u) (s .v) (t .doubles .cb) (t .doubles .cr) no-u no-v (steps .chroma)
 
     product-least : Least (q * part b (c ⊗ chroma)) (p * part b chroma) q
-    product-least = mul-least 1 b c chroma c-within (add-fits binary64 (s .u) (s .v)) (steps .product)
+    product-least = mul-rounds 1 b c chroma c-within (add-fits binary64 (s .u) (s .v)) (steps .product) .1
 
     weighted-least : Least (part b (weightedSum c s)) (part b (s .y) + part b (c ⊗ chroma)) 1
     unfolding weightedSum
@@ -222,7 +222,7 @@ module _ (c : Float) (s : Planar) (t : Answered c s) where
 
     score-over-least : Least (n * part b (visualScore c s)) (z * part b (weightedSum c s)) n
     unfolding visualScore
-    score-over-least = div-least b (weightedSum c s) (wholeWeight c) (sum-fits c s) w-positive (t .given)
+    score-over-least = div-rounds b (weightedSum c s) (wholeWeight c) (sum-fits c s) w-positive (t .given) .1
 
     pub score-least : 2 ^ 50 * parts b ≤ 2 ^ 50 * (heft * part b (visualScore c s)) + (parts b + 2 ^ 51 * heft)
     score-least =

@@ -15,7 +15,7 @@ use Rattle.number.specs.Steps.{_⊗_}
 use Rattle.number.proofs.Order.{Within}
 use Rattle.number.proofs.Overflow.{never, mul-finite}
 use Rattle.number.proofs.Parts.{one, on, part, units-exact, on-units, round-most, round-least}
-use Rattle.number.proofs.Rounding.{Most, Least}
+use Rattle.number.proofs.Rounding.{Most, Least, Rounds}
 
 times-le : (b s : Bool) (p y l : ℕ) → on b s (p * y * l) ≤ p * (on b s y * l)
 times-le b s p y l = go (Bool·beq s b)
@@ -71,26 +71,14 @@ module _ (k : ℕ) where
   product-least true false false m n e d w g h = of-none (m * up e) (down e) (part true (fin false m e ⊗ fin false n d))
   product-least false false true m n e d w g h = of-none (m * up e) (down e) (part false (fin false m e ⊗ fin true n d))
 
-  pub mul-most : (b : Bool) (c x : Float) → Within k c → T (fits binary64 x) → finite (c ⊗ x) ≡ true
-      → Most (den c * part b (c ⊗ x)) (num c * part b x) (den c)
-  mul-most b nan x w f h = absurd w
-  mul-most b (inf s) x w f h = absurd w
-  mul-most b (fin s m e) x w f h = go x f h (mul-finite binary64 (fin s m e) x h .1)
+  pub mul-rounds : (b : Bool) (c x : Float) → Within k c → T (fits binary64 x) → finite (c ⊗ x) ≡ true
+      → Rounds (den c * part b (c ⊗ x)) (num c * part b x) (den c)
+  mul-rounds b nan x w f h = absurd w
+  mul-rounds b (inf s) x w f h = absurd w
+  mul-rounds b (fin s m e) x w f h = go x f h (mul-finite binary64 (fin s m e) x h .1)
     where
       go : (x : Float) → T (fits binary64 x) → finite (fin s m e ⊗ x) ≡ true → finite x ≡ true
-          → Most (down e * part b (fin s m e ⊗ x)) (m * up e * part b x) (down e)
+          → Rounds (down e * part b (fin s m e ⊗ x)) (m * up e * part b x) (down e)
       go nan f h q = absurd (never q)
       go (inf t) f h q = absurd (never q)
-      go (fin t n d) f h q = product-most b s t m n e d w f h
-
-  pub mul-least : (b : Bool) (c x : Float) → Within k c → T (fits binary64 x) → finite (c ⊗ x) ≡ true
-      → Least (den c * part b (c ⊗ x)) (num c * part b x) (den c)
-  mul-least b nan x w f h = absurd w
-  mul-least b (inf s) x w f h = absurd w
-  mul-least b (fin s m e) x w f h = go x f h (mul-finite binary64 (fin s m e) x h .1)
-    where
-      go : (x : Float) → T (fits binary64 x) → finite (fin s m e ⊗ x) ≡ true → finite x ≡ true
-          → Least (down e * part b (fin s m e ⊗ x)) (m * up e * part b x) (down e)
-      go nan f h q = absurd (never q)
-      go (inf t) f h q = absurd (never q)
-      go (fin t n d) f h q = product-least b s t m n e d w f h
+      go (fin t n d) f h q = (product-most b s t m n e d w f h, product-least b s t m n e d w f h)

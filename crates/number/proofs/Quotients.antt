@@ -21,7 +21,7 @@ use Rattle.number.proofs.Nearest.{shape, units-in}
 use Rattle.number.proofs.Overflow.{never, div-finite}
 use Rattle.number.proofs.Parts.{one, on, part, units-exact, on-units, round-most, round-least}
 use Rattle.number.proofs.Products.{times-upto, times-from, of-none}
-use Rattle.number.proofs.Rounding.{Most, Least}
+use Rattle.number.proofs.Rounding.{Most, Least, Rounds}
 
 over-le : (b s : Bool) (x k l : ℕ) → on b s (x * k * l) ≤ k * (on b s x * l)
 over-le b s x k l = go (Bool·beq s b)
@@ -64,31 +64,18 @@ module _ (n : ℕ) (d : ℤ) (N : 0 < n) where
       (subst (λ (z : Float). Least (part false z * (n * up d * down e)) (m * up e * down d * one) (n * up d * down e)) (sym (over-is false m e))
       (round-least (m * up e * down d) (n * up d * down e) (n-pos e) false (subst (λ (z : Float). finite z ≡ true) (over-is false m e) h)))
 
-pub div-most : (b : Bool) (x w : Float) → T (fits binary64 x) → T (positive w) → finite (x ⊘ w) ≡ true
-    → Most (num w * part b (x ⊘ w)) (den w * part b x) (num w)
-div-most b x nan f p h = absurd p
-div-most b x (inf t) f p h = absurd p
-div-most b x (fin true n d) f p h = absurd p
-div-most b x (fin false n d) f p h = go x f h (div-finite binary64 x (fin false n d) refl h)
+pub div-rounds : (b : Bool) (x w : Float) → T (fits binary64 x) → T (positive w) → finite (x ⊘ w) ≡ true
+    → Rounds (num w * part b (x ⊘ w)) (den w * part b x) (num w)
+div-rounds b x nan f p h = absurd p
+div-rounds b x (inf t) f p h = absurd p
+div-rounds b x (fin true n d) f p h = absurd p
+div-rounds b x (fin false n d) f p h = go x f h (div-finite binary64 x (fin false n d) refl h)
   where
     go : (x : Float) → T (fits binary64 x) → finite (x ⊘ fin false n d) ≡ true → finite x ≡ true
-        → Most (n * up d * part b (x ⊘ fin false n d)) (down d * part b x) (n * up d)
+        → Rounds (n * up d * part b (x ⊘ fin false n d)) (down d * part b x) (n * up d)
     go nan f h q = absurd (never q)
     go (inf s) f h q = absurd (never q)
-    go (fin s m e) f h q = quotient-most n d (ltb→lt 0 n p) b s m e f h
-
-pub div-least : (b : Bool) (x w : Float) → T (fits binary64 x) → T (positive w) → finite (x ⊘ w) ≡ true
-    → Least (num w * part b (x ⊘ w)) (den w * part b x) (num w)
-div-least b x nan f p h = absurd p
-div-least b x (inf t) f p h = absurd p
-div-least b x (fin true n d) f p h = absurd p
-div-least b x (fin false n d) f p h = go x f h (div-finite binary64 x (fin false n d) refl h)
-  where
-    go : (x : Float) → T (fits binary64 x) → finite (x ⊘ fin false n d) ≡ true → finite x ≡ true
-        → Least (n * up d * part b (x ⊘ fin false n d)) (down d * part b x) (n * up d)
-    go nan f h q = absurd (never q)
-    go (inf s) f h q = absurd (never q)
-    go (fin s m e) f h q = quotient-least n d (ltb→lt 0 n p) b s m e f h
+    go (fin s m e) f h q = (quotient-most n d (ltb→lt 0 n p) b s m e f h, quotient-least n d (ltb→lt 0 n p) b s m e f h)
 
 -- ---- a double over one that is at least 1 overflows nowhere
 

@@ -23,6 +23,9 @@ Most z n c = 2 ^ 53 * z ≤ 2 ^ 53 * n + (n + 2 ^ 52 * c)
 abbrev pub Least : ℕ → ℕ → ℕ → Type 0
 Least z n c = 2 ^ 53 * n ≤ 2 ^ 53 * z + (n + 2 ^ 52 * c)
 
+abbrev pub Rounds : ℕ → ℕ → ℕ → Type 0
+Rounds z n c = Most z n c × Least z n c
+
 -- ---- the nearest whole number to n / u, times u: off by at most half of u
 
 module _ (n u : ℕ) (U : 0 < u) where
@@ -63,13 +66,13 @@ module _ (n c : ℕ) (C : 0 < c) where
         omega (arith, whole, same)
   ]
 
-  off : (z v : ℕ) → 2 ^ 52 * v ≤ n + 2 ^ 52 * c → (2 * z ≤ 2 * n + v) × (2 * n ≤ 2 * z + v) → Most z n c × Least z n c
+  off : (z v : ℕ) → 2 ^ 52 * v ≤ n + 2 ^ 52 * c → (2 * z ≤ 2 * n + v) × (2 * n ≤ 2 * z + v) → Rounds z n c
   off z v h e = omega (arith, h, e)
 
-  rounded : Most (kept 53 n c * 2 ^ k * c) n c × Least (kept 53 n c * 2 ^ k * c) n c
+  rounded : Rounds (kept 53 n c * 2 ^ k * c) n c
   rounded =
       let same : kept 53 n c * u ≡ kept 53 n c * 2 ^ k * c = ap (λ (x : ℕ). kept 53 n c * x) (mul-comm c (2 ^ k)) ∙ sym (mul-assoc (kept 53 n c) (2 ^ k) c) in
-      subst (λ (z : ℕ). Most z n c × Least z n c) same (off (kept 53 n c * u) u place (near n u (mul-pos C (pow-pos k))))
+      subst (λ (z : ℕ). Rounds z n c) same (off (kept 53 n c * u) u place (near n u (mul-pos C (pow-pos k))))
 
 -- ---- a fraction a / c as a double, which is finite
 
@@ -90,5 +93,5 @@ round-has s a c e =
     (units-has binary64 s (kept 53 n c) (drop 53 n c) (subst (λ (z : Float). finite z ≡ true) is e))
 
 -- in units, times c
-pub round-off : (a c : ℕ) → 0 < c → Most (grid binary64 a c * c) (a * 2 ^ low binary64) c × Least (grid binary64 a c * c) (a * 2 ^ low binary64) c
+pub round-off : (a c : ℕ) → 0 < c → Rounds (grid binary64 a c * c) (a * 2 ^ low binary64) c
 round-off a c C = rounded (a * 2 ^ low binary64) c C
