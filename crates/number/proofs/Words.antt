@@ -2,7 +2,7 @@
 use mathlib.Core.Path.{_≡_, refl, sym, ap, _∙_}
 use mathlib.Core.Bool.{Bool, true, false}
 use Prim.Native.Nat.{ℕ, _+_, _-_, _*_, _/_, _%_, _^_, _≤_, _<_}
-use native.Mathlib.Nat.{mul-le-mul, mul-le-mul-right, add-mul, div-add-mod'}
+use native.Mathlib.Nat.{mul-le-mul, mul-le-mul-right, lt-of-mul-lt-mul-right, add-mul, div-add-mod'}
 use native.Mathlib.Decide.{decLt}
 use native.Mathlib.Omega.{arith}
 use borrow.Author.Tests.{lt-ltb, le-ltb, ltb-true, ltb-false}
@@ -88,3 +88,15 @@ module _ (P a b c d : ℕ) where
 
       g : c ≤ a → c * P + d ≤ a * P + b
       g l = let k : c + 1 ≤ a = omega arith in let m : (c + 1) * P ≤ a * P = mul-le-mul-right P k in omega (arith, add-mul c 1 P)
+
+-- ---- two digits times one: the low digit's product has two, and the high one's goes to the upper of them
+module _ (B h l m h′ l′ : ℕ) (e : h′ * B + l′ ≡ l * m) where
+  pub times-is : (h * m + h′) * B + l′ ≡ (h * B + l) * m
+  times-is =
+      let a : (h * m + h′) * B + l′ ≡ h * m * B + (h′ * B + l′) = simp sorted refl in
+      let b : h * m * B + l * m ≡ (h * B + l) * m = simp sorted refl in
+      a ∙ ap (λ (x : ℕ). h * m * B + x) e ∙ b
+
+  -- it has room where the product has
+  pub times-fits : (h * B + l) * m < B * B → h * m + h′ < B
+  times-fits k = lt-of-mul-lt-mul-right B (omega (arith, k, times-is))

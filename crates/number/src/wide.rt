@@ -1,6 +1,6 @@
 // Whole numbers of up to 128 bits, in two words.
 ghost use mathlib.Core.Path.{_≡_};
-ghost use Prim.Native.Nat.{_*_};
+ghost use Prim.Native.Nat.{_*_, _^_, _<_};
 ghost use lib.Dec.{ltb};
 ghost use Rattle.number.specs.Inner.Wide.{valueOf};
 
@@ -24,6 +24,18 @@ pub fn product(u: u64, v: u64) -> Wide
     Wide {
         hi: u1 * v1 + t / 0x1_0000_0000 + w1 / 0x1_0000_0000,
         lo: w1 % 0x1_0000_0000 * 0x1_0000_0000 + w0 % 0x1_0000_0000,
+    }
+}
+
+// A number of two words times one word, where it has room in two.
+pub fn times(w: Wide, m: u64) -> Wide
+    requires { ⌜ valueOf w * m < 2 ^ 128 ⌝ }
+    ensures { λ r. ⌜ valueOf r ≡ valueOf w * m ⌝ }
+{
+    let low = product(w.lo, m);
+    Wide {
+        hi: w.hi * m + low.hi,
+        lo: low.lo,
     }
 }
 

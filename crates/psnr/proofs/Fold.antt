@@ -90,7 +90,7 @@ fold-is (r ∷ rs) s h = go (fold-is rs (tallyMore s r)) (ltb (s .records) recor
         ∙ ap₂ (λ (k : ℕ) (t : Tally). runIf (leb k recordLimit && allJoin (s .«sample_max») rs) t) (omega arith) (tallyAll-more s r rs)
 
 -- ---- the counts of sound records stay within their cap
-count-bound : (max : ℕ) (rs : List Record) → allJoin max rs ≡ true → countTotal rs ≤ length rs * countLimit
+pub count-bound : (max : ℕ) (rs : List Record) → allJoin max rs ≡ true → countTotal rs ≤ length rs * countLimit
 unfolding allJoin countTotal
 count-bound max [] j = omega arith
 count-bound max (r ∷ rs) j =

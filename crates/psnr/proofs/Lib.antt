@@ -1,9 +1,10 @@
 pub mod Squares
 mod Parts
 mod Walks
-mod Whole
-mod Records
+pub mod Whole
+pub mod Records
 pub mod Fold
 pub mod Laws
 pub mod Room
+pub mod Totals
 pub mod Said

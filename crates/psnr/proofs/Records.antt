@@ -87,6 +87,10 @@ pub suits-count : (r : Record) → recordSuits r ≡ true → r .n ≤ countLimi
 unfolding recordSuits
 suits-count r e = count-says (r .n) (and-left _ _ (and-left _ _ e)) .1
 
+pub suits-some : (r : Record) → recordSuits r ≡ true → 1 ≤ r .n
+unfolding recordSuits
+suits-some r e = count-says (r .n) (and-left _ _ (and-left _ _ e)) .0
+
 pub suits-whole : (r : Record) → recordSuits r ≡ true → isWhole (r .«sq_err») ≡ true
 unfolding recordSuits errorSuits
 suits-whole r e = and-left _ _ (and-right (countSuits (r .n) && maxSuits (r .«sample_max»)) _ e)

@@ -53,7 +53,7 @@ module _ (max : ℕ) (r : Record) (j : joins max r ≡ true) where
   unfolding joins
   its-max = eqb-true (r .«sample_max») max (and-right (recordSuits r) _ j)
 
-  max-suits : maxSuits max ≡ true
+  pub max-suits : maxSuits max ≡ true
   unfolding recordSuits
   max-suits = rw its-max at (and-right (countSuits (r .n)) _ (and-left _ _ (joins-suits max r j)))
 
@@ -64,7 +64,7 @@ module _ (max : ℕ) (r : Record) (j : joins max r ≡ true) where
       let l : wholeOf (r .«sq_err») ≤ r .n * (r .«sample_max» * r .«sample_max») = leb-true _ _ (and-right (isWhole (r .«sq_err»)) _ e) in
       rw its-max at l
 
-errors-most : (max : ℕ) (rs : List Record) → allJoin max rs ≡ true → errorTotal rs ≤ countTotal rs * (max * max)
+pub errors-most : (max : ℕ) (rs : List Record) → allJoin max rs ≡ true → errorTotal rs ≤ countTotal rs * (max * max)
 unfolding allJoin errorTotal countTotal
 errors-most max [] j = omega arith
 errors-most max (r ∷ rs) j =
