@@ -16,6 +16,9 @@ class Scope:
         self.depths = whole(find(r"byte at depths (\d+) to (\d+) and a word of 16 bits at depths (\d+) to (\d+)"))
         self.fixed = whole(find(r"no caller lends: ([\d ]+),")[0].split())
         self.forward, self.inverse = whole(find(r"Forward takes values from −[\d,]+ to ([\d,]+)") + find(r"inverse takes values from −[\d,]+ to ([\d,]+)"))
+        self.places, self.least_place, self.last_place = whole(find(r"D = (\d+) × q \+ k") + find(r"at places (\d+) to (\d+)"))
+        self.entry_root, self.entry_unit, self.peak_unit = whole(find(r"10\^\(k/(\d+)\) × 10\^(\d+), rounded down") + find(r"at most P × 10\^(\d+)"))
+        self.entries = list(self.roots())
         self.chart = dict(self.rows(text, "## The chart of kernels"))
         self.passes = self.program(text, "## The transform", "A block of 8 by 8")
         self.centre = self.program(text, "**SSIM.**", "The answer is the pair")
@@ -65,6 +68,24 @@ class Scope:
             lambda: all(sample <= 2**depth - 1 for plane in planes for sample in visible(plane)),
         ]
         return next((number for number, test in enumerate(tests, 1) if not test()), 0)
+
+    def roots(self):
+        """The chart of decibels, each place with its entry: they go up, so that each is looked for from the one before."""
+        entry = 10**self.entry_unit
+        for k in range(self.least_place, self.last_place + 1):
+            power = 10 ** (self.entry_root * self.entry_unit + k)
+            step = entry
+            while step:
+                entry, step = (entry + step, step) if (entry + step) ** self.entry_root <= power else (entry, step // 2)
+            yield k, entry
+
+    def hundredths(self, error, n, sample_max):
+        """D of an error that is not 0."""
+        peak, q = sample_max**2 * n, 0
+        while 10 ** (q + 1) * error <= peak:
+            q += 1
+        fitting = (k for k, entry in self.entries if entry * 10**q * error <= peak * 10**self.peak_unit)
+        return self.places * q + max(fitting)
 
     def ssim(self, a, b, width, height, sample_max, kernel):
         """The pair; a and b are samples by row and column."""

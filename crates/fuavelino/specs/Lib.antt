@@ -1,4 +1,5 @@
 pub mod Combine
+pub mod Decibels
 pub mod Hvs
 pub mod Kernel
 pub mod Locate

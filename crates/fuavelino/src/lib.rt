@@ -11,6 +11,7 @@ ghost use Rattle.fuavelino.specs.Version.{version};
 
 pub mod combine_calls;
 pub mod dct_calls;
+pub mod decibels_calls;
 pub mod hvs_calls;
 pub mod kernel_calls;
 pub mod locate_calls;

@@ -1,0 +1,95 @@
+-- Decibels of a run are those of what its series answers (`series-summed`); a record is a run of one (`run-of-one`). Assumes nothing.
+use mathlib.Core.Path.{_≡_, refl, sym, _∙_}
+use mathlib.Core.Bool.{Bool, true, false, _&&_}
+use mathlib.Core.List.{List, [], _∷_}
+use Prim.Native.Nat.{ℕ, zero, suc, _+_, _*_, _≤_}
+use native.Mathlib.Nat.{add-zero, le-trans, le-of-lt}
+use native.Mathlib.Omega.{arith}
+use borrow.Author.Tests.{le-leb, leb-true, eq-eqb}
+use lib.Dec.{leb, eqb, lit≤}
+use lib.Ieee.{Float}
+use Rattle.refusal.specs.Numbers.{recordNo}
+use Rattle.refusal.specs.First.{byRefusal, unless}
+use Rattle.refusal.proofs.Chain.{and-left, and-right}
+use Rattle.number.specs.Steps.{double}
+use Rattle.psnr.specs.declared.Record.{Record}
+use Rattle.psnr.specs.declared.Total.{Total}
+use Rattle.psnr.specs.Limits.{countLimit, recordLimit, totalLimit}
+use Rattle.psnr.specs.Record.{wholeOf, isWhole, countSuits, maxSuits, errorSuits, recordSuits, joins}
+use Rattle.psnr.specs.Series.{firstMax, allJoin, runSuits, errorTotal, countTotal, seriesRefusal, seriesTotal, seriesAnswer, seriesOf}
+use Rattle.psnr.proofs.Records.{product-fits}
+use Rattle.psnr.proofs.Totals.{Adds, series-adds}
+use Rattle.psnr.proofs.Whole.{whole-back}
+use Rattle.decibels.specs.declared.Decibels.the-variants.{Refused}
+use Rattle.decibels.specs.Hundredths.{peakOf}
+use Rattle.decibels.specs.Answer.{decibelsOf, decibelsIf, recordDecibels, totalSuits, totalDecibels, summedDecibels, seriesDecibels}
+
+-- ---- a series that is not refused has a total that suits
+module _ (rs : List Record) (a : Adds rs) where
+  abbrev its : Total
+  its = seriesTotal (errorTotal rs) (countTotal rs) (firstMax rs)
+
+  its-error : (isWhole (double (errorTotal rs)) ≡ true) × (wholeOf (double (errorTotal rs)) ≡ errorTotal rs)
+  unfolding totalLimit
+  its-error = whole-back (errorTotal rs) (a .whole)
+
+  total-suits : totalSuits its ≡ true
+  unfolding totalSuits errorSuits peakOf
+  total-suits =
+      rw (
+        le-leb 1 (countTotal rs) (a .some),
+        le-leb (countTotal rs) (recordLimit * countLimit) (a .few),
+        a .max,
+        its-error .0,
+        its-error .1,
+        le-leb (errorTotal rs) (countTotal rs * (firstMax rs * firstMax rs)) (a .most),
+      )
+
+  its-decibels : totalDecibels its ≡ decibelsOf (peakOf (countTotal rs) (firstMax rs)) (errorTotal rs)
+  unfolding totalDecibels
+  its-decibels = rw (total-suits, its-error .1)
+
+-- what is made of a total error by its own case
+told : (E n max P : ℕ) → totalDecibels (seriesTotal E n max) ≡ decibelsOf P E → summedDecibels (seriesAnswer 0 E n max) ≡ decibelsOf P E
+unfolding summedDecibels
+told zero n max P e = rw e
+told (suc E) n max P e = rw e
+
+pub series-summed : (rs : List Record) → summedDecibels (seriesOf rs) ≡ seriesDecibels rs
+unfolding seriesOf seriesDecibels summedDecibels
+series-summed rs = go (seriesRefusal rs) refl
+  where
+    go : (k : ℕ) → seriesRefusal rs ≡ k
+        → summedDecibels (seriesAnswer k (errorTotal rs) (countTotal rs) (firstMax rs))
+        ≡ byRefusal k (decibelsOf (peakOf (countTotal rs) (firstMax rs)) (errorTotal rs)) (Refused k)
+    go zero e = told (errorTotal rs) (countTotal rs) (firstMax rs) _ (its-decibels rs (series-adds rs e))
+    go (suc k) e = refl
+
+-- ---- a record is a run of one
+suits-below : (r : Record) → recordSuits r ≡ true → wholeOf (r .«sq_err») ≤ totalLimit
+unfolding recordSuits errorSuits
+suits-below r s =
+    let a = countSuits (r .n) in
+    let b = maxSuits (r .«sample_max») in
+    let most = leb-true _ _ (and-right (isWhole (r .«sq_err»)) _ (and-right (a && b) _ s)) in
+    le-trans most (le-of-lt (product-fits (r .n) (r .«sample_max») (and-left a b (and-left (a && b) _ s)) (and-right a b (and-left (a && b) _ s))))
+
+module _ (r : Record) where
+  one-suits : runSuits (r ∷ []) ≡ recordSuits r
+  unfolding runSuits allJoin joins recordLimit
+  one-suits = rw (eq-eqb (r .«sample_max») (r .«sample_max») refl) (go (recordSuits r))
+    where
+      go : (b : Bool) → ((b && true) && true) ≡ b
+      go true = refl
+      go false = refl
+
+  one-fits : recordSuits r ≡ true → leb (wholeOf (r .«sq_err») + 0) totalLimit ≡ true
+  one-fits s = le-leb (wholeOf (r .«sq_err») + 0) totalLimit (omega (arith, suits-below r s))
+
+  pub run-of-one : seriesDecibels (r ∷ []) ≡ recordDecibels r
+  unfolding seriesDecibels recordDecibels errorTotal countTotal
+  run-of-one = go (recordSuits r) refl
+    where
+      go : (b : Bool) → recordSuits r ≡ b → seriesDecibels (r ∷ []) ≡ decibelsIf b (r .n) (r .«sample_max») (wholeOf (r .«sq_err»))
+      go true e = rw (one-suits, e, one-fits e, add-zero, add-zero)
+      go false e = rw (one-suits, e)

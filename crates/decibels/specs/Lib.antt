@@ -1,0 +1,4 @@
+pub mod Hundredths
+pub mod Answer
+pub mod Said
+pub mod Inner
