@@ -1,23 +1,20 @@
 -- What is known of a D that is answered, whoever was asked: a record, a total or a run of records. Assumes nothing.
 use mathlib.Core.Path.{_≡_, refl, sym, ap, _∙_}
-use mathlib.Core.Bool.{Bool, true, false, _&&_, true≢false}
+use mathlib.Core.Bool.{Bool, true, false, true≢false}
 use mathlib.Core.List.{List}
 use Prim.Native.Nat.{ℕ, zero, suc, _+_, _-_, _*_, _^_, _≤_, _<_}
 use native.Mathlib.Omega.{arith}
-use borrow.Author.Tests.{leb-true}
-use lib.Dec.{leb}
 use Rattle.refusal.specs.First.{byRefusal}
-use Rattle.refusal.proofs.Chain.{and-right}
 use Rattle.psnr.specs.declared.Record.{Record}
 use Rattle.psnr.specs.declared.Total.{Total}
-use Rattle.psnr.specs.Limits.{countLimit, recordLimit}
-use Rattle.psnr.specs.Record.{wholeOf, isWhole, countSuits, maxSuits, errorSuits, recordSuits}
+use Rattle.psnr.specs.Record.{wholeOf, recordSuits}
 use Rattle.psnr.specs.Series.{firstMax, errorTotal, countTotal, seriesRefusal}
 use Rattle.psnr.proofs.Totals.{series-adds}
 use Rattle.decibels.specs.declared.Decibels.{Decibels}
 use Rattle.decibels.specs.declared.Decibels.the-variants.{Hundredths, Identical, Refused}
 use Rattle.decibels.specs.Hundredths.{placeCount, peakOf, hundredthsOf}
 use Rattle.decibels.specs.Answer.{decibelsOf, decibelsIf, recordDecibels, totalSuits, totalDecibels, seriesDecibels}
+use Rattle.decibels.proofs.Suits.{record-suits, total-suits}
 use Rattle.decibels.proofs.Bounds.{hardly-above, within-left, within-zero, within-right, limit-met, limit-kept}
 
 -- d is the D of E under P, and all that holds of it
@@ -64,29 +61,18 @@ of-test : (b : Bool) (n max E d : ℕ) → (b ≡ true → E ≤ peakOf n max) �
 of-test true n max E d below e = of-error (peakOf n max) E d (below refl) e
 of-test false n max E d below e = absurd (true≢false (sym (ap isHundredths e)))
 
--- ---- what suits is at most P
-record-below : (r : Record) → recordSuits r ≡ true → wholeOf (r .«sq_err») ≤ peakOf (r .n) (r .«sample_max»)
-unfolding recordSuits errorSuits peakOf
-record-below r s =
-    leb-true _ _ (and-right (isWhole (r .«sq_err»)) _ (and-right (countSuits (r .n) && maxSuits (r .«sample_max»)) _ s))
-
-total-below : (t : Total) → totalSuits t ≡ true → wholeOf (t .«sq_err») ≤ peakOf (t .n) (t .«sample_max»)
-unfolding totalSuits errorSuits
-total-below t s =
-    leb-true _ _ (and-right (isWhole (t .«sq_err»)) _ (and-right (leb 1 (t .n) && leb (t .n) (recordLimit * countLimit) && maxSuits (t .«sample_max»)) _ s))
-
+-- ---- the three
 series-below : (rs : List Record) → seriesRefusal rs ≡ 0 → errorTotal rs ≤ peakOf (countTotal rs) (firstMax rs)
 unfolding peakOf
 series-below rs z = series-adds rs z .most
 
--- ---- the three
 pub record-answered : (r : Record) (d : ℕ) → recordDecibels r ≡ Hundredths d → Answered (peakOf (r .n) (r .«sample_max»)) (wholeOf (r .«sq_err»)) d
 unfolding recordDecibels
-record-answered r d e = of-test (recordSuits r) (r .n) (r .«sample_max») (wholeOf (r .«sq_err»)) d (record-below r) e
+record-answered r d e = of-test (recordSuits r) (r .n) (r .«sample_max») (wholeOf (r .«sq_err»)) d (λ s. record-suits r s .below) e
 
 pub total-answered : (t : Total) (d : ℕ) → totalDecibels t ≡ Hundredths d → Answered (peakOf (t .n) (t .«sample_max»)) (wholeOf (t .«sq_err»)) d
 unfolding totalDecibels
-total-answered t d e = of-test (totalSuits t) (t .n) (t .«sample_max») (wholeOf (t .«sq_err»)) d (total-below t) e
+total-answered t d e = of-test (totalSuits t) (t .n) (t .«sample_max») (wholeOf (t .«sq_err»)) d (λ s. total-suits t s .below) e
 
 pub series-answered : (rs : List Record) (d : ℕ) → seriesDecibels rs ≡ Hundredths d → Answered (peakOf (countTotal rs) (firstMax rs)) (errorTotal rs) d
 unfolding seriesDecibels

@@ -3,6 +3,7 @@ mod Largest
 mod Powers
 mod Entries
 mod Room
+mod Suits
 mod Table
 pub mod Charted
 pub mod Places

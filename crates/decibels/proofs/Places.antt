@@ -58,13 +58,12 @@ module _ (P t : ℕ) where
   PlaceLargest k = (k < placeCount) × Fits k × ((m : ℕ) → m < placeCount → Fits m → m ≤ k)
 
   first-fits : t ≤ P → Fits 0
-  first-fits l = rw mul-comm (mul-le-mul l entry-first)
+  first-fits l = rw (mul-comm (entryOf 0) t) (mul-le-mul l entry-first)
 
   pub place-largest : t ≤ P → PlaceLargest (placeOf P t)
   unfolding placeOf
   place-largest l =
-      let f : ℕ → Bool = λ (k : ℕ). leb (entryOf k * t) (P * chartUnit) in
-      (
+      let f : ℕ → Bool = λ (k : ℕ). leb (entryOf k * t) (P * chartUnit) in (
         omega (arith, largest-le f (placeCount - 1), some-places),
         leb-true _ _ (largest-holds f (placeCount - 1) (le-leb _ _ (first-fits l))),
         λ (m : ℕ) (short : m < placeCount) (fits : Fits m). largest-most f (placeCount - 1) m (omega arith) (le-leb _ _ fits),

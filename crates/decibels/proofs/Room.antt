@@ -1,11 +1,12 @@
 -- Room for the numbers that the functions hold: q, P and the products fit. Assumes nothing.
 use mathlib.Core.Path.{_≡_}
 use mathlib.Core.Bool.{true}
-use Prim.Native.Nat.{ℕ, _*_, _^_, _≤_, _<_}
+use Prim.Native.Nat.{ℕ, _+_, _*_, _^_, _≤_, _<_}
 use native.Mathlib.Nat.{le-of-lt, lt-of-le-of-lt, le-trans, mul-le-mul, mul-le-mul-left, pow-le-pow-right}
 use native.Mathlib.Decide.{decLt}
 use native.Mathlib.Omega.{arith}
-use lib.Dec.{lit<}
+use lib.Dec.{lit≤, lit<}
+use Rattle.number.specs.Inner.Wide.{valueOf}
 use Rattle.plane.specs.Limits.{mostDepth}
 use Rattle.plane.specs.Plane.{maxOf, sampleLimit}
 use Rattle.psnr.specs.Limits.{countLimit, recordLimit}
@@ -26,6 +27,11 @@ power-short P E m some fits most = go (decLt m 21)
         let b : 10 ^ m * 1 ≤ 10 ^ m * E = mul-le-mul-left (10 ^ m) some in
         absurd (omega arith)
 
+-- a word as a number of two
+pub one-word : (m : ℕ) → valueOf (record { hi = 0; lo = m }) ≡ m
+unfolding valueOf
+one-word m = omega arith
+
 -- the largest P of a record or a total: said of the limits, whatever they are
 peaks-fit : recordLimit * countLimit * (sampleLimit * sampleLimit) < peakLimit
 unfolding recordLimit countLimit mostDepth maxOf peakLimit
@@ -36,6 +42,10 @@ unfolding peakOf
 peak-fits n max few m = lt-of-le-of-lt (mul-le-mul few (mul-le-mul (max-says max m) (max-says max m))) peaks-fit
 
 -- P times an entry, or times ten, in two words
+pub ten-small : 10 ≤ 10 * chartUnit
+unfolding chartUnit
+ten-small = lit≤ tt
+
 pub product-room : {P m : ℕ} → P < peakLimit → m ≤ 10 * chartUnit → P * m < 2 ^ 128
 unfolding peakLimit chartUnit
 product-room l k = lt-of-le-of-lt (mul-le-mul (le-of-lt l) k) (lit< tt)

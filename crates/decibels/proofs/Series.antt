@@ -91,5 +91,5 @@ module _ (r : Record) where
   run-of-one = go (recordSuits r) refl
     where
       go : (b : Bool) → recordSuits r ≡ b → seriesDecibels (r ∷ []) ≡ decibelsIf b (r .n) (r .«sample_max») (wholeOf (r .«sq_err»))
-      go true e = rw (one-suits, e, one-fits e, add-zero, add-zero)
+      go true e = rw (one-suits, e, one-fits e, add-zero (wholeOf (r .«sq_err»)), add-zero (r .n))
       go false e = rw (one-suits, e)

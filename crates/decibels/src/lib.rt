@@ -113,7 +113,7 @@ pub fn of_record(r: Record) -> Decibels
 fn total_suits(t: Total) -> bool
     ensures { λ b. ⌜ b ≡ totalSuits t ⌝ }
 {
-    if (t.n < 1) | (t.n > psnr::RECORD_LIMIT * psnr::judge::COUNT_LIMIT) {
+    if !((1 <= t.n) & (t.n <= psnr::RECORD_LIMIT * psnr::judge::COUNT_LIMIT)) {
         return false;
     }
     if !psnr::judge::max_suits(t.sample_max) {
@@ -122,7 +122,10 @@ fn total_suits(t: Total) -> bool
     if !psnr::judge::is_whole(t.sq_err) {
         return false;
     }
-    let error = Wide { hi: 0, lo: t.sq_err as u64 };
+    let error = Wide {
+        hi: 0,
+        lo: t.sq_err as u64,
+    };
     !wide::less(peak_of(t.n, t.sample_max), error)
 }
 

@@ -29,7 +29,11 @@ fn put_decibels(answer: Decibels, hundredths: &mut u32, identical: &mut u8) -> u
 
 // Of a lent run of records; a record is a run of one. 0, or the lower of 10 and 11.
 #[no_mangle]
-pub extern "C" fn fuavelino_decibels(records: &[Record], hundredths: &mut u32, identical: &mut u8) -> u8
+pub extern "C" fn fuavelino_decibels(
+    records: &[Record],
+    hundredths: &mut u32,
+    identical: &mut u8,
+) -> u8
     ensures { λ r. ⌜ (r ≡ decibelsNumber (seriesDecibels (now (records .entry))))
         × (now (hundredths .exit) ≡ hundredthsWritten (seriesDecibels (now (records .entry))) (now (hundredths .entry)))
         × (now (identical .exit) ≡ identicalWritten (seriesDecibels (now (records .entry))) (now (identical .entry))) ⌝ }
@@ -53,6 +57,10 @@ pub extern "C" fn fuavelino_total_decibels(
         × (now (identical .exit) ≡ identicalWritten
         (totalDecibels (record { «sq_err» = «sq_err»; n = n; «sample_max» = «sample_max» })) (now (identical .entry))) ⌝ }
 {
-    let answer = decibels::of_total(Total { sq_err, n, sample_max });
+    let answer = decibels::of_total(Total {
+        sq_err,
+        n,
+        sample_max,
+    });
     put_decibels(answer, hundredths, identical)
 }

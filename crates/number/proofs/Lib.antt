@@ -1,6 +1,6 @@
 -- What the functions' proofs use and no one function owns, and the laws about the root.
 mod Whole
-mod Words
+pub mod Words
 mod Squares
 mod Doubles
 pub mod Nearest
