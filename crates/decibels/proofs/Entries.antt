@@ -17,7 +17,7 @@ unfolding placeCount
 some-places = lit≤ tt
 
 -- a root is told by its power
-pub root-le : {a b : ℕ} (n : ℕ) → 1 ≤ n → a ^ n ≤ b ^ n → a ≤ b
+root-le : {a b : ℕ} (n : ℕ) → 1 ≤ n → a ^ n ≤ b ^ n → a ≤ b
 root-le {a} {b} n s l = go (decLe a b)
   where
     go : Dec (a ≤ b) → a ≤ b
@@ -50,7 +50,7 @@ entry-root k =
     (largest-holds (λ (e : ℕ). leb (e ^ placeCount) (entryPower k)) (entryPower k) (le-leb (0 ^ placeCount) (entryPower k) (omega (arith, no-root))))
 
 -- what is a root, rounded down or further, is no larger
-pub entry-most : (k e : ℕ) → e ^ placeCount ≤ entryPower k → e ≤ entryOf k
+entry-most : (k e : ℕ) → e ^ placeCount ≤ entryPower k → e ≤ entryOf k
 unfolding entryOf
 entry-most k e l =
     largest-most (λ (x : ℕ). leb (x ^ placeCount) (entryPower k)) (entryPower k) e (le-trans (le-power e placeCount some-places) l) (le-leb _ _ l)

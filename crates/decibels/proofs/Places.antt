@@ -13,7 +13,7 @@ use Rattle.decibels.proofs.Largest.{largest-le, largest-most, largest-h
 use Rattle.decibels.proofs.Entries.{some-places, entries-rise, entry-first}
 
 -- a number is below ten to it
-pub below-power : (m : ℕ) → m < 10 ^ m
+below-power : (m : ℕ) → m < 10 ^ m
 below-power zero = rw pow-zero (omega arith)
 below-power (suc m) = rw pow-suc (omega (arith, below-power m))
 

@@ -10,7 +10,7 @@ pub mul-pow : (a b n : ℕ) → (a * b) ^ n ≡ a ^ n * b ^ n
 mul-pow a b zero = rw (pow-zero (a * b), pow-zero a, pow-zero b)
 mul-pow a b (suc n) = rw (pow-suc (a * b) n, pow-suc a n, pow-suc b n, mul-pow a b n) (mul-mul-mul-comm (a ^ n) (b ^ n) a b)
 
-pub pow-mul : (a q n : ℕ) → (a ^ q) ^ n ≡ a ^ (q * n)
+pow-mul : (a q n : ℕ) → (a ^ q) ^ n ≡ a ^ (q * n)
 pow-mul a q zero = rw (pow-zero (a ^ q), mul-zero q, pow-zero a)
 pow-mul a q (suc n) = rw (pow-suc (a ^ q) n, mul-suc q n, pow-add a (q * n) q, pow-mul a q n)
 
