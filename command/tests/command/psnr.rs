@@ -72,47 +72,34 @@ fn identical_frames_are_told_apart() {
     assert_eq!(same.out.matches("   100.00\n").count(), 2);
 }
 
+/// Ways to write what 38.92 dB meet.
+const MET: &str = "38.92 +38.92 38.920 3892e-2 0.3892E2 38. 0 -0 -5 -1e300 y=38.92 combined=38.92";
+
+/// What they do not meet, and how it is told.
+const BROKEN: [(&str, &str); 6] = [
+    ("38.93", "38.93"),
+    ("39", "39.0"),
+    ("1e300", "1e300"),
+    ("38.921", "38.921 (taken up to 38.93)"),
+    ("38.92000000000000000000000001", "38.92 (taken up to 38.93)"),
+    ("38920000000000000000001e-21", "38.92 (taken up to 38.93)"),
+];
+
 #[test]
 fn limits_are_read_from_their_digits() {
     let room = Room::new("psnr-limits");
     let compare = three(&room);
-    for limit in [
-        "38.92",
-        "+38.92",
-        "38.920",
-        "3892e-2",
-        "0.3892E2",
-        "38.",
-        "0",
-        "-0",
-        "-5",
-        "-1e300",
-        "y=38.92",
-        "combined=38.92",
-    ] {
+    for limit in MET.split(' ') {
         with(&compare, &["--min-psnr", limit, "--run-min-psnr", limit]).passes();
     }
-    for (limit, told) in [
-        ("38.93", "38.93"),
-        ("39", "39.0"),
-        ("1e300", "1e300"),
-        ("38.921", "38.921 (taken up to 38.93)"),
-        ("38.92000000000000000000000001", "38.92 (taken up to 38.93)"),
-        ("38920000000000000000001e-21", "38.92 (taken up to 38.93)"),
-    ] {
+    for (limit, told) in BROKEN {
         let ended = with(&compare, &["--min-psnr", limit, "--run-min-psnr", limit, "--json"]);
-        let messages: Vec<String> =
-            ["frame 0, plane y", "frame 0, plane combined", "the run, plane y", "the run, plane combined"]
-                .iter()
-                .map(|place| {
-                    let option = if place.starts_with("frame") { "--min-psnr" } else { "--run-min-psnr" };
-                    format!("fuavelino: {}: psnr is 38.92, which breaks {} {}", place, option, told)
-                })
-                .collect();
-        assert_eq!(
-            (ended.status, ended.err.lines().collect::<Vec<&str>>()),
-            (1, messages.iter().map(|m| &m[..]).collect())
-        );
+        let message = |place: &str, plane: &str, option: &str| {
+            format!("fuavelino: {}, plane {}: psnr is 38.92, which breaks {} {}\n", place, plane, option, told)
+        };
+        let of_frame = ["y", "combined"].map(|plane| message("frame 0", plane, "--min-psnr"));
+        let of_run = ["y", "combined"].map(|plane| message("the run", plane, "--run-min-psnr"));
+        assert_eq!((ended.status, ended.err), (1, of_frame.concat() + &of_run.concat()));
         let report = Json::read(&ended.out);
         let broken = &report.at("run").at("broken").list()[0];
         assert_eq!((broken.at("field").text(), broken.at("value").number()), ("psnr_hundredths", 3_892.0));
