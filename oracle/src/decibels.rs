@@ -20,11 +20,12 @@ const IDENTICAL: Left = (10_000, 1);
 const RECORD: u8 = 10;
 
 pub fn compare(ask: Run) -> bool {
-    let rule = Rule::new();
-    if !also("decibels: big integers, and the chart by them", || rule.check()) {
-        return false;
-    }
-    let mut family = Decibels::new(rule, ask);
+    let mut made = None;
+    let sound = also("decibels: big integers, and the chart by them", || made.insert(Rule::new()).check());
+    let mut family = match made.filter(|_| sound) {
+        Some(rule) => Decibels::new(rule, ask),
+        None => return false,
+    };
     let cases = if ask.full { 5_000_000 } else { 300_000 };
     if !run("decibels", &mut family, cases, ask) {
         return false;
