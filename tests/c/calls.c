@@ -329,6 +329,9 @@ static void total_decibels(void) {
     /* 100 dB that are not identical, and the next smaller ratio */
     EXPECT(of_total(1, UINT64_C(10000000000), 1) == 0 && is_decibels(10000));
     EXPECT(of_total(1, UINT64_C(9999999999), 1) == 0 && is_decibels(9999));
+    /* a little above the exact figure, which a logarithm would round down; and one sample less */
+    EXPECT(of_total(1e9, 1002305238, 1) == 0 && is_decibels(1));
+    EXPECT(of_total(1e9, 1002305237, 1) == 0 && is_decibels(0));
     EXPECT(of_total(two_to_53, most, 4095) == 0 && is_decibels(4515));
     EXPECT(of_total(two_to_53 + 2, most, 4095) == FUAVELINO_RECORD && is_soiled());
     EXPECT(of_total(1, most + 1, 4095) == FUAVELINO_RECORD && is_soiled());
