@@ -204,7 +204,8 @@ fn any_run(rule: &Rule, r: &mut Random, depth: usize) -> Vec<Record> {
     shared(r, e, &counts, max)
 }
 
-/// An error of so many samples: small, large, of a power of ten, any, by the true power, or by the chart's edge; or one beside it. None of 0 but seldom.
+/// An error of so many samples: 1 and seldom 0, small, large, any, or where the ratio is a power of ten, a true power or an edge of the chart; or one
+/// beside it.
 fn error(rule: &Rule, r: &mut Random, n: u64, max: u32) -> u128 {
     let p = p_of(n, max);
     let most = p.min(u128::from(MOST_ERROR));
