@@ -46,7 +46,7 @@ enum fuavelino_refusal {
     FUAVELINO_KERNEL = 7,      /* the kernel is unlawful */
     FUAVELINO_SCRATCH = 8,     /* lent scratch, or room lent for a map or a kernel, is too short */
     FUAVELINO_NOT_FINITE = 9,  /* nothing else applies, and the defined score is infinite or not a number */
-    FUAVELINO_RECORD = 10,     /* a series of none or over 65536 records, or with a bad one */
+    FUAVELINO_RECORD = 10,     /* a series of none or over 65536 records, or with a bad one; decibels of a total that no series has */
     FUAVELINO_TOTAL = 11,      /* a series whose exact total is above 2^53 */
     FUAVELINO_VALUE = 12,      /* a root or a transform of what it does not take */
     FUAVELINO_WEIGHT = 13,     /* a weight outside 0 to 1, or a number that is not finite */
@@ -66,7 +66,7 @@ static inline const char *fuavelino_refusal_text(unsigned number) {
     case FUAVELINO_KERNEL: return "the kernel is unlawful";
     case FUAVELINO_SCRATCH: return "lent scratch, or room lent for a map or a kernel, is too short";
     case FUAVELINO_NOT_FINITE: return "the score is infinite or not a number";
-    case FUAVELINO_RECORD: return "a series of no records, of too many, or with a bad one";
+    case FUAVELINO_RECORD: return "a series of no records, of too many, or with a bad one; or a total that no series has";
     case FUAVELINO_TOTAL: return "the exact total of a series is above 2^53";
     case FUAVELINO_VALUE: return "a value, or a count of values, is out of range";
     case FUAVELINO_WEIGHT: return "a weight is outside 0 to 1, or a number is not finite";
@@ -75,7 +75,8 @@ static inline const char *fuavelino_refusal_text(unsigned number) {
     }
 }
 
-/* The squared error of a plane, or the total of a series of planes. An error of 0 says that they are identical: PSNR is called 100. */
+/* The squared error of a plane, or the total of a series of planes. An error of 0 says that they are identical: PSNR is called 100.
+ * fuavelino_decibels has the PSNR of any other. */
 typedef struct fuavelino_record {
     double sq_err;       /* a whole number from 0 to n * sample_max^2 */
     uint64_t n;          /* samples compared, 1 to FUAVELINO_MOST_SAMPLES in what a series takes */
@@ -124,6 +125,17 @@ size_t fuavelino_error_map_places(size_t width, size_t height);
 
 /* Adds up the errors and counts of a run of records, under their one sample_max. Refuses 10 11. */
 uint8_t fuavelino_series(const fuavelino_record *records, size_t count, double *sq_err, uint64_t *n, uint32_t *sample_max);
+
+/* PSNR of a run of records taken together, in whole hundredths of a decibel; with a count of 1 that of one record. Where the error is not 0,
+ * *identical is 0 and *hundredths is 1000 * log10(n * sample_max^2 / sq_err) of the total, rounded down: less than 1 below the exact figure, and
+ * above it by five billionths of a decibel at most. Where it is 0, *identical is 1 and *hundredths is 10000, the 100 dB that stand for it; an
+ * error that is not 0 can have 10000 too. A limit in hundredths is met where *identical || *hundredths >= limit. Refuses 10 11. */
+uint8_t fuavelino_decibels(const fuavelino_record *records, size_t count, uint32_t *hundredths, uint8_t *identical);
+
+/* The same of a total, as fuavelino_series writes it, or of several totals that were added up. 10: no series adds up to this, since n is not 1 to
+ * 65536 * FUAVELINO_MOST_SAMPLES, sample_max is no 2^depth - 1 with a depth of 1 to 12, or sq_err is not a whole number from 0 to
+ * n * sample_max^2, at most 2^53. */
+uint8_t fuavelino_total_decibels(double sq_err, uint64_t n, uint32_t sample_max, uint32_t *hundredths, uint8_t *identical);
 
 /* So many places serve for every kernel: no lawful one has more taps, and who lends them is never told 8 by fuavelino_kernel. */
 #define FUAVELINO_MOST_TAPS 255

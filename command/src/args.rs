@@ -2,9 +2,10 @@
 
 use crate::clip::{Clip, Picture};
 use crate::format::{decimal, Chroma, Format};
+use crate::limit::Limit;
 use crate::score::Metrics;
 use crate::stop::Stop;
-use crate::thresholds::{limit, Threshold, KINDS};
+use crate::thresholds::{Threshold, KINDS};
 use crate::words::{stands_alone, usage, Known, Words};
 use std::ffi::OsString;
 use std::path::PathBuf;
@@ -208,7 +209,7 @@ fn thresholds(words: &Words, metrics: &Metrics) -> Result<Vec<Threshold>, Stop> 
             None => continue,
         };
         let what = "a finite number, or one for a plane as in y=0.9";
-        let read = given.to_str().and_then(limit);
+        let read = given.to_str().and_then(Limit::read);
         let (plane, limit) = read.ok_or_else(|| usage(&format!("{} takes {}, not {:?}", option, what, given)))?;
         if list.iter().any(|other| (other.option(), other.plane) == (*option, plane)) {
             let plane = plane.map_or(String::new(), |plane| format!(" for {}", plane));

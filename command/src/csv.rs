@@ -1,11 +1,12 @@
 //! The report as CSV: a row for each plane of each frame and for their combination, then of the worst frames, the summary and
 //! the run, then one that says whether it passed. Every column is always there; what was not asked for is empty.
 
-use crate::report::{values, End, Job, Report, Value, FIELDS};
+use crate::report::{values, End, Job, Report, FIELDS};
 use crate::score::FrameScores;
 use crate::stop::PASSED;
 use crate::summary::{spaced, STATISTICS};
 use crate::thresholds::Broken;
+use crate::value::Value;
 use std::io::{self, Write};
 
 pub struct Csv;
@@ -45,17 +46,6 @@ fn rows(out: &mut dyn Write, start: &str, scores: &FrameScores) -> io::Result<()
 }
 
 fn row(out: &mut dyn Write, start: &str, plane: &str, values: &[Value]) -> io::Result<()> {
-    let cells: Vec<String> = values.iter().map(shown).collect();
+    let cells: Vec<String> = values.iter().map(Value::cell).collect();
     writeln!(out, "{},{},{}", start, plane, cells.join(","))
-}
-
-/// A figure as a cell.
-pub fn shown(value: &Value) -> String {
-    match value {
-        // the shortest decimal that reads back to the same bits
-        Value::Double(value) => format!("{:?}", value),
-        Value::Whole(value) => value.to_string(),
-        Value::Truth(value) => value.to_string(),
-        Value::None => String::new(),
-    }
 }

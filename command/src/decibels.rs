@@ -1,4 +1,5 @@
-//! Decibels, worked out by the host's logarithm as av-metrics does. Not proved; the scores under them are.
+//! Decibels, worked out by the host's logarithm as av-metrics does. Not proved; the scores under them are. Those of PSNR are told for whoever compares
+//! with av-metrics, and held against nothing: the library has its own.
 
 use fuavelino::video::{self, PERFECT};
 use fuavelino::PsnrMetrics;

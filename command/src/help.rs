@@ -21,7 +21,7 @@ fuavelino: compares a decoded video with its original, and passes only what is s
     Thresholds, each held for every plane of every frame and for every frame's combination; with y=X, u=X, v=X or combined=X
     for X, for that plane alone (once for each plane, and once without):
       --max-error X      squared error per sample, at most X
-      --min-psnr X       PSNR in decibels, at least X (identical planes meet any)
+      --min-psnr X       PSNR in decibels, at least X, to the hundredth (identical planes meet any)
       --min-ssim X       SSIM, at least X
       --min-cs X         SSIM without luminance, at least X
       --min-ssim-db X    SSIM in decibels, at least X

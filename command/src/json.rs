@@ -2,12 +2,12 @@
 
 use crate::format::{Format, COMBINED, PLANES};
 use crate::opened::Subject;
-use crate::report::{metric_of, values, End, Job, Place, Report, Value, FIELDS};
+use crate::report::{metric_of, values, End, Job, Place, Report, FIELDS};
 use crate::score::{FrameScores, Metrics, Scores};
 use crate::stop::{Fault, PASSED};
 use crate::summary::{Statistic, Summary, STATISTICS};
 use crate::thresholds::{Broken, Threshold};
-use crate::writer::{self, Writer};
+use crate::writer::Writer;
 use fuavelino::Kernel;
 use std::io::{self, Write};
 
@@ -107,7 +107,7 @@ pub fn asked(json: &mut Writer, metrics: &Metrics, thresholds: &[Threshold]) {
     json.close().name("thresholds").list();
     for threshold in thresholds {
         json.object().field("option", threshold.option()).field("plane", threshold.plane);
-        json.field("limit", threshold.limit).close();
+        json.field("limit", threshold.limit.number).close();
     }
     json.close();
 }
@@ -152,17 +152,6 @@ pub fn error(json: &mut Writer, fault: Option<&Fault>) {
     }
 }
 
-impl writer::Value for Value {
-    fn put(&self, text: &mut String) {
-        match self {
-            Value::Double(value) => value.put(text),
-            Value::Whole(value) => value.put(text),
-            Value::Truth(value) => value.put(text),
-            Value::None => None::<u64>.put(text),
-        }
-    }
-}
-
 fn format(json: &mut Writer, told: Option<Format>) {
     match told {
         Some(f) => {
@@ -176,7 +165,7 @@ fn format(json: &mut Writer, told: Option<Format>) {
 }
 
 fn breach(json: &mut Writer, broken: &Broken) {
-    json.object().field("option", broken.option).field("limit", broken.limit);
+    json.object().field("option", broken.option).field("limit", broken.limit.number);
     json.field("plane", broken.plane).field("field", broken.field).field("value", broken.value).close();
 }
 

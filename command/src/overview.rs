@@ -2,11 +2,11 @@
 
 use crate::args::{Compare, Form};
 use crate::compare::Ended;
-use crate::csv;
 use crate::json;
 use crate::report::{values, FIELDS};
 use crate::score::Scores;
 use crate::stop::{Fault, BROKEN, PASSED};
+use crate::value::Value;
 use crate::writer::Writer;
 use std::io::{self, Write};
 
@@ -121,7 +121,7 @@ impl Overview for Csv {
         let message = fault.as_ref().map_or("", |fault| &fault.message);
         let texts = [row.original, row.decoded, row.report.unwrap_or_default(), message].map(quoted);
         let combined = run.as_ref().map_or(Scores::default(), |run| run.combined);
-        let figures: Vec<String> = values(&combined).iter().map(csv::shown).collect();
+        let figures: Vec<String> = values(&combined).iter().map(Value::cell).collect();
         write!(out, "pair,{},{},{},{}", row.number, status, frames, broken)?;
         writeln!(out, ",{},{}", texts.join(","), figures.join(","))
     }

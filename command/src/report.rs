@@ -6,6 +6,7 @@ use crate::score::{FrameScores, Metrics, Scores};
 use crate::stop::Fault;
 use crate::summary::Summary;
 use crate::thresholds::{figures, Broken, Figure, Threshold};
+use crate::value::Value;
 use fuavelino::Kernel;
 use std::io::{self, Write};
 
@@ -91,31 +92,23 @@ fn worst_of(frame: u64, scores: &FrameScores, figure: Figure, worse: impl Fn(f64
     for (plane, scores) in scores.named().take(scores.planes.len()) {
         for (field, value) in figures(figure, scores) {
             match (value, &worst) {
-                (Some(value), Some(other)) if !worse(value, other.value) => {}
-                (Some(value), _) => worst = Some(Place { field, frame, plane, value }),
-                (None, _) => {}
+                (Value::Double(value), Some(other)) if !worse(value, other.value) => {}
+                (Value::Double(value), _) => worst = Some(Place { field, frame, plane, value }),
+                _ => {}
             }
         }
     }
     worst
 }
 
-/// A figure of scores as reports print it.
-pub enum Value {
-    Double(f64),
-    Whole(u64),
-    Truth(bool),
-    /// Not asked for, or not a number that can be told.
-    None,
-}
-
 /// The names of a plane's figures, in order.
-pub const FIELDS: [&str; 23] = [
+pub const FIELDS: [&str; 24] = [
     "sq_err",
     "n_pixels",
     "sample_max",
     "identical",
     "mse",
+    "psnr_hundredths",
     "psnr_db",
     "ssim",
     "cs",
@@ -138,7 +131,7 @@ pub const FIELDS: [&str; 23] = [
 
 /// The figures under those names.
 pub fn values(scores: &Scores) -> Vec<Value> {
-    let double = |value: Option<f64>| value.map_or(Value::None, Value::Double);
+    let double = Value::double;
     let decibels = |value: Option<Decibels>| double(value.map(Decibels::told));
     let mut list = match &scores.error {
         Some(record) => vec![
@@ -147,9 +140,10 @@ pub fn values(scores: &Scores) -> Vec<Value> {
             Value::Whole(u64::from(record.sample_max)),
             Value::Truth(record.is_identical()),
             Value::Double(mean_error(record)),
+            Value::psnr(scores.psnr),
             decibels(scores.psnr_db),
         ],
-        None => (0..6).map(|_| Value::None).collect(),
+        None => vec![Value::None; 7],
     };
     list.push(double(scores.ssim.map(|pair| pair.ssim)));
     list.push(double(scores.ssim.map(|pair| pair.cs)));
@@ -166,10 +160,10 @@ pub fn values(scores: &Scores) -> Vec<Value> {
 /// Which score each of the fields belongs to, by its number in `Metrics::NAMES`.
 pub fn metric_of(field: usize) -> usize {
     match field {
-        0..=5 => 0,
-        6..=8 => 1,
-        9..=18 => 2,
-        19..=20 => 3,
+        0..=6 => 0,
+        7..=9 => 1,
+        10..=19 => 2,
+        20..=21 => 3,
         _ => 4,
     }
 }

@@ -33,6 +33,9 @@ impl Metrics {
 #[derive(Clone, Copy, Debug, Default)]
 pub struct Scores {
     pub error: Option<PsnrMetrics>,
+    /// The library's. It is there wherever the error is, and decides.
+    pub psnr: Option<fuavelino::Decibels>,
+    /// av-metrics' figure, by the host's logarithm. It decides nothing, and need not be there.
     pub psnr_db: Option<Decibels>,
     pub ssim: Option<Pair>,
     pub ssim_db: Option<Decibels>,
@@ -185,7 +188,8 @@ pub fn figures(sums: &Scores, best: f64, count: f64, plane: &'static str) -> Res
     let told = |decibels: Option<Decibels>, score| decibels.ok_or_else(Refused::no_number(plane, score)).map(Some);
     let mut scores = Scores { error: sums.error, ..Scores::default() };
     if let Some(record) = sums.error {
-        scores.psnr_db = told(decibels::psnr(record), "decibels of PSNR")?;
+        scores.psnr = Some(record.hundredths().map_err(Refused::of(plane, "PSNR"))?);
+        scores.psnr_db = decibels::psnr(record);
     }
     if let Some(sum) = sums.ssim {
         scores.ssim = Some(pair(sum, "SSIM")?);

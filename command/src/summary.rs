@@ -1,8 +1,10 @@
 //! What a run's frames come to, figure by figure: their mean, and how bad the worst of them are.
 
 use crate::format::{COMBINED, PLANES};
-use crate::report::{values, Value, FIELDS};
+use crate::report::{values, FIELDS};
 use crate::score::FrameScores;
+use crate::value::Value;
+use fuavelino::Decibels;
 use std::cmp::Ordering;
 use std::collections::BinaryHeap;
 
@@ -34,15 +36,17 @@ impl Summary {
         self.scopes.resize_with(scopes, || FIELDS.iter().map(|field| spread(field)).collect());
         for (spreads, (_, scores)) in self.scopes.iter_mut().zip(scores.named()) {
             for (spread, value) in spreads.iter_mut().zip(values(scores)) {
-                if let (Some(spread), Value::Double(value)) = (spread, value) {
-                    spread.add(value);
+                match (spread, value) {
+                    (Some(spread), Value::Double(value)) => spread.add(value),
+                    (Some(spread), Value::Psnr(told)) => spread.add(rank(told)),
+                    _ => {}
                 }
             }
         }
     }
 
-    /// A statistic of each plane and of the combination, by name: of each asked figure its number among `FIELDS` and the
-    /// value, none where that was not kept.
+    /// A statistic of each plane and of the combination, by name: of each asked figure that has it, its number among `FIELDS` and
+    /// the value, none where that was not kept.
     pub fn told(&self, statistic: Statistic) -> impl Iterator<Item = (&'static str, Vec<Told>)> + '_ {
         let planes = self.scopes.len().saturating_sub(1);
         let names = PLANES.iter().copied().take(planes).chain([COMBINED]);
@@ -50,18 +54,34 @@ impl Summary {
         names.zip(self.scopes.iter().map(move |spreads| {
             let spreads =
                 spreads.iter().enumerate().filter_map(|(field, spread)| Some(field).zip(spread.as_ref().filter(asked)));
-            spreads.map(|(field, spread)| (field, spread.told(statistic))).collect()
+            spreads.filter_map(|(field, spread)| Some(field).zip(spread.value(statistic))).collect()
         }))
     }
 }
 
 /// A field's number among `FIELDS`, and its value.
-pub type Told = (usize, Option<f64>);
+pub type Told = (usize, Value);
 
 /// The same with a value for each of `FIELDS`, as a frame has them.
 pub fn spaced(told: &[Told]) -> Vec<Value> {
-    let value = |field: usize| told.iter().find(|one| one.0 == field).and_then(|one| one.1);
-    (0..FIELDS.len()).map(|field| value(field).map_or(Value::None, Value::Double)).collect()
+    let value = |field: usize| told.iter().find(|one| one.0 == field).map_or(Value::None, |one| one.1);
+    (0..FIELDS.len()).map(value).collect()
+}
+
+/// PSNR as a double in the order of its ranks: identical planes come after every number.
+fn rank(told: Decibels) -> f64 {
+    match told {
+        Decibels::Hundredths(told) => f64::from(told),
+        Decibels::Identical => f64::INFINITY,
+    }
+}
+
+fn of_rank(rank: f64) -> Decibels {
+    if rank.is_finite() {
+        Decibels::Hundredths(rank as u32)
+    } else {
+        Decibels::Identical
+    }
 }
 
 /// The field's spread, unless it is a count, a sum or a yes or no.
@@ -69,6 +89,7 @@ fn spread(field: &str) -> Option<Spread> {
     match field {
         "sq_err" | "n_pixels" | "sample_max" | "identical" => None,
         "mse" | "hvs" => Some(Spread::new(-1.0)),
+        "psnr_hundredths" => Some(Spread { ranks: true, ..Spread::new(1.0) }),
         _ => Some(Spread::new(1.0)),
     }
 }
@@ -77,6 +98,8 @@ fn spread(field: &str) -> Option<Spread> {
 struct Spread {
     /// 1 where the least is the worst, −1 where the most is: times it, the least is the worst.
     sign: f64,
+    /// Whether the values are ranks of PSNR.
+    ranks: bool,
     count: u64,
     sum: f64,
     /// The worst values times the sign; the best of them comes out first.
@@ -85,7 +108,7 @@ struct Spread {
 
 impl Spread {
     fn new(sign: f64) -> Spread {
-        Spread { sign, count: 0, sum: 0.0, worst: BinaryHeap::new() }
+        Spread { sign, ranks: false, count: 0, sum: 0.0, worst: BinaryHeap::new() }
     }
 
     fn add(&mut self, value: f64) {
@@ -98,6 +121,16 @@ impl Spread {
         self.worst.push(Ordered(value * self.sign));
         if self.worst.len() > kept {
             self.worst.pop();
+        }
+    }
+
+    /// As reports have it. PSNR in whole hundredths has no mean: that of the doubles is told instead.
+    fn value(&self, statistic: Statistic) -> Option<Value> {
+        let told = self.told(statistic);
+        match (self.ranks, statistic) {
+            (true, Statistic::Mean) => None,
+            (true, _) => Some(Value::psnr(told.map(of_rank))),
+            (false, _) => Some(Value::double(told)),
         }
     }
 
@@ -189,5 +222,24 @@ mod tests {
         }
         assert_eq!(Spread::new(1.0).told(Statistic::Percentile(1)), None);
         assert_eq!(Spread::new(1.0).told(Statistic::Mean), None);
+    }
+
+    /// 100 frames of these, of which the fifth worst is told.
+    fn fifth(worst: [Decibels; 5], rest: Decibels) -> Value {
+        let mut spread = spread("psnr_hundredths").unwrap();
+        (0..95).map(|_| rest).chain(worst).for_each(|told| spread.add(rank(told)));
+        assert_eq!(spread.value(Statistic::Mean), None);
+        spread.value(Statistic::Percentile(5)).unwrap()
+    }
+
+    /// They are told as 10,000, and no frame that is above that is better.
+    #[test]
+    fn identical_frames_rank_above_every_psnr() {
+        let close = Decibels::Hundredths(20_469);
+        assert_eq!(fifth([close; 5], Decibels::Identical), Value::Psnr(close));
+        let four = [close, close, Decibels::Identical, close, close];
+        assert_eq!(fifth(four, Decibels::Identical), Value::Psnr(Decibels::Identical));
+        let ten_thousand = Decibels::Hundredths(10_000);
+        assert_eq!(fifth([ten_thousand; 5], close), Value::Psnr(ten_thousand));
     }
 }

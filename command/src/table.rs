@@ -3,17 +3,19 @@
 use crate::decibels::Decibels;
 use crate::format::PLANES;
 use crate::opened::Subject;
-use crate::report::{metric_of, values, End, Job, Place, Report, Value, FIELDS};
+use crate::report::{metric_of, values, End, Job, Place, Report, FIELDS};
 use crate::score::{FrameScores, Scores};
 use crate::stop::PASSED;
 use crate::summary::{spaced, STATISTICS};
 use crate::thresholds::Broken;
+use crate::value::Value;
 use fuavelino::Kernel;
 use std::io::{self, Write};
 
 const FOOT: &str = "
-Each plane's scores and each frame's combination come from proved calls. Not proved: decibels (dB), MS-SSIM's product of
-the scales, the squared error per sample (mse), the division by the weight in a combined SSIM, a run's means over its frames.
+Each plane's scores, each frame's combination and PSNR, rounded down to hundredths, come from proved calls. Not proved: the
+other decibels (dB) and the mean of PSNR, MS-SSIM's product of the scales, the squared error per sample (mse), the division by
+the weight in a combined SSIM, a run's means over its frames.
 ";
 
 const BUILT: &str = "\
@@ -31,7 +33,7 @@ type Column = (&'static str, &'static str, usize, fn(f64) -> String);
 const COLUMNS: [Column; 15] = [
     ("sq_err", "sq_err", 12, |value| format!("{:.0}", value)),
     ("mse", "mse", 10, |value| format!("{:.4}", value)),
-    ("psnr_db", "PSNR dB", 9, decibels),
+    ("psnr_hundredths", "PSNR dB", 9, |value| format!("{:.2}", value)),
     ("ssim", "SSIM", 9, share),
     ("cs", "CS", 9, share),
     ("ssim_db", "SSIM dB", 8, decibels),
@@ -82,7 +84,7 @@ impl Report for Table {
         for (name, statistic) in STATISTICS {
             for (plane, told) in end.summary.iter().flat_map(|summary| summary.told(statistic)) {
                 let values = spaced(&told);
-                writeln!(out, "{}", self.row(name, plane, |field, column| rounded(&values[field], column)))?;
+                writeln!(out, "{}", self.row(name, plane, |field, column| statistic_of(&values, field, column)))?;
             }
         }
         writeln!(out)?;
@@ -192,17 +194,29 @@ fn harmed(place: &Place) -> bool {
     }
 }
 
+/// PSNR's mean is that of av-metrics' figure: whole hundredths have none.
+fn statistic_of(values: &[Value], field: usize, column: &Column) -> String {
+    match (column.0, values[field]) {
+        ("psnr_hundredths", Value::None) => {
+            let double = FIELDS.iter().position(|field| *field == "psnr_db").map(|field| values[field]);
+            double.map_or(String::new(), |double| rounded(&double, column))
+        }
+        (_, value) => rounded(&value, column),
+    }
+}
+
+/// PSNR is not rounded here: it has as many digits as it is told with.
 fn rounded(value: &Value, column: &Column) -> String {
     match value {
         Value::Double(value) => column.3(*value),
+        Value::Psnr(told) => told.to_string(),
         _ => String::new(),
     }
 }
 
-/// A word in the place of decibels that nothing can better.
+/// A word in the place of decibels that nothing can better. PSNR has its own.
 fn perfect(field: &str, scores: &Scores) -> Option<&'static str> {
     let (decibels, word) = match field {
-        "psnr_db" => (scores.psnr_db, "identical"),
         "ssim_db" => (scores.ssim_db, "perfect"),
         "msssim_db" => (scores.msssim_db, "perfect"),
         "hvs_db" => (scores.hvs_db, "no error"),

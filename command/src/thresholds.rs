@@ -2,7 +2,9 @@
 
 use crate::decibels::{mean_error, Decibels};
 use crate::format::{COMBINED, PLANES};
+use crate::limit::Limit;
 use crate::score::{FrameScores, Metrics, Scores};
+use crate::value::Value;
 
 /// What a threshold is held against.
 #[derive(Clone, Copy, Debug, PartialEq, Eq)]
@@ -64,7 +66,7 @@ pub struct Threshold {
     pub run: bool,
     /// The one plane that it is about, or the combination.
     pub plane: Option<&'static str>,
-    pub limit: f64,
+    pub limit: Limit,
 }
 
 impl Threshold {
@@ -74,7 +76,7 @@ impl Threshold {
 
     pub fn show(&self) -> String {
         let plane = self.plane.map_or(String::new(), |plane| format!("{}=", plane));
-        format!("{} {}{:?}", self.option(), plane, self.limit)
+        format!("{} {}{}", self.option(), plane, self.limit.show())
     }
 
     /// Whether it is about a plane that is not among the first so many: it would pass whatever comes.
@@ -89,37 +91,28 @@ impl Threshold {
     }
 }
 
-/// A limit as it is written: a finite number, perhaps with a plane before it, as in `y=0.98`.
-pub fn limit(text: &str) -> Option<(Option<&'static str>, f64)> {
-    let (plane, number) = match text.split_once('=') {
-        Some((name, number)) => {
-            let mut names = PLANES.iter().chain([&COMBINED]);
-            (Some(*names.find(|known| **known == name)?), number)
-        }
-        None => (None, text),
-    };
-    let limit = number.parse::<f64>().ok().filter(|limit| limit.is_finite())?;
-    Some((plane, limit))
-}
-
 /// A threshold that a figure of a frame or of the run does not meet. A figure that is not there meets none.
 #[derive(Debug, PartialEq)]
 pub struct Broken {
     pub option: &'static str,
-    pub limit: f64,
+    pub limit: Limit,
     /// None for the run.
     pub frame: Option<u64>,
     pub plane: &'static str,
     pub field: &'static str,
-    pub value: Option<f64>,
+    pub value: Value,
 }
 
 impl Broken {
     pub fn show(&self) -> String {
-        let value = self.value.map_or("not given".to_string(), |value| format!("{:?}", value));
         let place = self.frame.map_or("the run".to_string(), |frame| format!("frame {}", frame));
-        let Broken { plane, field, option, limit, .. } = self;
-        format!("{}, plane {}: {} is {}, which breaks {} {:?}", place, plane, field, value, option, limit)
+        let (field, limit) = match self.field {
+            // people are told decibels
+            PSNR => ("psnr", self.limit.show_decibels()),
+            field => (field, self.limit.show()),
+        };
+        let Broken { plane, option, value, .. } = self;
+        format!("{}, plane {}: {} is {}, which breaks {} {}", place, plane, field, value.said(), option, limit)
     }
 }
 
@@ -141,28 +134,33 @@ pub fn broken(thresholds: &[Threshold], frame: Option<u64>, scores: &FrameScores
 }
 
 /// Written so that a figure passes by being shown good: anything that does not compare fails.
-fn met(threshold: &Threshold, value: Option<f64>) -> bool {
+fn met(threshold: &Threshold, value: Value) -> bool {
     match value {
-        Some(value) if threshold.kind.least => value >= threshold.limit,
-        Some(value) => value <= threshold.limit,
-        None => false,
+        Value::Psnr(told) if threshold.kind.least => threshold.limit.is_met(told),
+        Value::Double(value) if threshold.kind.least => value >= threshold.limit.number,
+        Value::Double(value) => value <= threshold.limit.number,
+        _ => false,
     }
 }
 
+/// The field of PSNR that limits are held against.
+const PSNR: &str = "psnr_hundredths";
+
 const SCALES: [&str; 5] = ["scale1_ssim", "scale2_ssim", "scale3_ssim", "scale4_ssim", "scale5_ssim"];
 
-/// The figures of a kind, by the names that reports give them. Perfect decibels meet every limit.
-pub fn figures(figure: Figure, scores: &Scores) -> Vec<(&'static str, Option<f64>)> {
-    let one = |field, value| vec![(field, value)];
-    let decibels = |field, decibels: Option<Decibels>| vec![(field, decibels.map(Decibels::held))];
+/// The figures of a kind, by the names that reports give them. Perfect decibels meet every limit. PSNR is the library's: that by the host's logarithm
+/// is held against nothing.
+pub fn figures(figure: Figure, scores: &Scores) -> Vec<(&'static str, Value)> {
+    let one = |field, value: Option<f64>| vec![(field, Value::double(value))];
+    let decibels = |field, decibels: Option<Decibels>| one(field, decibels.map(Decibels::held));
     match figure {
         Figure::MeanError => one("mse", scores.error.map(|record| mean_error(&record))),
-        Figure::Psnr => decibels("psnr_db", scores.psnr_db),
+        Figure::Psnr => vec![(PSNR, Value::psnr(scores.psnr))],
         Figure::Ssim => one("ssim", scores.ssim.map(|pair| pair.ssim)),
         Figure::Cs => one("cs", scores.ssim.map(|pair| pair.cs)),
         Figure::SsimDb => decibels("ssim_db", scores.ssim_db),
         Figure::Scale => {
-            let of = |scale: usize| scores.scales.map(|pairs| pairs[scale].ssim);
+            let of = |scale: usize| Value::double(scores.scales.map(|pairs| pairs[scale].ssim));
             SCALES.iter().enumerate().map(|(scale, name)| (*name, of(scale))).collect()
         }
         Figure::MsSsim => one("msssim", scores.msssim),
@@ -175,10 +173,16 @@ pub fn figures(figure: Figure, scores: &Scores) -> Vec<(&'static str, Option<f64
 #[cfg(test)]
 mod tests {
     use super::*;
+    use fuavelino::Decibels as Psnr;
 
     fn threshold(option: &str, limit: f64) -> Threshold {
         let kind = KINDS.iter().find(|kind| kind.options[0] == option).unwrap();
-        Threshold { kind, run: false, plane: None, limit }
+        Threshold { kind, run: false, plane: None, limit: written(limit) }
+    }
+
+    /// A limit as one that was written.
+    fn written(limit: f64) -> Limit {
+        Limit::read(&format!("{:?}", limit)).unwrap().1
     }
 
     #[test]
@@ -186,25 +190,62 @@ mod tests {
         let up = |x: f64| f64::from_bits(x.to_bits() + 1);
         let down = |x: f64| f64::from_bits(x.to_bits() - 1);
         for limit in [0.5, 1.0, 40.0] {
-            assert!(met(&threshold("--min-ssim", limit), Some(limit)));
-            assert!(met(&threshold("--min-ssim", limit), Some(up(limit))));
-            assert!(!met(&threshold("--min-ssim", limit), Some(down(limit))));
-            assert!(met(&threshold("--max-hvs", limit), Some(limit)));
-            assert!(met(&threshold("--max-hvs", limit), Some(down(limit))));
-            assert!(!met(&threshold("--max-hvs", limit), Some(up(limit))));
+            assert!(met(&threshold("--min-ssim", limit), Value::Double(limit)));
+            assert!(met(&threshold("--min-ssim", limit), Value::Double(up(limit))));
+            assert!(!met(&threshold("--min-ssim", limit), Value::Double(down(limit))));
+            assert!(met(&threshold("--max-hvs", limit), Value::Double(limit)));
+            assert!(met(&threshold("--max-hvs", limit), Value::Double(down(limit))));
+            assert!(!met(&threshold("--max-hvs", limit), Value::Double(up(limit))));
         }
+    }
+
+    /// By the library's hundredths, whatever the host's logarithm gives, or does not give.
+    #[test]
+    fn psnr_is_judged_by_its_hundredths() {
+        let told = |psnr, psnr_db| Scores { psnr: Some(psnr), psnr_db, ..Scores::default() };
+        let held = |limit: f64, combined: Scores| {
+            let scores = FrameScores { planes: vec![], combined };
+            broken(&[threshold("--min-psnr", limit)], Some(4), &scores)
+                .iter()
+                .map(Broken::show)
+                .collect::<Vec<String>>()
+        };
+        let some = |told: u32| Psnr::Hundredths(told);
+        for psnr_db in [
+            None,
+            Some(Decibels::Of(0.0)),
+            Some(Decibels::Of(1e9)),
+            Some(Decibels::Of(f64::NAN)),
+            Some(Decibels::Perfect),
+        ] {
+            assert_eq!(held(38.92, told(some(3_892), psnr_db)), [""; 0]);
+            let message = "frame 4, plane combined: psnr is 38.91, which breaks --min-psnr 38.92";
+            assert_eq!(held(38.92, told(some(3_891), psnr_db)), [message]);
+            let message = "frame 4, plane combined: psnr is 38.92, which breaks --min-psnr 38.921 (taken up to 38.93)";
+            assert_eq!(held(38.921, told(some(3_892), psnr_db)), [message]);
+            assert_eq!(held(1e300, told(Psnr::Identical, psnr_db)), [""; 0]);
+            assert_eq!(held(1e300, told(some(20_469), psnr_db)).len(), 1);
+        }
+        // and where it is not there, the host's does not stand in for it
+        let none = Scores { psnr_db: Some(Decibels::Perfect), ..Scores::default() };
+        assert_eq!(held(-1.0, none), ["frame 4, plane combined: psnr is not given, which breaks --min-psnr -1.0"]);
     }
 
     #[test]
     fn what_is_not_a_number_or_not_there_meets_nothing() {
         for kind in &KINDS {
-            for limit in [-1e300, 0.0, 1e300, f64::NAN] {
-                let threshold = Threshold { kind, run: false, plane: None, limit };
-                assert!(!met(&threshold, Some(f64::NAN)));
-                assert!(!met(&threshold, None));
+            for limit in [-1e300, 0.0, 1e300] {
+                let threshold = Threshold { kind, run: false, plane: None, limit: written(limit) };
+                assert!(!met(&threshold, Value::Double(f64::NAN)));
+                assert!(!met(&threshold, Value::None));
             }
+            let mut nothing = Threshold { kind, run: false, plane: None, limit: written(0.0) };
+            nothing.limit.number = f64::NAN;
+            assert!(!met(&nothing, Value::Double(0.0)) && !met(&nothing, Value::Double(1.0)));
         }
-        assert!(!met(&threshold("--min-ssim", f64::NAN), Some(1.0)));
+        // nor what is of another kind
+        assert!(!met(&threshold("--max-error", 1e300), Value::Psnr(Psnr::Hundredths(0))));
+        assert!(!met(&threshold("--min-ssim", 0.0), Value::Whole(1)));
     }
 
     #[test]
@@ -212,7 +253,7 @@ mod tests {
         let nothing = FrameScores { planes: vec![Scores::default()], combined: Scores::default() };
         for kind in &KINDS {
             for frame in [Some(0), None] {
-                let threshold = Threshold { kind, run: frame.is_none(), plane: None, limit: 0.0 };
+                let threshold = Threshold { kind, run: frame.is_none(), plane: None, limit: written(0.0) };
                 assert!(!broken(&[threshold], frame, &nothing).is_empty());
                 // one of the run is not held against frames, nor the other way round
                 assert!(broken(&[Threshold { run: frame.is_some(), ..threshold }], frame, &nothing).is_empty());
@@ -239,7 +280,7 @@ mod tests {
     fn without_a_name_the_combination_is_judged_too() {
         let alone = FrameScores { planes: vec![], combined: Scores::default() };
         for kind in &KINDS {
-            let held = Threshold { kind, run: false, plane: None, limit: 0.0 };
+            let held = Threshold { kind, run: false, plane: None, limit: written(0.0) };
             let list = broken(&[held], Some(0), &alone);
             assert!(!list.is_empty() && list.iter().all(|one| one.plane == COMBINED), "{}", held.option());
         }

@@ -114,7 +114,7 @@ fn sum(so_far: &Scores, next: &Scores) -> Scores {
 #[cfg(test)]
 mod tests {
     use super::*;
-    use fuavelino::MOST_SAMPLES;
+    use fuavelino::{Decibels, MOST_SAMPLES};
 
     const RECORD: PsnrMetrics = PsnrMetrics { sq_err: 25.0, n_pixels: 3, sample_max: 255 };
 
@@ -138,6 +138,40 @@ mod tests {
             let sum = total(count, RECORD).unwrap();
             assert_eq!((sum.sq_err, sum.n_pixels), (25.0 * count as f64, 3 * count as u64));
             assert_eq!(sum.sample_max, 255);
+            assert_eq!(sum.hundredths(), RECORD.hundredths());
+        }
+    }
+
+    /// A run of frames of one plane, all of these.
+    fn run_of(count: usize, error: PsnrMetrics) -> Result<FrameScores, Refused> {
+        let plane = Scores { error: Some(error), ..Scores::default() };
+        let frame = FrameScores { planes: vec![plane], combined: plane };
+        let mut run = Run::new(1, 0.0);
+        for _ in 0..count {
+            run.add(&frame)?;
+        }
+        run.end()
+    }
+
+    #[test]
+    fn a_run_has_the_psnr_of_its_total() {
+        for count in [1, 65_536, 65_537, 200_000] {
+            let run = run_of(count, RECORD).ok().unwrap();
+            assert_eq!([run.planes[0].psnr, run.combined.psnr], [Some(Decibels::Hundredths(3_892)); 2]);
+        }
+    }
+
+    /// 65,536 of the largest planes have as many samples as any series, which has decibels; one more has none, whatever its error.
+    #[test]
+    fn a_run_of_more_samples_than_any_series_is_refused() {
+        for sq_err in [0.0, 1.0] {
+            let large = PsnrMetrics { sq_err, n_pixels: MOST_SAMPLES, sample_max: 255 };
+            let told = run_of(65_536, large).ok().unwrap();
+            let owed = if sq_err == 0.0 { Decibels::Identical } else { Decibels::Hundredths(13_241) };
+            assert_eq!([told.planes[0].psnr, told.combined.psnr], [Some(owed); 2]);
+            let fault = run_of(65_537, large).err().unwrap().at("the run");
+            assert_eq!(fault.refusal, Some(Refusal::Record));
+            assert!(fault.message.starts_with("the run, plane y: PSNR: refusal 10: "), "{}", fault.message);
         }
     }
 

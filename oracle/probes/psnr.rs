@@ -11,6 +11,11 @@ pub fn probe_record<T: Pixel>(a: &Plane<T>, b: &Plane<T>, depth: usize) -> (f64,
     (m.sq_err, m.n_pixels, m.sample_max)
 }
 
+/// PSNR in decibels of one record.
+pub fn probe_decibels((sq_err, n_pixels, sample_max): (f64, usize, usize)) -> f64 {
+    calculate_psnr(PsnrMetrics { sq_err, n_pixels, sample_max })
+}
+
 /// PSNR in decibels of records taken together.
 pub fn probe_summed(records: &[(f64, usize, usize)]) -> f64 {
     let of = |r: &(f64, usize, usize)| PsnrMetrics { sq_err: r.0, n_pixels: r.1, sample_max: r.2 };

@@ -3,10 +3,15 @@
 //! judge [--full] [--seed N] [FAMILY..]
 
 mod averaged;
+mod big;
 mod charted;
 mod combine;
 mod combine_laws;
 mod combine_ways;
+mod decibels;
+mod decibels_cases;
+mod decibels_rule;
+mod decibels_ways;
 mod downscale;
 mod family;
 mod five;
@@ -38,7 +43,7 @@ use std::process::exit;
 /// A family's name, and what runs it.
 type Named = (&'static str, fn(Run) -> bool);
 
-const FAMILIES: [Named; 14] = [
+const FAMILIES: [Named; 15] = [
     ("published", published_numbers::compare),
     ("root", root::compare),
     ("plane", plane::compare),
@@ -46,6 +51,7 @@ const FAMILIES: [Named; 14] = [
     ("squared", squared::compare),
     ("located", located::compare),
     ("series", series::compare),
+    ("decibels", decibels::compare),
     ("ssim", ssim::compare),
     ("charted", charted::compare),
     ("hvs", hvs::compare),

@@ -8,12 +8,12 @@ use crate::samples::runs;
 use fuavelino::{no_alloc, PsnrMetrics as Record};
 
 /// What is left at the three places: the error's bits, n, sample_max.
-type Left = (u64, u64, u32);
+pub type Left = (u64, u64, u32);
 
 /// What they hold before a call, and must hold after a refusal.
 const BEFORE: Left = (0x7FF4_DEAD_BEEF_0001, 0x0123_4567_89AB_CDEF, 0xFEED_F00D);
-const MOST_RECORDS: usize = 65_536;
-const MOST_ERROR: u64 = 1 << 53;
+pub const MOST_RECORDS: usize = 65_536;
+pub const MOST_ERROR: u64 = 1 << 53;
 
 pub fn compare(ask: Run) -> bool {
     let cases = if ask.full { 5_000_000 } else { 1_000_000 };
@@ -86,7 +86,7 @@ fn sound_error(record: &Record, first_max: u32) -> Option<u128> {
 }
 
 /// The total, or the number of the refusal.
-fn model(records: &[Record]) -> Result<Left, u8> {
+pub fn model(records: &[Record]) -> Result<Left, u8> {
     if records.is_empty() || records.len() > MOST_RECORDS {
         return Err(10);
     }
@@ -136,26 +136,11 @@ impl Family for Series {
     }
 
     fn smaller(&self, records: &Vec<Record>) -> Vec<Vec<Record>> {
-        let count = records.len();
-        let mut list: Vec<_> =
-            less(count).into_iter().flat_map(|n| [records[..n].to_vec(), records[count - n..].to_vec()]).collect();
-        if count > 40 {
-            return list;
-        }
-        for i in 0..count {
-            list.push([&records[..i], &records[i + 1..]].concat());
-            for next in smaller_record(&records[i]) {
-                let mut records = records.clone();
-                records[i] = next;
-                list.push(records);
-            }
-        }
-        list
+        smaller(records)
     }
 
     fn show(&self, records: &Vec<Record>) -> String {
-        let word = |r: &Record| format!("{} ({:#018X}) {} {}", r.sq_err, r.sq_err.to_bits(), r.n_pixels, r.sample_max);
-        format!("a series of {} records:\n    {}", records.len(), runs(records, word).join("\n    "))
+        show(records)
     }
 
     fn answers(&self) -> Vec<u8> {
@@ -163,7 +148,34 @@ impl Family for Series {
     }
 }
 
-fn smaller_record(record: &Record) -> Vec<Record> {
+/// Fewer records, or one of them simpler.
+pub fn smaller(records: &[Record]) -> Vec<Vec<Record>> {
+    let count = records.len();
+    let mut list: Vec<_> =
+        less(count).into_iter().flat_map(|n| [records[..n].to_vec(), records[count - n..].to_vec()]).collect();
+    if count > 40 {
+        return list;
+    }
+    for i in 0..count {
+        list.push([&records[..i], &records[i + 1..]].concat());
+        for next in smaller_record(&records[i]) {
+            let mut records = records.to_vec();
+            records[i] = next;
+            list.push(records);
+        }
+    }
+    list
+}
+
+pub fn show(records: &[Record]) -> String {
+    format!("a series of {} records:\n    {}", records.len(), runs(records, show_record).join("\n    "))
+}
+
+pub fn show_record(r: &Record) -> String {
+    format!("{} ({:#018X}) {} {}", r.sq_err, r.sq_err.to_bits(), r.n_pixels, r.sample_max)
+}
+
+pub fn smaller_record(record: &Record) -> Vec<Record> {
     let error = record.sq_err;
     let errors = [0.0, 1.0, (error / 2.0).floor(), error - 1.0].into_iter().filter(|e| e.abs() < error.abs());
     let mut list: Vec<Record> = errors.map(|sq_err| Record { sq_err, ..*record }).collect();
@@ -173,7 +185,7 @@ fn smaller_record(record: &Record) -> Vec<Record> {
 }
 
 /// A sound record of this depth.
-fn sound(r: &mut Random, depth: u32) -> Record {
+pub fn sound(r: &mut Random, depth: u32) -> Record {
     let max = (1u64 << depth) - 1;
     let some = r.bits(28) + 1;
     let n = r.pick(&[1, 2, SAMPLES - 1, SAMPLES, some, some, some]);
@@ -185,9 +197,9 @@ fn sound(r: &mut Random, depth: u32) -> Record {
 }
 
 /// The kinds of bad record, made from a sound one: one more at the end for a max that is lawful, and not the first's.
-const KINDS: usize = 24;
+pub const KINDS: usize = 24;
 
-fn spoilt(record: &Record, kind: usize) -> Record {
+pub fn spoilt(record: &Record, kind: usize) -> Record {
     let Record { sq_err, n_pixels: n, sample_max: max } = *record;
     let most = n as f64 * f64::from(max) * f64::from(max);
     let error = |sq_err: f64| Record { sq_err, n_pixels: n, sample_max: max };
@@ -243,7 +255,7 @@ fn any(r: &mut Random) -> Vec<Record> {
 }
 
 /// A series whose error is 2^53, or a little off it.
-fn near_the_limit(r: &mut Random) -> Vec<Record> {
+pub fn near_the_limit(r: &mut Random) -> Vec<Record> {
     let most = SAMPLES * 4_095 * 4_095 / r.pick(&[1, 1, 4, 9]);
     let mut left = MOST_ERROR + r.pick(&[0, 0, 1, 1, 2, 3, 1_000]) - r.pick(&[0, 0, 0, 1, 2]);
     let mut records = Vec::new();

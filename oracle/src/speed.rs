@@ -27,8 +27,9 @@ const PATIENCE: Duration = Duration::from_secs(6);
 
 type Named = (&'static str, fn());
 
-const ALL: [Named; 9] = [
+const ALL: [Named; 10] = [
     ("root", root),
+    ("decibels", decibels),
     ("forward", forward),
     ("squared", || at_both_sizes(squared, squared)),
     ("first", || at_both_sizes(first, first)),
@@ -100,6 +101,38 @@ fn guess(x: f64) -> u64 {
     let y = step(step(step(f64::from_bits(0x5FE6_EB50_C7B5_37A9 - bits / 2))));
     let s = x * y;
     (s + 0.5 * y * (x - s * s)).to_bits()
+}
+
+/// Records of any size, depth and error, each as a run of its own and as a total; beside the published three logarithms.
+fn decibels() {
+    let mut r = Random::of(1, "speed", 3);
+    let mut any = || {
+        let (n_pixels, sample_max) = (1 + r.bits(28), (1 << r.within(1, 12)) - 1);
+        let most = n_pixels * u64::from(sample_max) * u64::from(sample_max);
+        PsnrMetrics { sq_err: (1 + r.bits(53) % most) as f64, n_pixels, sample_max }
+    };
+    let list: Vec<PsnrMetrics> = (0..20_000).map(|_| any()).collect();
+    let other = || {
+        for record in &list {
+            let PsnrMetrics { sq_err, n_pixels, sample_max } = black_box(*record);
+            black_box(psnr::probe_decibels((sq_err, n_pixels as usize, sample_max as usize)));
+        }
+    };
+    type Call = fn(PsnrMetrics, &mut u32, &mut u8) -> Result<(), fuavelino::Refusal>;
+    let calls: [(&str, Call); 2] = [
+        ("one record", |record, hundredths, identical| no_alloc::decibels(&[record], hundredths, identical)),
+        ("one total", no_alloc::total_decibels),
+    ];
+    for (what, call) in calls {
+        let product = || {
+            let (mut hundredths, mut identical) = (0, 0);
+            for record in &list {
+                assert_eq!(call(black_box(*record), &mut hundredths, &mut identical), Ok(()));
+                black_box((hundredths, identical));
+            }
+        };
+        beside(what, list.len(), "published", product, other);
+    }
 }
 
 /// Blocks of differences of samples.

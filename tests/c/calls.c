@@ -263,6 +263,88 @@ static void series(void) {
     EXPECT(error == two_to_53 && n == UINT64_C(3) * FUAVELINO_MOST_SAMPLES);
 }
 
+/* What PSNR's calls write. They are soiled before each call, so that what it leaves is seen. */
+static uint32_t hundredths;
+static uint8_t identical;
+
+static void soil_decibels(void) { hundredths = 77, identical = 88; }
+
+/* Whether they tell this much, that the planes are identical, or nothing. */
+static int is_decibels(uint32_t wanted) { return hundredths == wanted && identical == 0; }
+static int is_identical(void) { return hundredths == 10000 && identical == 1; }
+static int is_soiled(void) { return hundredths == 77 && identical == 88; }
+
+static uint8_t of_run(const fuavelino_record *run, size_t count) {
+    soil_decibels();
+    return CALL(fuavelino_decibels, (run, count, &hundredths, &identical));
+}
+
+static uint8_t of_total(double sq_err, uint64_t n, uint32_t sample_max) {
+    soil_decibels();
+    return CALL(fuavelino_total_decibels, (sq_err, n, sample_max, &hundredths, &identical));
+}
+
+static void decibels(void) {
+    static fuavelino_record run[65537];
+    size_t i;
+    for (i = 0; i < COUNT(run); i++) run[i].sq_err = 0, run[i].n = 3, run[i].sample_max = 255;
+    /* only the last of as many as can be is wrong */
+    run[65535].sq_err = 3 * 65025.0;
+    EXPECT(of_run(run, 65536) == 0 && is_decibels(4816));
+    EXPECT(of_run(run, 65535) == 0 && is_identical());
+    EXPECT(of_run(run, 0) == FUAVELINO_RECORD && is_soiled());
+    EXPECT(of_run(run, 65537) == FUAVELINO_RECORD && is_soiled());
+    /* one sample of three as wrong as can be, then all three, then three of six */
+    run[0].sq_err = 65025;
+    EXPECT(of_run(run, 1) == 0 && is_decibels(477));
+    run[0].sq_err = 3 * 65025.0;
+    EXPECT(of_run(run, 1) == 0 && is_decibels(0));
+    EXPECT(of_run(run, 2) == 0 && is_decibels(301));
+    EXPECT(of_run(run + 1, 1) == 0 && is_identical());
+    /* a bad record: one error more, another sample_max, a count past its limit, minus nothing */
+    run[0].sq_err += 1;
+    EXPECT(of_run(run, 2) == FUAVELINO_RECORD && is_soiled());
+    run[0].sq_err = 0, run[0].sample_max = 1023;
+    EXPECT(of_run(run, 2) == FUAVELINO_RECORD && is_soiled());
+    EXPECT(of_run(run, 1) == 0 && is_identical());
+    run[0].n = FUAVELINO_MOST_SAMPLES + UINT64_C(1);
+    EXPECT(of_run(run, 1) == FUAVELINO_RECORD && is_soiled());
+    run[0].n--;
+    EXPECT(of_run(run, 1) == 0 && is_identical());
+    run[0].sq_err = -0.0;
+    EXPECT(of_run(run, 1) == FUAVELINO_RECORD && is_soiled());
+    /* the largest errors of three planes are too much together, of two they are not */
+    for (i = 0; i < 3; i++) run[i].sq_err = 4501400872550400.0, run[i].n = FUAVELINO_MOST_SAMPLES, run[i].sample_max = 4095;
+    EXPECT(of_run(run, 2) == 0 && is_decibels(0));
+    EXPECT(of_run(run, 3) == FUAVELINO_TOTAL && is_soiled());
+}
+
+static void total_decibels(void) {
+    const uint64_t most = UINT64_C(65536) * FUAVELINO_MOST_SAMPLES;
+    const double two_to_53 = 9007199254740992.0;
+    EXPECT(of_total(25, 3, 255) == 0 && is_decibels(3892));
+    EXPECT(of_total(1, FUAVELINO_MOST_SAMPLES, 255) == 0 && is_decibels(13241));
+    EXPECT(of_total(1, most, 4095) == 0 && is_decibels(20469));
+    EXPECT(of_total(0, most, 4095) == 0 && is_identical());
+    /* 100 dB that are not identical, and the next smaller ratio */
+    EXPECT(of_total(1, UINT64_C(10000000000), 1) == 0 && is_decibels(10000));
+    EXPECT(of_total(1, UINT64_C(9999999999), 1) == 0 && is_decibels(9999));
+    /* a little above the exact figure, which a logarithm would round down; and one sample less */
+    EXPECT(of_total(1e9, 1002305238, 1) == 0 && is_decibels(1));
+    EXPECT(of_total(1e9, 1002305237, 1) == 0 && is_decibels(0));
+    EXPECT(of_total(two_to_53, most, 4095) == 0 && is_decibels(4515));
+    EXPECT(of_total(two_to_53 + 2, most, 4095) == FUAVELINO_RECORD && is_soiled());
+    EXPECT(of_total(1, most + 1, 4095) == FUAVELINO_RECORD && is_soiled());
+    EXPECT(of_total(0, 0, 255) == FUAVELINO_RECORD && is_soiled());
+    EXPECT(of_total(25, 3, 254) == FUAVELINO_RECORD && is_soiled());
+    EXPECT(of_total(25, 3, 8191) == FUAVELINO_RECORD && is_soiled());
+    EXPECT(of_total(3 * 65025.0, 3, 255) == 0 && is_decibels(0));
+    EXPECT(of_total(3 * 65025.0 + 1, 3, 255) == FUAVELINO_RECORD && is_soiled());
+    EXPECT(of_total(0.5, 3, 255) == FUAVELINO_RECORD && is_soiled());
+    EXPECT(of_total(-0.0, 3, 255) == FUAVELINO_RECORD && is_soiled());
+    EXPECT(of_total(NAN, 3, 255) == FUAVELINO_RECORD && is_soiled());
+}
+
 /* Whether the first `clear` of the places are 0 and the others still 5. */
 static int cleared(const int64_t *places, size_t count, size_t clear) {
     size_t i;
@@ -532,6 +614,8 @@ int main(void) {
     first_difference();
     error_map();
     series();
+    decibels();
+    total_decibels();
     ssim();
     msssim();
     psnr_hvs();

@@ -24,6 +24,8 @@ extern "C" {
         n: &mut u64,
         sample_max: &mut u32,
     ) -> u8;
+    fn fuavelino_decibels(records: *const PsnrMetrics, count: usize, hundredths: &mut u32, identical: &mut u8) -> u8;
+    fn fuavelino_total_decibels(sq_err: f64, n: u64, sample_max: u32, hundredths: &mut u32, identical: &mut u8) -> u8;
     fn fuavelino_combine_ssim(c: f64, y: f64, u: f64, v: f64, sum: &mut f64, weight: &mut f64) -> u8;
     fn fuavelino_combine_hvs(c: f64, y: f64, u: f64, v: f64, score: &mut f64) -> u8;
     fn fuavelino_forward(block: *const i32, block_len: usize, out: *mut i32, out_len: usize) -> u8;
@@ -78,6 +80,19 @@ pub fn series(records: &[PsnrMetrics], out: &mut PsnrMetrics) -> u8 {
     let PsnrMetrics { sq_err, n_pixels, sample_max } = out;
     // SAFETY: the pointer and the count are those of one slice, of C's layout; the three fields are places of their own.
     unsafe { fuavelino_series(records.as_ptr(), records.len(), sq_err, n_pixels, sample_max) }
+}
+
+#[inline]
+pub fn decibels(records: &[PsnrMetrics], hundredths: &mut u32, identical: &mut u8) -> u8 {
+    // SAFETY: the pointer and the count are those of one slice, of C's layout; both results are places of their own.
+    unsafe { fuavelino_decibels(records.as_ptr(), records.len(), hundredths, identical) }
+}
+
+#[inline]
+pub fn total_decibels(total: PsnrMetrics, hundredths: &mut u32, identical: &mut u8) -> u8 {
+    let PsnrMetrics { sq_err, n_pixels, sample_max } = total;
+    // SAFETY: any numbers are taken, and both results are places of their own.
+    unsafe { fuavelino_total_decibels(sq_err, n_pixels, sample_max, hundredths, identical) }
 }
 
 #[inline]

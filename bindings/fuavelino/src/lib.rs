@@ -3,8 +3,9 @@
 //! These are the calls of `libfuavelino.a`, in which each function is proved to meet its contract: safe for whatever it is lent, with the
 //! exact conditions under which it refuses, and with the numbers of the published av-metrics 0.9.1, bit for bit, for planes with no padding. Only
 //! [`combine_hvs`] gives another: an average, where av-metrics multiplies. No caller checks first. Where two planes differ, [`first_difference`]
-//! and [`error_map`] say. What this crate adds to the library, and so is tested and not proved, is little: slices and scratch are lent for you, a
-//! [`Kernel`] that is not in the library's chart is built, and [`video`] has the decibels of av-metrics' own frame functions.
+//! and [`error_map`] say. PSNR in decibels, with a known error, is [`decibels()`] of records, or [`PsnrMetrics::hundredths`] of one. What this crate
+//! adds to the library, and so is tested and not proved, is little: slices and scratch are lent for you, a [`Kernel`] that is not in the library's
+//! chart is built, and [`video`] has the decibels of av-metrics' own frame functions.
 //!
 //! ```
 //! use fuavelino::{psnr_hvs, squared_error, ssim, Kernel, Plane, PlaneKind, Refusal, Scratch, Shape};
@@ -32,6 +33,7 @@
 #![deny(clippy::undocumented_unsafe_blocks)]
 #![warn(rust_2018_idioms)]
 
+mod decibels;
 mod exports;
 mod kernel;
 mod locate;
@@ -42,6 +44,7 @@ mod scores;
 mod scratch;
 pub mod video;
 
+pub use decibels::{decibels, Decibels};
 pub use kernel::{build_gaussian_kernel, Kernel};
 pub use locate::{error_map, first_difference, ErrorMap, Place, Tile, Tiles, TILE_SIDE};
 pub use plane::{Pair, Plane, PlaneKind, PsnrMetrics, Sample, Shape, MOST_SAMPLES, MOST_SIDE, MOST_STRIDE};

@@ -82,6 +82,31 @@ pub fn series(records: &[PsnrMetrics], out: &mut PsnrMetrics) -> Result<(), Refu
     outcome(exports::series(records, out))
 }
 
+/// PSNR of a run of records taken together: `hundredths` becomes that of a decibel, rounded down, and `identical` 0; or, where the error is 0, 10,000
+/// and 1. Refuses 10 11.
+///
+/// ```
+/// use fuavelino::{no_alloc, PsnrMetrics, Refusal};
+///
+/// let record = PsnrMetrics { sq_err: 25.0, n_pixels: 3, sample_max: 255 };
+/// let (mut hundredths, mut identical) = (7, 7);
+/// assert_eq!(no_alloc::decibels(&[], &mut hundredths, &mut identical), Err(Refusal::Record));
+/// assert_eq!((hundredths, identical), (7, 7));
+/// no_alloc::decibels(&[record], &mut hundredths, &mut identical)?;
+/// assert_eq!((hundredths, identical), (3_892, 0));
+/// # Ok::<(), Refusal>(())
+/// ```
+#[inline]
+pub fn decibels(records: &[PsnrMetrics], hundredths: &mut u32, identical: &mut u8) -> Result<(), Refusal> {
+    outcome(exports::decibels(records, hundredths, identical))
+}
+
+/// The same of a total: the record of a plane, what [`series`] writes, or several of these added up. Refuses 10: no series adds up to it.
+#[inline]
+pub fn total_decibels(total: PsnrMetrics, hundredths: &mut u32, identical: &mut u8) -> Result<(), Refusal> {
+    outcome(exports::total_decibels(total, hundredths, identical))
+}
+
 /// So many places serve for every kernel: no lawful one has more taps. Who lends them is never told 8 by [`kernel`].
 pub const MOST_TAPS: usize = 255;
 

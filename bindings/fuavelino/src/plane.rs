@@ -48,7 +48,7 @@ pub enum PlaneKind {
     V,
 }
 
-/// The record of a plane, or the total of a series of them.
+/// The record of a plane, or the total of a series of them. [`hundredths`](PsnrMetrics::hundredths) is its PSNR.
 #[repr(C)]
 #[derive(Clone, Copy, Debug, Default, PartialEq)]
 pub struct PsnrMetrics {

@@ -24,7 +24,7 @@ pub enum Refusal {
     Scratch = 8,
     /// 9: nothing else applies, and the defined score is infinite or not a number.
     NotFinite = 9,
-    /// 10: a series of none or over 65,536 records, or with a bad one.
+    /// 10: a series of none or over 65,536 records, or with a bad one; decibels of a total that no series has.
     Record = 10,
     /// 11: a series whose exact total is above 2^53.
     Total = 11,
@@ -47,7 +47,7 @@ const RULES: [(Refusal, &str); 14] = [
     (Refusal::Kernel, "the kernel is unlawful"),
     (Refusal::Scratch, "lent scratch, or room lent for a map or a kernel, is too short"),
     (Refusal::NotFinite, "the score is infinite or not a number"),
-    (Refusal::Record, "a series of no records, of too many, or with a bad one"),
+    (Refusal::Record, "a series of no records, of too many, or with a bad one; or a total that no series has"),
     (Refusal::Total, "the exact total of a series is above 2^53"),
     (Refusal::Value, "a value, or a count of values, is out of range"),
     (Refusal::Weight, "a weight is outside 0 to 1, or a number is not finite"),

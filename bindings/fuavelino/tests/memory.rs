@@ -87,6 +87,16 @@ fn a_map_asks_for_its_places() {
     assert_eq!(asked(|| assert_eq!(error_map(plane, plane, shape).map(|map| map.total()), Ok(0))), 3 * 2 * 8);
 }
 
+/// Nor does PSNR, of one record and of many, taken or refused.
+#[test]
+fn decibels_ask_for_nothing() {
+    let record = PsnrMetrics { sq_err: 25.0, n_pixels: 3, sample_max: 255 };
+    let mut many = vec![record; 1_000];
+    assert_eq!(asked(|| assert_eq!([decibels(&many), record.hundredths()], [Ok(Decibels::Hundredths(3_892)); 2])), 0);
+    many[999].n_pixels = 0;
+    assert_eq!(asked(|| assert_eq!([decibels(&many), many[999].hundredths()], [Err(Refusal::Record); 2])), 0);
+}
+
 /// A kernel asks for its taps, a height that the chart does not list for nothing.
 #[test]
 fn a_charted_kernel_asks_for_its_taps() {

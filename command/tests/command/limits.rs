@@ -6,10 +6,13 @@ use crate::video::Video;
 use crate::words;
 use std::ffi::OsString;
 
+/// Its limits are written in decibels, and it is told in hundredths of one.
+const PSNR: &str = "psnr_hundredths";
+
 /// Each option, its figures, and whether they are at least it.
 const OPTIONS: [(&str, &[&str], bool); 10] = [
     ("max-error", &["mse"], false),
-    ("min-psnr", &["psnr_db"], true),
+    ("min-psnr", &[PSNR], true),
     ("min-ssim", &["ssim"], true),
     ("min-cs", &["cs"], true),
     ("min-ssim-db", &["ssim_db"], true),
@@ -48,21 +51,34 @@ fn worst(scopes: &[&Json], (names, least): (&[&str], bool), plane: &str) -> f64 
 }
 
 /// One step in the direction that asks for more.
-fn harder(limit: f64, least: bool) -> f64 {
+fn harder(names: &[&str], limit: f64, least: bool) -> f64 {
     assert!(limit.is_finite() && limit > 0.0);
-    f64::from_bits(if least { limit.to_bits() + 1 } else { limit.to_bits() - 1 })
+    match least {
+        _ if names == [PSNR] => limit + 1.0,
+        true => f64::from_bits(limit.to_bits() + 1),
+        false => f64::from_bits(limit.to_bits() - 1),
+    }
+}
+
+/// A figure as its limit is written.
+fn written(names: &[&str], limit: f64) -> String {
+    if names == [PSNR] {
+        format!("{}.{:02}", limit as u32 / 100, limit as u32 % 100)
+    } else {
+        format!("{:?}", limit)
+    }
 }
 
 /// The limit is met, and one step harder it is broken, once.
 fn is_the_limit(compare: &[OsString], option: &str, (names, least): (&[&str], bool), plane: &str, limit: f64) {
-    let harder = harder(limit, least);
+    let [text, harder] = [limit, harder(names, limit, least)].map(|limit| written(names, limit));
     let prefix = if plane.is_empty() { String::new() } else { format!("{}=", plane) };
-    let with = |limit: f64| run(&[compare, &words![option, format!("{}{:?}", prefix, limit), "--json"]].concat());
-    let met = with(limit);
+    let with = |limit: &str| run(&[compare, &words![option, format!("{}{}", prefix, limit), "--json"]].concat());
+    let met = with(&text);
     assert_eq!((met.status, &met.err[..]), (0, ""), "{}", option);
-    let broken = with(harder);
+    let broken = with(&harder);
     let place = if option.starts_with("--run") { "the run, plane " } else { "frame " };
-    broken.says(1, &[place, &format!(", plane {}", plane), option, &format!("{:?}", limit)]);
+    broken.says(1, &[place, &format!(", plane {}", plane), option, &format!(" is {}, which", text)]);
     assert_eq!(broken.err.lines().count(), 1, "{}", broken.err);
     let report = Json::read(&broken.out);
     assert_eq!(report.at("passed"), &Json::Truth(false));
@@ -75,7 +91,8 @@ fn is_the_limit(compare: &[OsString], option: &str, (names, least): (&[&str], bo
     assert!(names.contains(&lists[0].at("field").text()));
     assert_eq!(report.at("run").at("broken").list().len(), usize::from(option.starts_with("--run")));
     let told = &report.at("thresholds").list()[0];
-    assert_eq!(told.at("limit").number().to_bits(), harder.to_bits());
+    assert_eq!(told.at("limit").number(), harder.parse().unwrap());
+    assert_eq!(lists[0].at("limit"), told.at("limit"));
     assert!(if plane.is_empty() { told.at("plane") == &Json::Null } else { told.at("plane").text() == plane });
 }
 
@@ -105,8 +122,8 @@ fn every_limit_holds_for_the_combination() {
     let second = |report: &Json| report.at("frames").list()[1].clone();
     for (option, names, least) in OPTIONS {
         for (start, scope) in [("--", second(&report)), ("--run-", report.at("run").clone())] {
-            let limit = harder(worst(&[&scope], (names, least), "combined"), least);
-            let words = words![format!("{}{}", start, option), format!("{:?}", limit), "--json"];
+            let limit = harder(names, worst(&[&scope], (names, least), "combined"), least);
+            let words = words![format!("{}{}", start, option), written(names, limit), "--json"];
             let told = Json::read(&run(&[&compare[..], &words].concat()).out);
             let told = if start == "--" { second(&told) } else { told.at("run").clone() };
             let planes = told.at("broken").list().iter().map(|broken| broken.at("plane").text());

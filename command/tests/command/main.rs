@@ -14,6 +14,7 @@ mod locate;
 mod messages;
 mod pairs;
 mod pictures;
+mod psnr;
 mod published;
 mod reports;
 mod run;

@@ -7,7 +7,8 @@ use crate::words;
 use std::ffi::OsString;
 use std::fs;
 
-const COLUMNS: &str = "scope,frame,plane,sq_err,n_pixels,sample_max,identical,mse,psnr_db,ssim,cs,ssim_db,\
+const COLUMNS: &str =
+    "scope,frame,plane,sq_err,n_pixels,sample_max,identical,mse,psnr_hundredths,psnr_db,ssim,cs,ssim_db,\
 scale1_ssim,scale1_cs,scale2_ssim,scale2_cs,scale3_ssim,scale3_cs,scale4_ssim,scale4_cs,scale5_ssim,scale5_cs,\
 msssim,msssim_db,hvs,hvs_db";
 
@@ -57,8 +58,8 @@ fn scores_that_are_not_asked_are_empty_or_absent() {
     let compare = files(&room);
     let csv = run(&[&compare[..], &words!["--csv", "--metrics=hvs"]].concat());
     let row: Vec<&str> = csv.passes().lines().nth(1).unwrap().split(',').collect();
-    assert!(row[3..24].iter().all(|cell| cell.is_empty()));
-    assert!(row[24].parse::<f64>().unwrap() > 0.0 && row[25].parse::<f64>().unwrap() > 0.0);
+    assert!(row[3..25].iter().all(|cell| cell.is_empty()));
+    assert!(row[25].parse::<f64>().unwrap() > 0.0 && row[26].parse::<f64>().unwrap() > 0.0);
     let json = Json::read(run(&[&compare[..], &words!["--json", "--metrics=hvs,ssim"]].concat()).passes());
     assert_eq!(json.at("metrics").list().len(), 2);
     assert_eq!(json.at("run").at("combined").names(), ["ssim", "cs", "ssim_db", "hvs", "hvs_db"]);

@@ -55,6 +55,19 @@ fn error(record: &PsnrMetrics) -> Vec<(String, f64)> {
     names.into_iter().zip([record.sq_err, n, max, record.sq_err / n]).collect()
 }
 
+/// PSNR of a plane or of a combination, from the squared error that is told beside it.
+fn psnr(told: &Json) {
+    let [sq_err, n, max] = ["sq_err", "n_pixels", "sample_max"].map(|name| told.at(name).number());
+    let record = PsnrMetrics { sq_err, n_pixels: n as u64, sample_max: max as u32 };
+    let hundredths = told.at("psnr_hundredths").number();
+    assert_eq!(hundredths, f64::from(record.hundredths().unwrap().hundredths()));
+    assert_eq!(Some(told.at("psnr_db").number().to_bits()), video::psnr::decibels(record).map(f64::to_bits));
+    if sq_err > 0.0 {
+        let exact = 1_000.0 * (n * max * max / sq_err).log10();
+        assert!(hundredths - 1e-5 <= exact && exact < hundredths + 1.0 + 1e-5, "{} and {}", hundredths, exact);
+    }
+}
+
 fn pairs(pair: &Pair, five: &[Pair; 5]) -> Vec<(String, f64)> {
     let mut list = vec![("ssim".to_string(), pair.ssim), ("cs".to_string(), pair.cs)];
     for (scale, pair) in five.iter().enumerate() {
@@ -148,8 +161,10 @@ fn each_format_gives_the_librarys_figures() {
             let each: Vec<_> = (0..these.len()).map(|p| plane_figures(&these[p], &those[p], depth, p)).collect();
             let planes = told.at("planes").list();
             assert_eq!(planes.len(), each.len());
+            psnr(told.at("combined"));
             for (plane, wanted) in planes.iter().zip(&each) {
                 same(plane, wanted);
+                psnr(plane);
                 decibels(plane, ["ssim", "msssim"].map(|name| named(wanted, name)), 1.0);
             }
             same(told.at("combined"), &combined(&each, chroma));
@@ -194,12 +209,14 @@ fn a_run_totals_errors_and_takes_means_of_the_rest() {
         for name in ["sq_err", "n_pixels"] {
             assert_eq!(told.at(name).number(), add(name));
         }
+        psnr(told);
         for name in ["ssim", "cs", "scale1_ssim", "scale5_cs", "msssim", "hvs"] {
             assert_eq!(told.at(name).number().to_bits(), (add(name) / 5.0).to_bits(), "{}", name);
         }
     }
     let whole = |name: &str| frames.iter().map(|f| f.at("combined").at(name).number()).sum::<f64>();
     assert_eq!(run.at("combined").at("sq_err").number(), whole("sq_err"));
+    psnr(run.at("combined"));
     let near = |name: &str| (run.at("combined").at(name).number() - whole(name) / 5.0).abs() < 1e-12;
     assert!(near("ssim") && near("scale3_cs") && near("msssim") && near("hvs"));
 }
@@ -260,7 +277,7 @@ fn identical_files_say_identical_and_100() {
         let report = Json::read(ended.passes());
         let combined = report.at("run").at("combined");
         assert_eq!(combined.at("identical"), &Json::Truth(true));
-        assert_eq!(combined.at("psnr_db").number(), 100.0);
+        assert_eq!((combined.at("psnr_hundredths").number(), combined.at("psnr_db").number()), (10_000.0, 100.0));
         assert_eq!(combined.at("hvs_db").number(), 100.0);
         assert!(run(&words!["compare", &a, &a]).passes().contains("every frame is identical (PSNR 100)"));
     }
@@ -277,7 +294,8 @@ fn a_run_may_be_longer_than_a_series() {
         "ulimit -v 200000; exec \"$0\" \"$@\" --size=8x8 --depth=8 --chroma=400 --metrics=error --csv | tail -n 3";
     let ended = run_in(script, &words!["compare", a, b]);
     let n = count * frame;
-    let figures = format!("{:?},{},255,false,4.0,", (4 * n) as f64, n);
+    // 10 × log10(255² / 4)
+    let figures = format!("{:?},{},255,false,4.0,4211,", (4 * n) as f64, n);
     let rows: Vec<&str> = ended.passes().lines().collect();
     assert!(rows[0].starts_with(&format!("run,,y,{}", figures)), "{}", rows[0]);
     assert!(rows[1].starts_with(&format!("run,,combined,{}", figures)), "{}", rows[1]);

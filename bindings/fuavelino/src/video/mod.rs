@@ -1,7 +1,8 @@
 //! For those who come from av-metrics 0.9.1: its frame functions, with its names and order of arguments, over these scores.
 //!
 //! The scores of the planes and their combination are the library's, and proved. The decibels and MS-SSIM's product of powers are **not
-//! proved**: they are worked out here by the host's `log10` and `powf`, step by step as av-metrics does.
+//! proved**: they are worked out here by the host's `log10` and `powf`, step by step as av-metrics does. PSNR has decibels that are:
+//! [`PsnrMetrics::hundredths`](crate::PsnrMetrics::hundredths).
 //!
 //! An `Ok` holds finite numbers only, so that `score < threshold` can be trusted to stop what is bad:
 //!

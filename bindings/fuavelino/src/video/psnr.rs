@@ -6,6 +6,9 @@ use crate::scores::{series, squared_error};
 
 /// PSNR of two frames in decibels; higher is better, and identical planes are 100. `avg` is that of all samples together.
 ///
+/// These are av-metrics' figures, by the host's `log10`, for whoever compares with it. Proved, with a known error, are
+/// [`PsnrMetrics::hundredths`] of the planes' records and [`decibels`](crate::decibels()) of them together: let these decide.
+///
 /// ```
 /// use fuavelino::video::psnr::calculate_frame_psnr;
 /// use fuavelino::video::{ChromaSampling, Frame, MetricsError, Plane, PlaneConfig};
@@ -37,7 +40,8 @@ pub fn calculate_frame_psnr<T: Sample>(
     Ok(PlanarMetrics { avg, ..of_planes(records, decibels)? })
 }
 
-/// The decibels of a record or a total, 100 where the error is 0; none where they would not be finite, or nothing was compared.
+/// The decibels of a record or a total by the host's `log10`, as av-metrics has them, 100 where the error is 0; none where they would not be
+/// finite, or nothing was compared. [`PsnrMetrics::hundredths`] is what is proved.
 pub fn decibels(total: PsnrMetrics) -> Option<f64> {
     if total.is_identical() {
         return Some(PERFECT);
