@@ -1,10 +1,9 @@
 -- How far D is off: by the order's hundredth either way (`within-left`, `within-zero`, `within-right`), above by next to nothing (`hardly-above`), and
 -- so what it is worth to hold D to a limit (`limit-met`, `limit-kept`). P ^ 1000 and E ^ 1000 stand for a thousand times their logarithms.
 -- Assumes nothing.
-use mathlib.Core.Path.{_≡_, refl, sym, ap, _∙_}
-use Prim.Native.Nat.{ℕ, zero, suc, _+_, _-_, _*_, _^_, _≤_, _<_}
-use native.Mathlib.Nat.{le-trans, lt-of-lt-of-le, le-of-lt, mul-comm, mul-assoc, pow-zero, pow-suc, one-mul, pow-lt-pow-left, pow-le-pow-right, mul-le-mul-left, mul-le-mul-right, one-le-pow}
-use native.Mathlib.Numerals.{add-one}
+use mathlib.Core.Path.{_≡_, ap, _∙_}
+use Prim.Native.Nat.{ℕ, suc, _+_, _-_, _*_, _^_, _≤_, _<_}
+use native.Mathlib.Nat.{mul-comm, mul-assoc, pow-zero, pow-suc, one-mul, pow-lt-pow-left, pow-le-pow-right, mul-le-mul-right, one-le-pow}
 use native.Mathlib.Decide.{decLe, decLt}
 use native.Mathlib.Omega.{arith}
 use lib.Dec.{lit<}

@@ -1,8 +1,8 @@
 -- The chart's rule, over all of its places: each has its entry (`chart-right`, computed part by part), so that what the code reads is what is
 -- defined (`charted`); and as a power no entry misses by more than a millionth (`entry-near`). Assumes nothing.
-use mathlib.Core.Path.{_≡_, refl, sym}
+use mathlib.Core.Path.{_≡_, refl}
 use mathlib.Core.Bool.{Bool, true, _&&_}
-use mathlib.Core.List.{List, _++_}
+use mathlib.Core.List.{_++_}
 use Prim.Native.Nat.{ℕ, _+_, _*_, _^_, _≤_, _<_}
 use borrow.Author.Tests.{leb-true, ltb-true}
 use lib.Dec.{leb, ltb}

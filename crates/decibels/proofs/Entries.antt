@@ -1,12 +1,11 @@
 -- The entries as they are defined: each is a root rounded down, the first is a unit, and they rise. Assumes nothing.
-use mathlib.Core.Path.{_≡_, sym}
-use mathlib.Core.Bool.{Bool, true, false}
+use mathlib.Core.Path.{_≡_}
 use Prim.Native.Nat.{ℕ, zero, suc, _+_, _*_, _^_, _≤_, _<_}
-use native.Mathlib.Nat.{le-trans, lt-of-le-of-lt, pow-zero, pow-suc, pow-le-pow-left, pow-le-pow-right, pow-lt-pow-left, mul-le-mul-right, mul-le-mul-left, one-mul, one-le-pow}
+use native.Mathlib.Nat.{le-trans, pow-zero, pow-suc, pow-le-pow-left, pow-le-pow-right, pow-lt-pow-left, mul-le-mul-right, one-mul, one-le-pow}
 use native.Mathlib.Decide.{decLe}
 use native.Mathlib.Omega.{arith}
 use borrow.Author.Tests.{le-leb, lt-leb, leb-true}
-use lib.Dec.{leb, lit≤, lit<}
+use lib.Dec.{leb, lit≤}
 use Rattle.decibels.specs.Hundredths.{placeCount, chartUnit, entryPower, entryOf}
 use Rattle.decibels.proofs.Powers.{mul-pow}
 use Rattle.decibels.proofs.Largest.{largest-most, largest-holds, largest-is}

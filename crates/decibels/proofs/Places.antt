@@ -1,14 +1,13 @@
 -- q and k are the largest of their kind, and nothing else is (`power-largest`, `place-largest`). Assumes nothing.
-use mathlib.Core.Path.{_≡_, sym}
-use mathlib.Core.Bool.{Bool, true, false}
+use mathlib.Core.Path.{_≡_}
+use mathlib.Core.Bool.{Bool}
 use Prim.Native.Nat.{ℕ, zero, suc, _+_, _-_, _*_, _^_, _≤_, _<_}
-use native.Mathlib.Nat.{le-trans, lt-of-lt-of-le, lt-of-le-of-lt, pow-zero, pow-suc, pow-le-pow-right, mul-le-mul, mul-le-mul-left, mul-le-mul-right, mul-comm, one-mul}
-use native.Mathlib.Numerals.{add-one}
-use native.Mathlib.Decide.{decLe, decLt}
+use native.Mathlib.Nat.{le-trans, pow-zero, pow-suc, pow-le-pow-right, mul-le-mul, mul-le-mul-left, mul-le-mul-right, mul-comm, one-mul}
+use native.Mathlib.Decide.{decLt}
 use native.Mathlib.Omega.{arith}
-use borrow.Author.Tests.{le-leb, lt-leb, leb-true, leb-false}
+use borrow.Author.Tests.{le-leb, lt-leb, leb-true}
 use lib.Dec.{leb}
-use Rattle.decibels.specs.Hundredths.{largestTo, placeCount, chartUnit, entryOf, powerOf, placeOf, hundredthsOf}
+use Rattle.decibels.specs.Hundredths.{placeCount, chartUnit, entryOf, powerOf, placeOf, hundredthsOf}
 use Rattle.decibels.proofs.Largest.{largest-le, largest-most, largest-holds, largest-is}
 use Rattle.decibels.proofs.Entries.{some-places, entries-rise, entry-first}
 

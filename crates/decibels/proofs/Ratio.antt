@@ -1,7 +1,7 @@
 -- D goes by the ratio P / E alone, and never against it: a smaller error has no smaller D. Assumes nothing.
-use mathlib.Core.Path.{_≡_, refl, sym, _∙_}
+use mathlib.Core.Path.{_≡_, refl}
 use Prim.Native.Nat.{ℕ, _+_, _*_, _^_, _≤_, _<_}
-use native.Mathlib.Nat.{le-trans, le-refl, le-antisymm, le-of-eq, mul-comm, mul-assoc, mul-left-comm, mul-le-mul-left, mul-le-mul-right, le-of-mul-le-mul-right}
+use native.Mathlib.Nat.{le-trans, le-antisymm, le-of-eq, mul-comm, mul-assoc, mul-left-comm, mul-le-mul-left, mul-le-mul-right, le-of-mul-le-mul-right}
 use native.Mathlib.Decide.{decLt}
 use native.Mathlib.Omega.{arith}
 use Rattle.decibels.specs.Hundredths.{placeCount, chartUnit, entryOf, powerOf, placeOf, hundredthsOf}

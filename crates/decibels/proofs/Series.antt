@@ -1,15 +1,13 @@
 -- Decibels of a run are those of what its series answers (`series-summed`); a record is a run of one (`run-of-one`). Assumes nothing.
-use mathlib.Core.Path.{_≡_, refl, sym, _∙_}
+use mathlib.Core.Path.{_≡_, refl}
 use mathlib.Core.Bool.{Bool, true, false, _&&_}
 use mathlib.Core.List.{List, [], _∷_}
 use Prim.Native.Nat.{ℕ, zero, suc, _+_, _*_, _≤_}
 use native.Mathlib.Nat.{add-zero, le-trans, le-of-lt}
 use native.Mathlib.Omega.{arith}
 use borrow.Author.Tests.{le-leb, leb-true, eq-eqb}
-use lib.Dec.{leb, eqb, lit≤}
-use lib.Ieee.{Float}
-use Rattle.refusal.specs.Numbers.{recordNo}
-use Rattle.refusal.specs.First.{byRefusal, unless}
+use lib.Dec.{leb}
+use Rattle.refusal.specs.First.{byRefusal}
 use Rattle.refusal.proofs.Chain.{and-left, and-right}
 use Rattle.number.specs.Steps.{double}
 use Rattle.psnr.specs.declared.Record.{Record}

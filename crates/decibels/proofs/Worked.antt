@@ -8,7 +8,7 @@ use lib.ListN.{getD}
 use Rattle.plane.specs.Limits.{mostDepth}
 use Rattle.plane.specs.Plane.{maxOf, sampleLimit}
 use Rattle.psnr.specs.Limits.{countLimit, recordLimit}
-use Rattle.decibels.specs.Hundredths.{placeCount, chartUnit, entryOf, peakOf, hundredthsOf}
+use Rattle.decibels.specs.Hundredths.{placeCount, chartUnit, peakOf, hundredthsOf}
 use Rattle.decibels.specs.Inner.Chart.{part0, part1, part2, part3, part4, part5, part6, part7, part8, part9, chart}
 use Rattle.decibels.proofs.Charted.{charted}
 use Rattle.decibels.proofs.Places.{hundredths-is}

@@ -3,7 +3,6 @@ use mathlib.Core.Path.{_≡_, refl, ap, _∙_}
 use Prim.Native.Nat.{ℕ, zero, suc, _+_, _*_, _^_}
 use native.Mathlib.Omega.{arith}
 use borrow.Author.Needs.{needs}
-use Rattle.number.specs.Inner.Wide.{valueOf}
 use Rattle.decibels.specs.declared.Decibels.the-variants.{Hundredths}
 use Rattle.decibels.specs.Hundredths.{placeCount, powerOf, placeOf, hundredthsOf}
 use Rattle.decibels.specs.Answer.{decibelsOf}

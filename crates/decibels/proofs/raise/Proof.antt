@@ -8,7 +8,6 @@ use borrow.Author.Needs.{needs}
 use borrow.Author.Tests.{not-true, not-false}
 use Rattle.number.specs.Inner.Wide.{valueOf}
 use Rattle.number.proofs.Words.{said-less, said-not}
-use Rattle.decibels.specs.Hundredths.{powerOf}
 use Rattle.decibels.specs.Inner.Room.{powerLimit, peakLimit}
 use Rattle.decibels.proofs.Room.{power-short, one-word, ten-small, product-room}
 use Rattle.decibels.proofs.Places.{power-is}

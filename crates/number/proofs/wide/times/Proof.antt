@@ -1,5 +1,4 @@
 -- `number::wide::times` meets its contract. Assumes nothing.
-use mathlib.Core.Path.{_≡_, refl, sym}
 use Prim.Native.Nat.{_+_, _*_, _^_, _<_}
 use native.Mathlib.Omega.{arith}
 use borrow.Author.Needs.{needs}
