@@ -7,4 +7,5 @@ pub mod Fold
 pub mod Laws
 pub mod Room
 pub mod Totals
+pub mod Given
 pub mod Said
