@@ -4,6 +4,7 @@ ghost use Prim.Native.Nat.{_*_, _^_, _≤_, _<_};
 ghost use Rattle.number.specs.Inner.Wide.{valueOf};
 ghost use Rattle.decibels.specs.Hundredths.{placeCount, entryOf, peakOf, powerOf, placeOf};
 ghost use Rattle.decibels.specs.Answer.{decibelsOf, recordDecibels, totalSuits, totalDecibels, summedDecibels, seriesDecibels};
+ghost use Rattle.decibels.specs.Inner.Chart.{chart};
 ghost use Rattle.decibels.specs.Inner.Room.{powerLimit, peakLimit};
 use number::wide;
 use number::wide::Wide;
@@ -30,11 +31,11 @@ pub enum Decibels {
 }
 
 // Place k of the chart.
-fn entry(k: usize) -> u64
-    requires { ⌜ k < placeCount ⌝ }
+fn entry(entries: &[u64; 1000], k: usize) -> u64
+    requires { ⌜ (now entries ≡ chart) × (k < placeCount) ⌝ }
     ensures { λ r. ⌜ r ≡ entryOf k ⌝ }
 {
-    chart::ENTRIES[k]
+    entries[k]
 }
 
 // An error times a power of ten, and which power.
@@ -61,7 +62,9 @@ fn raise(peak: Wide, error: u64) -> Raised
 }
 
 // The last place of the chart whose entry times the error is at most P units: halves the range in which it lies, since the entries rise.
-fn place(peak: Wide, error: Wide) -> usize
+// The chart is lent, since a constant is laid out anew wherever it is named: once a call, and not once a step.
+fn place(entries: &[u64; 1000], peak: Wide, error: Wide) -> usize
+    requires { ⌜ now entries ≡ chart ⌝ }
     requires { ⌜ (valueOf error ≤ valueOf peak) × (valueOf peak < peakLimit) ⌝ }
     ensures { λ r. ⌜ (r ≡ placeOf (valueOf peak) (valueOf error)) × (r < placeCount) ⌝ }
 {
@@ -70,7 +73,7 @@ fn place(peak: Wide, error: Wide) -> usize
     let mut high: usize = PLACES;
     while low + 1 < high {
         let mid = (low + high) / 2;
-        if wide::less(most, wide::times(error, entry(mid))) {
+        if wide::less(most, wide::times(error, entry(entries, mid))) {
             high = mid;
         } else {
             low = mid;
@@ -95,7 +98,7 @@ fn answer(peak: Wide, error: u64) -> Decibels
         return Decibels::Identical;
     }
     let s = raise(peak, error);
-    let k = place(peak, s.error);
+    let k = place(&chart::ENTRIES, peak, s.error);
     Decibels::Hundredths((PLACES as u32) * s.power + (k as u32))
 }
 

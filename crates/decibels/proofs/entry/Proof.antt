@@ -1,23 +1,21 @@
 -- `decibels::entry` meets its contract. Assumes nothing.
 use mathlib.Core.Path.{sym}
-use borrow.Author.Needs.{needs}
+use native.Mathlib.Omega.{arith}
 use Rattle.decibels.specs.Hundredths.{placeCount}
-use Rattle.decibels.specs.Inner.Chart.{part0, part1, part2, part3, part4, part5, part6, part7, part8, part9, chart}
 use Rattle.decibels.proofs.Charted.{charted}
 use Rattle.decibels.proofs.entry.Statement.{statement}
 use Rattle.decibels.proofs.entry.Tie as tie
 
 mul-result : tie.Need-mul-result
 unfolding placeCount
-mul-result c = search needs
+mul-result c = record { fits = omega (arith, c .pre .1) }
 
-array-read-result : tie.Need-array-read-result
+element-copy-out-result : tie.Need-element-copy-out-result
 unfolding placeCount
-array-read-result c = search needs
+element-copy-out-result c = c .pre .1
 
 returns : tie.Need-returns
-unfolding chart part0 part1 part2 part3 part4 part5 part6 part7 part8 part9
-returns c = sym (charted _ (c .pre))
+returns c = rw (c .before .pre .0) (sym (charted _ (c .before .pre .1)))
 
 pub entry-spec : {M : Type 1} → statement M
-entry-spec = tie.close (tie.spec mul-result array-read-result returns)
+entry-spec = tie.close (tie.spec mul-result element-copy-out-result returns)

@@ -15,21 +15,21 @@ use Rattle.decibels.proofs.place.Statement.{statement}
 use Rattle.decibels.proofs.place.Tie as tie
 
 abbrev Inv-loop : tie.InvT-loop
-Inv-loop error most low₀ high₀ low high =
+Inv-loop entries error most low₀ high₀ low high =
     (low < high) × (high ≤ placeCount) × (valueOf error * entryOf low ≤ valueOf most)
     × (high < placeCount → valueOf most < valueOf error * entryOf high)
 
 abbrev μ-loop : tie.MeasureT-loop
-μ-loop error most low₀ high₀ low high = high - low
+μ-loop entries error most low₀ high₀ low high = high - low
 
 times-requires : tie.Need-times-requires Inv-loop μ-loop
 unfolding chartUnit
-times-requires c κs = product-room (c .pre .1) (omega arith)
+times-requires c κs = product-room (c .pre .1 .1) (omega arith)
 
 loop-holds : tie.Need-loop-holds Inv-loop μ-loop
 unfolding placeCount chartUnit
 loop-holds c =
-    (omega arith, omega arith, rw (c .times .ensures) (mul-le-mul (c .before .pre .0) entry-first), λ l. absurd (omega arith))
+    (omega arith, omega arith, rw (c .times .ensures) (mul-le-mul (c .before .pre .1 .0) entry-first), λ l. absurd (omega arith))
 
 add-loop : tie.Need-add-loop Inv-loop μ-loop
 unfolding placeCount
@@ -40,11 +40,11 @@ unfolding placeCount
 add-mid c = omega arith
 
 entry-requires : tie.Need-entry-requires Inv-loop μ-loop
-entry-requires c κs = omega arith
+entry-requires c κs = (c .before .before .before .pre .0, omega arith)
 
 times-requires-2 : tie.Need-times-requires-2 Inv-loop μ-loop
 times-requires-2 c κs =
-    let p = c .before .before .before .before .pre in
+    let p = c .before .before .before .before .pre .1 in
     product-room (lt-of-le-of-lt (p .0) (p .1)) (rw (c .entry .ensures) (entry-small _ (omega arith)))
 
 less-requires : tie.Need-less-requires Inv-loop μ-loop
