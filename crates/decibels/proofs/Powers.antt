@@ -1,7 +1,9 @@
 -- From the test of an entry to powers, over any exponent N and unit T: nothing here computes a power. Assumes nothing.
 use mathlib.Core.Path.{_≡_, refl, sym, ap, _∙_}
 use Prim.Native.Nat.{ℕ, zero, suc, _*_, _^_, _≤_, _<_}
-use native.Mathlib.Nat.{le-trans, lt-of-lt-of-le, mul-comm, mul-assoc, mul-left-comm, mul-mul-mul-comm, mul-zero, mul-suc, pow-zero, pow-suc, pow-le-pow-left, pow-lt-pow-left, mul-le-mul-left, mul-le-mul-right, le-of-mul-le-mul-right, lt-of-mul-lt-mul-right}
+use native.Mathlib.Nat.{mul-comm, mul-assoc, mul-mul-mul-comm, mul-zero, mul-suc}
+use native.Mathlib.Nat.{mul-left-comm, pow-zero, pow-suc, pow-le-pow-left, pow-lt-pow-left}
+use native.Mathlib.Nat.{le-trans, lt-of-lt-of-le, mul-le-mul-left, mul-le-mul-right, le-of-mul-le-mul-right, lt-of-mul-lt-mul-right}
 use lib.Pow.{pow-add}
 
 ruleset shuffled = (mul-assoc, mul-comm, mul-left-comm)
