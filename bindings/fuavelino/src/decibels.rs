@@ -24,8 +24,8 @@ const IDENTICAL: u32 = 10_000;
 /// ```
 #[derive(Clone, Copy, Debug, PartialEq, Eq, Hash, PartialOrd, Ord)]
 pub enum Decibels {
-    /// 1,000 × log10(n × max² / error), rounded down to a whole number: D / 100 is less than 0.01 dB below the exact figure, and above it by
-    /// 0.0000000044 dB at most. So whatever truly has L hundredths has a D of at least L; and whatever has such a D truly has L
+    /// 1,000 × log10(n × max² / error), rounded down to a whole number D, but for a trifle: D / 100 is less than 0.01 dB below the exact figure,
+    /// and above it by 0.0000000044 dB at most. So whatever truly has L hundredths has a D of at least L; and whatever has such a D truly has L
     /// hundredths, but for five billionths of a decibel. Of two errors of one count and depth the smaller never has the smaller D.
     Hundredths(u32),
     /// The error is 0.

@@ -82,8 +82,8 @@ pub fn series(records: &[PsnrMetrics], out: &mut PsnrMetrics) -> Result<(), Refu
     outcome(exports::series(records, out))
 }
 
-/// PSNR of a run of records taken together: `hundredths` becomes that of a decibel, rounded down, and `identical` 0; or, where the error is 0, 10,000
-/// and 1. Refuses 10 11.
+/// PSNR of a run of records taken together: `hundredths` becomes that of a decibel, as [`Decibels`](crate::Decibels) says how close, and `identical` 0;
+/// or, where the error is 0, 10,000 and 1. Refuses 10 11.
 ///
 /// ```
 /// use fuavelino::{no_alloc, PsnrMetrics, Refusal};
