@@ -1,6 +1,7 @@
 //! PSNR in hundredths of a decibel, of runs of records and of totals, against its rule. That is written here a second time (`decibels_rule.rs`), with a
 //! chart from big integers, by which the error that is promised is seen to as well, in a share of the cases.
 
+use crate::big;
 use crate::decibels_cases::{any, edges, stated, true_edges, whole, Case, Lent, MOST_TOTAL};
 use crate::decibels_rule::{Rule, PLACES};
 use crate::decibels_ways::{Met, SHARP, WAYS};
@@ -21,7 +22,10 @@ const RECORD: u8 = 10;
 
 pub fn compare(ask: Run) -> bool {
     let mut made = None;
-    let sound = also("decibels: big integers, and the chart by them", || made.insert(Rule::new()).check());
+    let sound = also("decibels: big integers, and the chart by them", || {
+        big::check()?;
+        made.insert(Rule::new()).check()
+    });
     let mut family = match made.filter(|_| sound) {
         Some(rule) => Decibels::new(rule, ask),
         None => return false,

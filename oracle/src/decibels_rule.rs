@@ -1,6 +1,6 @@
 //! PSNR in hundredths of a decibel by its rule: the chart from big integers, q and k by plain search. And by big integers what the rule promises.
 
-use crate::big::{self, Big};
+use crate::big::Big;
 
 /// The places of the chart.
 pub const PLACES: usize = 1_000;
@@ -92,9 +92,8 @@ impl Rule {
         Ok(ours > power)
     }
 
-    /// The big integers are sound, the chart rises, and its entries are those of the rule where they are known.
+    /// The chart rises, and its entries are those of the rule where they are known.
     pub fn check(&self) -> Result<(), String> {
-        big::check()?;
         let known = [(0, SCALE), (1, 1_002_305_238), (500, 3_162_277_660), (999, 9_977_000_638)];
         match known.iter().find(|(place, entry)| self.chart[*place] != *entry) {
             Some((place, entry)) => Err(format!("entry {} is {}, not {}", place, self.chart[*place], entry)),
