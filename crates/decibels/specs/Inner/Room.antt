@@ -1,9 +1,11 @@
 -- How large P can be in the functions that work with it. Definitions only.
 use Prim.Native.Nat.{ℕ, _^_}
 
--- above every P of a record or a total; a power of ten, so that q stays below its exponent
+-- q stays below it
 unfoldable pub powerLimit : ℕ
 powerLimit = 21
 
+-- above every P of a record or a total
 unfoldable pub peakLimit : ℕ
-peakLimit = 10 ^ 21
+unfolding powerLimit
+peakLimit = 10 ^ powerLimit
