@@ -1,4 +1,4 @@
--- How far D is off: by the order's hundredth either way (`within-left`, `within-zero`, `within-right`), above by next to nothing (`hardly-above`), and
+-- How far D is off: by one hundredth at most, either way (`within-left`, `within-zero`, `within-right`), above by next to nothing (`hardly-above`), and
 -- so what it is worth to hold D to a limit (`limit-met`, `limit-kept`). P ^ 1000 and E ^ 1000 stand for a thousand times their logarithms.
 -- Assumes nothing.
 use mathlib.Core.Path.{_≡_, ap, _∙_}
@@ -65,7 +65,7 @@ module _ (P E : ℕ) (some : 1 ≤ E) (below : E ≤ P) where
           let past : P ^ N < (10 ^ (q + 1) * E) ^ N = pow-lt-pow-left {n = N} (power-next P E some below) (λ h. omega (arith, some-places)) in
           rw z (rw (scaled N E (q + 1)) at past)
 
-  -- ---- the order's words
+  -- ---- one hundredth either way
   tenfold : 10 ^ D * E ^ N ≤ 10 * P ^ N
   tenfold = omega (arith, hardly-above)
 
