@@ -8,7 +8,7 @@
 use crate::averaged::averaged;
 use crate::combine_laws::{among, Equals};
 use crate::combine_ways::{Met, AVERAGES, PAIRS, SHARP};
-use crate::family::{number, run, Family, Run};
+use crate::family::{add, all_seen, number, run, Family, Run};
 use crate::random::Random;
 use fuavelino::no_alloc;
 use published::frame::Frame;
@@ -221,22 +221,10 @@ impl Sums {
 
     /// Each way was told from ours, and each sharp case met.
     fn enough(&self) -> Result<(), String> {
-        let none = |names: Vec<&'static str>, counts: &[u64], what: &str| {
-            let lacking = names.into_iter().zip(counts).filter(|(_, n)| **n == 0).map(|(name, _)| name);
-            match &lacking.collect::<Vec<&str>>()[..] {
-                [] => Ok(()),
-                list => Err(format!("no case {} {}", what, list.join(", "))),
-            }
-        };
-        none(PAIRS.iter().map(|way| way.0).collect(), &self.pairs, "tells the published steps from")?;
-        none(AVERAGES.iter().map(|way| way.0).collect(), &self.averages, "tells the rule's steps from")?;
-        none(SHARP.iter().map(|sharp| sharp.0).collect(), &self.sharp, "is")
+        all_seen(PAIRS.iter().map(|way| way.0).collect(), &self.pairs, "tells the published steps from")?;
+        all_seen(AVERAGES.iter().map(|way| way.0).collect(), &self.averages, "tells the rule's steps from")?;
+        all_seen(SHARP.iter().map(|sharp| sharp.0).collect(), &self.sharp, "is")
     }
-}
-
-/// One more for each that was seen.
-fn add(counts: &mut [u64], seen: impl Iterator<Item = bool>) {
-    counts.iter_mut().zip(seen).for_each(|(n, seen)| *n += u64::from(seen));
 }
 
 impl Family for Sums {

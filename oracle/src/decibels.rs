@@ -5,7 +5,7 @@ use crate::big;
 use crate::decibels_cases::{any, edges, stated, true_edges, whole, Case, Lent, MOST_TOTAL};
 use crate::decibels_rule::{Rule, PLACES};
 use crate::decibels_ways::{Met, SHARP, WAYS};
-use crate::family::{also, number, run, Family, Run};
+use crate::family::{add, all_seen, also, number, run, Family, Run};
 use crate::limits::SAMPLES;
 use crate::random::Random;
 use crate::series::{model, show, show_record, smaller, smaller_record, MOST_ERROR};
@@ -121,15 +121,8 @@ impl Decibels {
 
     /// Each way was told from the rule, each sharp case met, and each place seen from both sides.
     fn enough(&self) -> Result<(), String> {
-        let none = |names: Vec<&'static str>, counts: &[u64], what: &str| {
-            let lacking = names.into_iter().zip(counts).filter(|(_, n)| **n == 0).map(|(name, _)| name);
-            match &lacking.collect::<Vec<&str>>()[..] {
-                [] => Ok(()),
-                list => Err(format!("no case {} {}", what, list.join(", "))),
-            }
-        };
-        none(WAYS.iter().map(|way| way.0).collect(), &self.ways, "tells the rule from")?;
-        none(SHARP.iter().map(|sharp| sharp.0).collect(), &self.sharp, "is")?;
+        all_seen(WAYS.iter().map(|way| way.0).collect(), &self.ways, "tells the rule from")?;
+        all_seen(SHARP.iter().map(|sharp| sharp.0).collect(), &self.sharp, "is")?;
         if let Some(place) = self.seen.sides.iter().position(|sides| *sides != [true; 2]) {
             return Err(format!("place {} was not seen from both sides by big integers", place));
         }
@@ -148,11 +141,6 @@ impl Decibels {
             held, above, records
         )
     }
-}
-
-/// One more for each that was seen.
-fn add(counts: &mut [u64], seen: impl Iterator<Item = bool>) {
-    counts.iter_mut().zip(seen).for_each(|(n, seen)| *n += u64::from(seen));
 }
 
 /// The numbers of a total that some series adds up to.

@@ -68,6 +68,20 @@ pub fn also(what: &str, see: impl FnOnce() -> Result<(), String>) -> bool {
     said.is_ok()
 }
 
+/// One more for each that was seen.
+pub fn add(counts: &mut [u64], seen: impl Iterator<Item = bool>) {
+    counts.iter_mut().zip(seen).for_each(|(n, seen)| *n += u64::from(seen));
+}
+
+/// That none of these was never seen; `what` is said before those that were not.
+pub fn all_seen(names: Vec<&'static str>, counts: &[u64], what: &str) -> Result<(), String> {
+    let lacking = names.into_iter().zip(counts).filter(|(_, n)| **n == 0).map(|(name, _)| name);
+    match &lacking.collect::<Vec<&str>>()[..] {
+        [] => Ok(()),
+        list => Err(format!("no case {} {}", what, list.join(", "))),
+    }
+}
+
 fn counts(met: &[u64; 256]) -> String {
     let list = met.iter().enumerate().filter(|(_, n)| **n > 0);
     let words: Vec<String> = list.map(|(answer, n)| format!("{}: {}", answer, n)).collect();

@@ -11,4 +11,5 @@ pub mod Bounds
 pub mod Ratio
 pub mod Worked
 pub mod Series
+pub mod Given
 pub mod Answered

@@ -6,7 +6,6 @@ use Prim.Native.Nat.{ℕ, zero, suc, _+_, _-_, _*_, _/_, _%_, _≤_, _<_, min}
 use native.Mathlib.Nat.{le-trans, le-of-lt, add-mul, suc-mul, div-add-mod', mod-lt, lt-of-mul-lt-mul-right}
 use native.Mathlib.Omega.{arith}
 use borrow.Author.Tests.{le-leb, eq-eqb}
-use lib.Dec.{lit≤}
 use lib.ListN.{length}
 use Rattle.number.specs.Steps.{double}
 use Rattle.psnr.specs.declared.Record.{Record}
@@ -15,10 +14,7 @@ use Rattle.psnr.specs.Record.{isWhole, wholeOf, countSuits, maxSuits, er
 use Rattle.psnr.specs.Series.{firstMax, allJoin, runSuits, errorTotal, countTotal, seriesRefusal}
 use Rattle.psnr.proofs.Records.{product-fits}
 use Rattle.psnr.proofs.Whole.{whole-back}
-
-count-some : 1 ≤ countLimit
-unfolding countLimit
-count-some = lit≤ tt
+use Rattle.psnr.proofs.Room.{count-some}
 
 -- a run with these sums, that is taken
 pub record Given (error n max : ℕ) : Type 0 where

@@ -35,7 +35,7 @@ two-fit : 2 * countLimit * (sampleLimit * sampleLimit) ≤ totalLimit
 unfolding countLimit mostDepth maxOf totalLimit
 two-fit = lit≤ tt
 
-count-some : 1 ≤ countLimit
+pub count-some : 1 ≤ countLimit
 unfolding countLimit
 count-some = lit≤ tt
 

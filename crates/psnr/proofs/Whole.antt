@@ -33,7 +33,7 @@ holds : {b : Bool} → b ≡ true → T b
 holds e = subst T (sym e) tt
 
 -- ---- what a whole one is
-whole-is : (e : Float) → T (fits binary64 e) → isWhole e ≡ true → (double (wholeOf e) ≡ e) × (wholeOf e ≤ exactLimit)
+pub whole-is : (e : Float) → T (fits binary64 e) → isWhole e ≡ true → (double (wholeOf e) ≡ e) × (wholeOf e ≤ exactLimit)
 unfolding inFloat
 whole-is e f w = let b = float-back-unsigned binary64 64 e f (holds w) in (b .1, leb→le (wholeOf e) exactLimit (b .0))
 
