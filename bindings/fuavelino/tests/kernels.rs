@@ -16,7 +16,7 @@ fn score(kernel: &Kernel) -> Result<Pair, Refusal> {
 
 /// These taps with so many idle ones before and after them.
 fn padded(taps: &[u16], before: usize, after: usize) -> Vec<u16> {
-    [&vec![0; before], taps, &vec![0; after]].concat()
+    [&vec![0; before][..], taps, &vec![0; after][..]].concat()
 }
 
 /// So many taps: these two ends, the rest of the weight in the middle, and 0 between.
