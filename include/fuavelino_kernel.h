@@ -1,4 +1,4 @@
-/* Kernels for fuavelino_ssim8 and fuavelino_ssim16: the one that av-metrics 0.9.1 chooses for a plane, and how many idle taps one ends in.
+/* Kernels for fuavelino_ssim8 and fuavelino_ssim16: the one that av-metrics 0.9.1 chooses for a plane, and how many taps of one are idle.
  *
  * For a plane whose height the chart of fuavelino_kernel lists, and whose width is no smaller, av-metrics' kernel is the chart's, and proved to be
  * lawful: link with libfuavelino.a. NOT PROVED, and no part of that library, are the others, a bell curve worked out by the host's pow and log (link
