@@ -2,5 +2,6 @@ mod Powers
 mod Zeros
 mod Same
 pub mod Accept
+pub mod Idle
 pub mod Worked
 pub mod Visible
