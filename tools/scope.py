@@ -125,7 +125,8 @@ class Scope:
 
 def lawful(kernel):
     odd = len(kernel) % 2 == 1 and len(kernel) <= 255
-    return odd and all(0 <= tap <= 256 for tap in kernel) and sum(kernel) == 256 and kernel == kernel[::-1] and kernel[len(kernel) // 2] >= 1
+    weighed = all(0 <= tap <= 256 for tap in kernel) and sum(kernel) == 256
+    return odd and weighed and kernel == kernel[::-1] and kernel[len(kernel) // 2] >= 1 and (len(kernel) == 1 or kernel[0] >= 1)
 
 
 def scratch(width, taps):

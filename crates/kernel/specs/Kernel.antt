@@ -1,5 +1,5 @@
 -- SCOPE, "What a plane may be": kernels. Definitions only.
-use mathlib.Core.Bool.{Bool, _&&_}
+use mathlib.Core.Bool.{Bool, _&&_, _||_}
 use mathlib.Core.List.{List, [], _∷_}
 use Prim.Native.Nat.{ℕ, _-_, _/_, _%_}
 use lib.Dec.{eqb, leb}
@@ -46,6 +46,10 @@ mirrored ker = allTo (λ (k : ℕ). eqb (tap ker k) (tap ker (length ker - 1 - k
 unfoldable pub middled : List ℕ → Bool
 middled ker = leb 1 (tap ker (length ker / 2))
 
+-- no idle ends: of more than one tap the first is at least 1, and so is the last where it is the same from both ends
+unfoldable pub ended : List ℕ → Bool
+ended ker = leb (length ker) 1 || leb 1 (tap ker 0)
+
 -- A lawful kernel whose taps sum to `total`: lent ones have the total 256, and the fixed one is lawful at its own.
 unfoldable pub lawful : ℕ → List ℕ → Bool
-lawful total ker = oddCount ker && (tapsSuit total ker && (sumsTo total ker && (mirrored ker && middled ker)))
+lawful total ker = oddCount ker && (tapsSuit total ker && (sumsTo total ker && (mirrored ker && (middled ker && ended ker))))

@@ -2,7 +2,7 @@
 ghost use mathlib.Core.Path.{_≡_};
 ghost use Prim.Native.Nat.{_≤_, _<_};
 ghost use lib.ListN.{length};
-ghost use Rattle.kernel.specs.Kernel.{mostTaps, lentTotal, oddCount, tapsSuit, sumsTo, mirrored, middled, lawful};
+ghost use Rattle.kernel.specs.Kernel.{mostTaps, lentTotal, oddCount, tapsSuit, sumsTo, mirrored, middled, ended, lawful};
 
 // The largest count of taps.
 pub const MOST_TAPS: usize = 255;
@@ -61,11 +61,19 @@ fn is_middled(taps: &[u16]) -> bool
     1 <= taps[middle]
 }
 
+// No idle ends: of more than one tap the first is at least 1. A lawful kernel is the same from both ends, so that the last is too.
+fn is_ended(taps: &[u16]) -> bool
+    ensures { λ r. ⌜ r ≡ ended (now (taps .entry)) ⌝ }
+{
+    taps.len() <= 1 || 1 <= taps[0]
+}
+
 // Whether a lent kernel is lawful. Any taps may be asked about.
 pub fn is_lawful(taps: &[u16]) -> bool
     ensures { λ r. ⌜ r ≡ lawful lentTotal (now (taps .entry)) ⌝ }
 {
     odd_count(taps)
         && (taps_suit(taps, LENT_TOTAL)
-            && (sums_to(taps, LENT_TOTAL) && (is_mirrored(taps) && is_middled(taps))))
+            && (sums_to(taps, LENT_TOTAL)
+                && (is_mirrored(taps) && (is_middled(taps) && is_ended(taps)))))
 }

@@ -1,5 +1,6 @@
 pub mod Serves
 pub mod Grids
+pub mod Idle
 pub mod Sums
 pub mod Centre
 pub mod Demand

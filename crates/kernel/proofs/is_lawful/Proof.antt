@@ -4,12 +4,12 @@ use mathlib.Core.Bool.{true}
 use native.Mathlib.Omega.{arith}
 use borrow.Author.Needs.{needs}
 use denote.Ref.{now}
-use Rattle.kernel.specs.Kernel.{lawful, lentTotal, oddCount, tapsSuit, sumsTo, mirrored}
+use Rattle.kernel.specs.Kernel.{lawful, lentTotal, oddCount, tapsSuit, sumsTo, mirrored, middled}
 use Rattle.kernel.proofs.Says.{odd-says}
 use Rattle.kernel.proofs.is_lawful.Statement.{statement}
 use Rattle.kernel.proofs.is_lawful.Tie as tie
 
--- the places past the first three tests, each as seen from the next
+-- the places past the first four tests, each as seen from the next
 abbrev counted : tie.Then2 → tie.Then1
 counted c = c .before .before
 
@@ -18,6 +18,9 @@ suited c = c .before .before
 
 abbrev summed : tie.Then4 → tie.Then3
 summed c = c .before .before
+
+abbrev turned : tie.Then5 → tie.Then4
+turned c = c .before .before
 
 -- what is known at each
 odd : (c : tie.Then1) → oddCount (now (c .before .before .before .args .taps)) ≡ true
@@ -34,6 +37,9 @@ sum c = sym (c .before .sums-to .ensures) ∙ c .if3 .taken
 same : (c : tie.Then4) → mirrored (now (counted (suited (summed c)) .before .before .before .args .taps)) ≡ true
 same c = sym (c .before .is-mirrored .ensures) ∙ c .if4 .taken
 
+middle : (c : tie.Then5) → middled (now (counted (suited (summed (turned c))) .before .before .before .args .taps)) ≡ true
+middle c = sym (c .before .is-middled .ensures) ∙ c .if5 .taken
+
 odd-count-requires : tie.Need-odd-count-requires
 odd-count-requires c κs = search needs
 
@@ -49,31 +55,40 @@ is-mirrored-requires c κs = search needs
 is-middled-requires : tie.Need-is-middled-requires
 is-middled-requires c κs = omega (arith, odd-says _ (odd (counted (suited (summed c)))) .0)
 
+is-ended-requires : tie.Need-is-ended-requires
+is-ended-requires c κs = search needs
+
 returns : tie.Need-returns
 unfolding lawful
 returns c =
-    let d = c .before in
-    rw (odd (counted (suited (summed d))), suit (suited (summed d)), sum (summed d), same d) (c .is-middled .ensures)
+    let d = turned (c .before) in
+    rw (odd (counted (suited (summed d))), suit (suited (summed d)), sum (summed d), same d, middle (c .before)) (c .is-ended .ensures)
 
 returns-2 : tie.Need-returns-2
 unfolding lawful
 returns-2 c =
     let d = c .before .before in
-    rw (odd (counted (suited d)), suit (suited d), sum d, ← (c .before .is-mirrored .ensures), c .if4 .left)
+    rw (odd (counted (suited (summed d))), suit (suited (summed d)), sum (summed d), same d, ← (c .before .is-middled .ensures), c .if5 .left)
 
 returns-3 : tie.Need-returns-3
-unfolding lawful lentTotal
+unfolding lawful
 returns-3 c =
     let d = c .before .before in
-    rw (odd (counted d), suit d, ← (c .before .sums-to .ensures), c .if3 .left)
+    rw (odd (counted (suited d)), suit (suited d), sum d, ← (c .before .is-mirrored .ensures), c .if4 .left)
 
 returns-4 : tie.Need-returns-4
 unfolding lawful lentTotal
-returns-4 c = rw (odd (c .before .before), ← (c .before .taps-suit .ensures), c .if2 .left)
+returns-4 c =
+    let d = c .before .before in
+    rw (odd (counted d), suit d, ← (c .before .sums-to .ensures), c .if3 .left)
 
 returns-5 : tie.Need-returns-5
 unfolding lawful lentTotal
-returns-5 c = rw (← (c .before .odd-count .ensures), c .if1 .left)
+returns-5 c = rw (odd (c .before .before), ← (c .before .taps-suit .ensures), c .if2 .left)
+
+returns-6 : tie.Need-returns-6
+unfolding lawful lentTotal
+returns-6 c = rw (← (c .before .odd-count .ensures), c .if1 .left)
 
 pub is-lawful-spec : {M : Type 1} → statement M
 is-lawful-spec =
@@ -84,8 +99,10 @@ is-lawful-spec =
     sums-to-requires
     is-mirrored-requires
     is-middled-requires
+    is-ended-requires
     returns
     returns-2
     returns-3
     returns-4
-    returns-5)
+    returns-5
+    returns-6)
