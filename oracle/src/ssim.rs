@@ -65,44 +65,6 @@ impl Pairs {
         }
         seen.is_ok()
     }
-
-    /// What the product answers, if it is right and the scratch is as it should be.
-    fn answered(&self, c: &Case) -> Result<u8, String> {
-        let mut scratch: Vec<i64> = (0..c.places).map(|i| noise(c.seed, i)).collect();
-        let (answer, left) = if c.pair.wide {
-            c.pair.lend(|s| s, |a, b| asked(c, &mut scratch, a, b))?
-        } else {
-            c.pair.lend(|s| s as u8, |a, b| asked(c, &mut scratch, a, b))?
-        };
-        let (wanted, then) = model(c);
-        if (answer, left) != (wanted, then) {
-            return Err(format!("answered {} and left {}, not {} and {}", answer, show(left), wanted, show(then)));
-        }
-        let cleared = if wanted == 0 || wanted == 9 { needed(c) as usize } else { 0 };
-        let right = |i: usize| if i < cleared { 0 } else { noise(c.seed, i) };
-        match (0..c.places).find(|i| scratch[*i] != right(*i)) {
-            Some(i) => Err(format!("left {} at {} of the scratch, of which {} are needed", scratch[i], i, needed(c))),
-            None => Ok(answer),
-        }
-    }
-
-    /// Under a kernel that trimming makes lawful, the published pair is the one under the trimmed kernel, and so is the product's.
-    fn mended(&self, c: &Case) -> Result<(), String> {
-        let inner = trimmed(&c.kernel);
-        if c.pair.refusal(0) > 0 || lawful(&c.kernel) || !lawful(inner) {
-            return Ok(());
-        }
-        let [long, short] = [&c.kernel[..], inner].map(|taps| bits(published(&c.pair, taps)));
-        if long != short {
-            return Err(format!("the published pair is {}, and under the trimmed kernel {}", show(long), show(short)));
-        }
-        let kernel = Kernel::from_taps(c.kernel.clone()).trimmed();
-        match self.answered(&exact(c.pair.clone(), kernel.taps().to_vec())) {
-            Ok(0 | 9) => Ok(()),
-            Ok(answer) => Err(format!("answered {} under the trimmed kernel {:?}", answer, kernel.taps())),
-            Err(why) => Err(format!("under the trimmed kernel: {}", why)),
-        }
-    }
 }
 
 impl Family for Pairs {
@@ -116,9 +78,9 @@ impl Family for Pairs {
     }
 
     fn judge(&mut self, c: &Case) -> Result<u8, String> {
-        let answer = self.answered(c)?;
+        let answer = answered(c)?;
         told(&c.kernel)?;
-        self.mended(c)?;
+        mended(c)?;
         if c.pair.refusal(0) == 0 {
             add(&mut self.kernels, met(&c.kernel).into_iter());
         }
@@ -154,6 +116,44 @@ impl Family for Pairs {
 
     fn answers(&self) -> Vec<u8> {
         vec![0, 1, 2, 4, 5, 6, 7, 8]
+    }
+}
+
+/// What the product answers, if it is right and the scratch is as it should be.
+fn answered(c: &Case) -> Result<u8, String> {
+    let mut scratch: Vec<i64> = (0..c.places).map(|i| noise(c.seed, i)).collect();
+    let (answer, left) = if c.pair.wide {
+        c.pair.lend(|s| s, |a, b| asked(c, &mut scratch, a, b))?
+    } else {
+        c.pair.lend(|s| s as u8, |a, b| asked(c, &mut scratch, a, b))?
+    };
+    let (wanted, then) = model(c);
+    if (answer, left) != (wanted, then) {
+        return Err(format!("answered {} and left {}, not {} and {}", answer, show(left), wanted, show(then)));
+    }
+    let cleared = if wanted == 0 || wanted == 9 { needed(c) as usize } else { 0 };
+    let right = |i: usize| if i < cleared { 0 } else { noise(c.seed, i) };
+    match (0..c.places).find(|i| scratch[*i] != right(*i)) {
+        Some(i) => Err(format!("left {} at {} of the scratch, of which {} are needed", scratch[i], i, needed(c))),
+        None => Ok(answer),
+    }
+}
+
+/// Under a kernel that trimming makes lawful, the published pair is the one under the trimmed kernel, and so is the product's.
+fn mended(c: &Case) -> Result<(), String> {
+    let inner = trimmed(&c.kernel);
+    if c.pair.refusal(0) > 0 || lawful(&c.kernel) || !lawful(inner) {
+        return Ok(());
+    }
+    let [long, short] = [&c.kernel[..], inner].map(|taps| bits(published(&c.pair, taps)));
+    if long != short {
+        return Err(format!("the published pair is {}, and under the trimmed kernel {}", show(long), show(short)));
+    }
+    let kernel = Kernel::from_taps(c.kernel.clone()).trimmed();
+    match answered(&exact(c.pair.clone(), kernel.taps().to_vec())) {
+        Ok(0 | 9) => Ok(()),
+        Ok(answer) => Err(format!("answered {} under the trimmed kernel {:?}", answer, kernel.taps())),
+        Err(why) => Err(format!("under the trimmed kernel: {}", why)),
     }
 }
 
