@@ -39,7 +39,10 @@ pub fn kernels(ask: Run) -> Result<(), String> {
         }
     }
     let (time, steps) = (began.elapsed().as_secs_f64(), 2 * reach(peak));
-    println!("together: at {} sigmas the count of taps changes; {} kernels within {} doubles", steps, found.built, near);
+    println!(
+        "together: at {} sigmas the count of taps changes; {} kernels within {} doubles",
+        steps, found.built, near
+    );
     println!("together: of them are those published, in {:.1} s, and {} have idle ends", time, found.idle);
     if let Some((sigma, taps)) = found.first {
         println!("together: these are lawful when trimmed, and at most {} doubles off;", found.far);

@@ -58,7 +58,10 @@ struct Pairs {
 impl Pairs {
     fn kernels_seen(&self) -> bool {
         let told: Vec<String> = KERNELS.iter().zip(self.kernels).map(|(what, n)| format!("{} {}", n, what)).collect();
-        println!("ssim: kernels {}; of those with idle ends the published pair is that of the trimmed one", told.join(", "));
+        println!(
+            "ssim: kernels {}; of those with idle ends the published pair is that of the trimmed one",
+            told.join(", ")
+        );
         let seen = all_seen(KERNELS.to_vec(), &self.kernels, "had a kernel");
         if let Err(why) = &seen {
             println!("ssim: FAILED: {}", why);
@@ -204,7 +207,11 @@ fn told(taps: &[u16]) -> Result<(), String> {
         Err(fault) => shows(fault, taps),
     };
     if !right {
-        return Err(format!("the check of the kernel says {:?}; it keeps its rules: {:?}", kernel.check(), rules(taps)));
+        return Err(format!(
+            "the check of the kernel says {:?}; it keeps its rules: {:?}",
+            kernel.check(),
+            rules(taps)
+        ));
     }
     match kernel.trimmed().taps() {
         inner if inner == trimmed(taps) => Ok(()),
@@ -220,7 +227,9 @@ fn shows(fault: KernelFault, taps: &[u16]) -> bool {
         KernelFault::Count { count } => (0, count == taps.len()),
         KernelFault::Tap { at, tap } => (1, taps[at] == tap && tap > 256 && taps[..at].iter().all(|t| *t <= 256)),
         KernelFault::Sum { sum } => (2, sum == taps.iter().map(|t| usize::from(*t)).sum::<usize>()),
-        KernelFault::Mirror { at, other } => (3, at + other + 1 == taps.len() && (0..=at).find(|i| !alike(i)) == Some(at)),
+        KernelFault::Mirror { at, other } => {
+            (3, at + other + 1 == taps.len() && (0..=at).find(|i| !alike(i)) == Some(at))
+        }
         KernelFault::Middle { at } => (4, 2 * at + 1 == taps.len()),
         KernelFault::IdleEnds { idle, last } => {
             (5, last + 1 == taps.len() && trimmed(taps).len() + 2 * idle == taps.len())
@@ -354,7 +363,8 @@ fn padded(taps: &[u16], before: usize, after: usize) -> Vec<u16> {
 
 /// The runs of order 7 on both sides of its rule, and more: those that are taken stand beside the same with idle ends, up to 255 taps and past them.
 fn at_the_ends() -> Vec<Vec<u16>> {
-    let few: [&[u16]; 6] = [&[256], &[1, 254, 1], &[64, 128, 64], &[127, 2, 127], &[1, 0, 254, 0, 1], &[3, 0, 0, 250, 0, 0, 3]];
+    let few: [&[u16]; 6] =
+        [&[256], &[1, 254, 1], &[64, 128, 64], &[127, 2, 127], &[1, 0, 254, 0, 1], &[3, 0, 0, 250, 0, 0, 3]];
     let taken = few.iter().map(|taps| taps.to_vec()).chain([level(253), hollow(253), level(255), hollow(255)]);
     let mut list = Vec::new();
     for taps in taken {

@@ -65,7 +65,10 @@ fn kernels(ask: Run) -> Result<(), String> {
         same("kernel", ours, ssim::probe_kernel(sigma, most, weight)).map_err(|e| format!("sigma {}, {}", sigma, e))?;
     }
     println!("together: the kernels of every height to {} are those published, and lawful, in {:.1} s", SIDE, time);
-    println!("together: none of more than one tap ends in 0, for {} widths each; the most taps are {}", WIDTHS, most_taps);
+    println!(
+        "together: none of more than one tap ends in 0, for {} widths each; the most taps are {}",
+        WIDTHS, most_taps
+    );
     Ok(())
 }
 

@@ -99,7 +99,9 @@ impl fmt::Display for KernelFault {
         const MEND: &str = "Kernel::trimmed leaves idle ends off";
         write!(f, "{}: ", Refusal::Kernel)?;
         match *self {
-            KernelFault::Count { count } => write!(f, "it has {} taps, not an odd count from 1 to {}", count, MOST_TAPS),
+            KernelFault::Count { count } => {
+                write!(f, "it has {} taps, not an odd count from 1 to {}", count, MOST_TAPS)
+            }
             KernelFault::Tap { at, tap } => write!(f, "tap {} is {}, above {}", at, tap, WEIGHT),
             KernelFault::Sum { sum } => write!(f, "its taps sum to {}, not {}", sum, WEIGHT),
             KernelFault::Mirror { at, other } => write!(f, "tap {} is not what tap {}, its mirror, is", at, other),
@@ -108,7 +110,14 @@ impl fmt::Display for KernelFault {
             KernelFault::IdleEnds { idle, last } => {
                 // whoever makes one himself may put any numbers here
                 let inner = idle.saturating_sub(1);
-                write!(f, "taps 0 to {} and {} to {}, its ends, are 0; {}", inner, last.saturating_sub(inner), last, MEND)
+                write!(
+                    f,
+                    "taps 0 to {} and {} to {}, its ends, are 0; {}",
+                    inner,
+                    last.saturating_sub(inner),
+                    last,
+                    MEND
+                )
             }
             KernelFault::Unknown => f.write_str("by a rule that this crate does not know"),
         }

@@ -1,7 +1,9 @@
 //! Kernels of the chart, and those that are built; which are lawful, and what is said of those that are not.
 
 use fuavelino::no_alloc::{self, MOST_TAPS};
-use fuavelino::{build_gaussian_kernel, ssim, Kernel, KernelFault, Pair, Plane, Refusal, Sample, Scratch, Shape, MOST_SIDE};
+use fuavelino::{
+    build_gaussian_kernel, ssim, Kernel, KernelFault, Pair, Plane, Refusal, Sample, Scratch, Shape, MOST_SIDE,
+};
 
 /// The heights that the chart lists.
 const LISTED: [usize; 14] = [144, 180, 240, 270, 288, 360, 405, 480, 540, 576, 720, 1_080, 1_440, 2_160];
@@ -275,7 +277,10 @@ fn each_fault_has_its_words() {
         (said(&[1, 2, 249, 3, 1]), "tap 1 is not what tap 3, its mirror, is"),
         (said(&[128, 0, 128]), "tap 1, its middle, is 0"),
         (said(&[0, 256, 0]), "taps 0 and 2, its ends, are 0; Kernel::trimmed leaves idle ends off"),
-        (said(&padded(&[1, 254, 1], 2, 2)), "taps 0 to 1 and 5 to 6, its ends, are 0; Kernel::trimmed leaves idle ends off"),
+        (
+            said(&padded(&[1, 254, 1], 2, 2)),
+            "taps 0 to 1 and 5 to 6, its ends, are 0; Kernel::trimmed leaves idle ends off",
+        ),
         (
             said(&padded(&[256], 127, 127)),
             "taps 0 to 126 and 128 to 254, its ends, are 0; Kernel::trimmed leaves idle ends off",
@@ -379,7 +384,8 @@ fn built_ones_that_end_in_0() {
     assert_eq!([side(none), side(widest), side(past)], [0, 123, 0]);
     let mut idle = 0;
     for count in 1..=side(widest) {
-        for at in [bound(none, widest, |sigma| side(sigma) >= count), bound(widest, past, |sigma| side(sigma) < count)] {
+        for at in [bound(none, widest, |sigma| side(sigma) >= count), bound(widest, past, |sigma| side(sigma) < count)]
+        {
             for kernel in (at - 50..at + 50).map(|bits| of(f64::from_bits(bits))) {
                 let last = kernel.taps().len() - 1;
                 match kernel.check() {
