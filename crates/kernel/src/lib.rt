@@ -63,9 +63,10 @@ fn is_middled(taps: &[u16]) -> bool
 
 // No idle ends: of more than one tap the first is at least 1. A lawful kernel is the same from both ends, so that the last is too.
 fn is_ended(taps: &[u16]) -> bool
+    requires { ⌜ 0 < length (now taps) ⌝ }
     ensures { λ r. ⌜ r ≡ ended (now (taps .entry)) ⌝ }
 {
-    taps.len() <= 1 || 1 <= taps[0]
+    (taps.len() <= 1) | (1 <= taps[0])
 }
 
 // Whether a lent kernel is lawful. Any taps may be asked about.

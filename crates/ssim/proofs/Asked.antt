@@ -11,7 +11,6 @@ use Rattle.plane.specs.Plane.{Plane, Planes, planeOf, sizeOf, planesOf, maxOf, 
 use Rattle.plane.specs.Tests.{depthSuits, sidesSuit, sidesReach, strideSuits, longEnough, noneAbove, rowSuits, samplesSuit, sizeTests, layoutTests, pairRefusal}
 use Rattle.kernel.specs.Kernel.{lentTotal, lawful}
 use Rattle.ssim.specs.declared.Ssim.the-variants.{Refused}
-use Rattle.ssim.specs.Scratch.{nextPower}
 use Rattle.ssim.specs.Answer.{ssimRefusal, ssimOf}
 use Rattle.ssim.proofs.Accept.{taps-count, kernel-refuses, scratch-refuses}
 use Rattle.ssim.proofs.Powers.{power-reach}

@@ -1,11 +1,13 @@
 -- Idle taps change no score: who takes them off has, bit for bit, the pair that the rule gives with them. Assumes nothing.
-use mathlib.Core.Path.{_≡_, ap}
+use mathlib.Core.Path.{_≡_, sym, ap, _∙_}
+use mathlib.Core.Bool.{true}
 use mathlib.Core.List.{List}
 use Prim.Native.Nat.{ℕ}
 use lib.Ieee.{Float}
 use Rattle.number.proofs.Folds.{fold-ext}
 use Rattle.plane.specs.Plane.{Planes}
-use Rattle.kernel.proofs.Idle.{padded}
+use Rattle.kernel.specs.Kernel.{lentTotal, lawful}
+use Rattle.kernel.proofs.Idle.{padded, butEnds, mended}
 use Rattle.window.proofs.Idle.{padded-moments}
 use Rattle.ssim.specs.declared.Totals.{Totals}
 use Rattle.ssim.specs.Score.{withCentre, totalsOf}
@@ -20,3 +22,10 @@ module _ (k : ℕ) (ker : List ℕ) where
 
   pub padded-score : (p : Planes) → ssimScore p (padded k ker) ≡ ssimScore p ker
   padded-score p = ap (λ (t : Totals). pairOf t) (padded-totals _ _ _ _ _ _)
+
+-- so in a kernel that its ends alone make unlawful there is a lawful one, which scores the same
+pub mended-score : (ker : List ℕ) → butEnds lentTotal ker ≡ true
+    → (inner : List ℕ) × (lawful lentTotal inner ≡ true) × ((p : Planes) → ssimScore p inner ≡ ssimScore p ker)
+mended-score ker e =
+    let found = mended lentTotal ker e in
+    (found .1, found .3, λ p. sym (padded-score (found .0) (found .1) p) ∙ ap (ssimScore p) (sym (found .2)))

@@ -6,9 +6,7 @@ use native.Mathlib.Nat.{mul-zero, zero-mul}
 use native.Mathlib.Decide.{decLt}
 use native.Mathlib.Omega.{arith}
 use lib.ListN.{length}
-use Rattle.plane.specs.Sums.{sumTo}
 use Rattle.plane.proofs.Sums.{sum-zero, sum-ext}
-use Rattle.kernel.specs.Kernel.{tap}
 use Rattle.kernel.proofs.Idle.{padded, padded-length, padded-tap, padded-sum}
 use Rattle.window.specs.Moments.{clipped, seenAt, momentAt, momentsAt}
 use Rattle.window.proofs.Sums.Windows.{clipped-in, clipped-below, clipped-above, clipped-both}

@@ -56,7 +56,7 @@ is-middled-requires : tie.Need-is-middled-requires
 is-middled-requires c κs = omega (arith, odd-says _ (odd (counted (suited (summed c)))) .0)
 
 is-ended-requires : tie.Need-is-ended-requires
-is-ended-requires c κs = search needs
+is-ended-requires c κs = omega (arith, odd-says _ (odd (counted (suited (summed (turned c))))) .0)
 
 returns : tie.Need-returns
 unfolding lawful
