@@ -82,9 +82,9 @@ impl Family for Pairs {
 
     fn judge(&mut self, c: &Case) -> Result<u8, String> {
         let answer = answered(c)?;
-        told(&c.kernel)?;
-        mended(c)?;
         if c.pair.refusal(0) == 0 {
+            told(&c.kernel)?;
+            mended(c)?;
             add(&mut self.kernels, met(&c.kernel).into_iter());
         }
         Ok(answer)
@@ -142,10 +142,11 @@ fn answered(c: &Case) -> Result<u8, String> {
     }
 }
 
-/// Under a kernel that trimming makes lawful, the published pair is the one under the trimmed kernel, and so is the product's.
+/// Under a kernel that trimming makes lawful, the published pair is the one under the trimmed kernel, and so is the product's. For planes that are
+/// not refused.
 fn mended(c: &Case) -> Result<(), String> {
     let inner = trimmed(&c.kernel);
-    if c.pair.refusal(0) > 0 || lawful(&c.kernel) || !lawful(inner) {
+    if lawful(&c.kernel) || !lawful(inner) {
         return Ok(());
     }
     let [long, short] = [&c.kernel[..], inner].map(|taps| bits(published(&c.pair, taps)));

@@ -512,9 +512,12 @@ static int taken(const uint16_t *kernel, size_t taps) {
 
 /* Refused with 7, and nothing written. */
 static int refused(const uint16_t *kernel, size_t taps) {
-    const struct under said = under(kernel, taps);
-    const int kept = said.pairs[0] == -7.25 && said.pairs[1] == -8.5 && said.pairs[2] == -7.25 && said.pairs[3] == -8.5;
-    return said.bytes == FUAVELINO_KERNEL && said.words == FUAVELINO_KERNEL && kept;
+    struct under said;
+    size_t i;
+    for (i = 0; i < COUNT(long_scratch); i++) long_scratch[i] = 5;
+    said = under(kernel, taps);
+    if (said.bytes != FUAVELINO_KERNEL || said.words != FUAVELINO_KERNEL || !cleared(long_scratch, COUNT(long_scratch), 0)) return 0;
+    return said.pairs[0] == -7.25 && said.pairs[1] == -8.5 && said.pairs[2] == -7.25 && said.pairs[3] == -8.5;
 }
 
 /* Whether the kernel is refused, and taken with so many taps left off at each end, with the scores of the one that is left. */
@@ -531,9 +534,13 @@ static void idle_ends(void) {
     static const uint16_t idle[] = {0, 256, 0}, padded[] = {0, 64, 128, 64, 0}, twice[] = {0, 0, 1, 0, 254, 0, 1, 0, 0};
     static const uint16_t hollow[] = {128, 0, 128}, left[] = {0, 255, 1}, right[] = {1, 255, 0}, zeros[9] = {0};
     uint16_t most[FUAVELINO_MOST_TAPS + 2] = {0};
+    double s = -7.25, c = -8.5;
     size_t i;
     EXPECT(taken(one, 1) && taken(three, 3) && taken(within, 5) && taken(bell, 3));
     EXPECT(refused(hollow, 3) && refused(left, 3) && refused(right, 3) && refused(padded, 4) && refused(zeros, 3));
+    /* 6 comes before it, and it before 8 */
+    EXPECT(CALL(fuavelino_ssim16, (WORDS(WIDTH, HEIGHT, 9), idle, 3, long_scratch, 0, &s, &c)) == FUAVELINO_SAMPLE);
+    EXPECT(CALL(fuavelino_ssim16, (WORDS(WIDTH, HEIGHT, 10), idle, 3, long_scratch, 0, &s, &c)) == FUAVELINO_KERNEL && s == -7.25 && c == -8.5);
     EXPECT(mended(idle, 3, 1, one, 1) && mended(padded, 5, 1, bell, 3) && mended(twice, 9, 2, within, 5));
     EXPECT(fuavelino_idle_taps(hollow, 3) == 0 && fuavelino_idle_taps(left, 3) == 0 && fuavelino_idle_taps(right, 3) == 0);
     EXPECT(fuavelino_idle_taps(one, 1) == 0 && fuavelino_idle_taps(within, 5) == 0 && fuavelino_idle_taps(padded, 4) == 0);

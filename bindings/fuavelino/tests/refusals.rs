@@ -122,7 +122,7 @@ fn kernels() {
     }
 }
 
-/// An unlawful kernel leaves every place as it was, and comes before scratch that is too short.
+/// An unlawful kernel leaves every place as it was. It comes before scratch that is too short, and after planes.
 #[test]
 fn idle_ends_change_nothing() {
     let (bytes, words) = ([7u8; 256], [7u16; 256]);
@@ -134,6 +134,7 @@ fn idle_ends_change_nothing() {
         let a = plane(&words, 16);
         let shape = Shape { bit_depth: 9, ..SHAPE };
         assert_eq!(no_alloc::ssim(a, a, shape, &idle, &mut sums, &mut out), Err(Refusal::Kernel));
+        assert_eq!(no_alloc::ssim(a, a, SHAPE, &idle, &mut sums, &mut out), Err(Refusal::Depth));
         assert_eq!((sums, out), (vec![5; places], BEFORE));
     }
 }
