@@ -141,9 +141,10 @@ pub(crate) fn idle_ends(taps: &[u16]) -> usize {
 /// taps on each side of the middle. It is worked out by the host's `exp` and logarithm, and so is not proved; what it gives is judged
 /// when it is lent.
 ///
-/// For the sigma of a plane's height its ends are never 0 (each height to [`MOST_SIDE`](crate::MOST_SIDE) is run). A large `max_len` pads nothing: taps
-/// below half a unit are left out anyway. Only where the sigma is within a few doubles of one at which the count of taps changes can rounding leave an
-/// end of 0, as with 0.9118901777107576 and a weight of 256; then [`ssim`](crate::ssim) refuses the kernel with 7, and [`Kernel::trimmed`] mends it.
+/// For the sigma of a plane's height its ends are not 0 (every height to [`MOST_SIDE`](crate::MOST_SIDE) was run). A large `max_len` pads nothing, since
+/// taps below half a unit are left out. Only where the sigma is a few doubles, or none, from one at which the count of taps changes can the host's
+/// rounding leave ends of 0: with a weight of 256 0.9118901777107576 was such a one. Then [`ssim`](crate::ssim) refuses the kernel with 7, and
+/// [`Kernel::trimmed`] mends it.
 ///
 /// It takes any arguments: a `max_len` of 0 counts as 1, a sigma that gives no curve (0, below 0, infinite, not a number) gives
 /// the one tap `kernel_weight`, and no kernel has more than 65,535 taps on each side.
