@@ -6,7 +6,7 @@ use crate::heights;
 use crate::limits::SIDE;
 use crate::plane::{self, less};
 use crate::random::Random;
-use crate::samples::{sound, sound_of, Pair};
+use crate::samples::{runs, sound, sound_of, Pair};
 use crate::ssim_ways;
 use fuavelino::{no_alloc, Kernel, KernelFault, Sample};
 use published::video::ssim;
@@ -114,7 +114,7 @@ impl Family for Pairs {
     }
 
     fn show(&self, c: &Case) -> String {
-        format!("SSIM of {}\n    kernel {:?}, {} places of scratch", c.pair.show(), c.kernel, c.places)
+        format!("SSIM of {}\n    kernel {}, {} places of scratch", c.pair.show(), words(&c.kernel), c.places)
     }
 
     fn answers(&self) -> Vec<u8> {
@@ -156,7 +156,7 @@ fn mended(c: &Case) -> Result<(), String> {
     let kernel = Kernel::from_taps(c.kernel.clone()).trimmed();
     match answered(&exact(c.pair.clone(), kernel.taps().to_vec())) {
         Ok(0 | 9) => Ok(()),
-        Ok(answer) => Err(format!("answered {} under the trimmed kernel {:?}", answer, kernel.taps())),
+        Ok(answer) => Err(format!("answered {} under the trimmed kernel {}", answer, words(kernel.taps()))),
         Err(why) => Err(format!("under the trimmed kernel: {}", why)),
     }
 }
@@ -196,6 +196,11 @@ fn bits((ssim, cs): (f64, f64)) -> [u64; 2] {
     [ssim.to_bits(), cs.to_bits()]
 }
 
+/// The taps of a kernel, in few words.
+fn words(taps: &[u16]) -> String {
+    runs(taps, u16::to_string).join(" ")
+}
+
 fn show(bits: [u64; 2]) -> String {
     bits.map(|b| format!("{} ({:#018X})", f64::from_bits(b), b)).join(" ")
 }
@@ -216,7 +221,7 @@ fn told(taps: &[u16]) -> Result<(), String> {
     }
     match kernel.trimmed().taps() {
         inner if inner == trimmed(taps) => Ok(()),
-        inner => Err(format!("trimmed, the kernel is {:?}, not {:?}", inner, trimmed(taps))),
+        inner => Err(format!("trimmed, the kernel is {}, not {}", words(inner), words(trimmed(taps)))),
     }
 }
 
