@@ -533,6 +533,7 @@ static void idle_ends(void) {
     static const uint16_t one[] = {256}, three[] = {1, 254, 1}, within[] = {1, 0, 254, 0, 1}, bell[] = {64, 128, 64};
     static const uint16_t idle[] = {0, 256, 0}, padded[] = {0, 64, 128, 64, 0}, twice[] = {0, 0, 1, 0, 254, 0, 1, 0, 0};
     static const uint16_t hollow[] = {128, 0, 128}, left[] = {0, 255, 1}, right[] = {1, 255, 0}, zeros[9] = {0};
+    static const uint16_t uneven[] = {0, 0, 255, 1, 0}, turned[] = {0, 1, 255, 0, 0};
     uint16_t most[FUAVELINO_MOST_TAPS + 2] = {0};
     double s = -7.25, c = -8.5;
     size_t i;
@@ -544,6 +545,7 @@ static void idle_ends(void) {
     EXPECT(mended(idle, 3, 1, one, 1) && mended(padded, 5, 1, bell, 3) && mended(twice, 9, 2, within, 5));
     EXPECT(fuavelino_idle_taps(hollow, 3) == 0 && fuavelino_idle_taps(left, 3) == 0 && fuavelino_idle_taps(right, 3) == 0);
     EXPECT(fuavelino_idle_taps(one, 1) == 0 && fuavelino_idle_taps(within, 5) == 0 && fuavelino_idle_taps(padded, 4) == 0);
+    EXPECT(refused(uneven, 5) && fuavelino_idle_taps(uneven, 5) == 1 && refused(turned, 5) && fuavelino_idle_taps(turned, 5) == 1);
     /* of zeros alone one is left, or two of an even count */
     for (i = 0; i <= COUNT(zeros); i++) EXPECT(fuavelino_idle_taps(zeros, i) == (i < 3 ? 0 : (i - 1) / 2));
     /* three taps in the middle of 255 and of 257, then as many as can be that are not 0 */
