@@ -145,9 +145,10 @@ uint8_t fuavelino_total_decibels(double sq_err, uint64_t n, uint32_t sample_max,
  * 8: the height is listed, and there are fewer places than taps. 14: the height is not listed, whatever is lent. */
 uint8_t fuavelino_kernel(size_t height, uint16_t *taps, size_t places, size_t *count);
 
-/* SSIM under a kernel: an odd count of taps from 1 to 255, each from 0 to 256, summing to 256, the same from both ends, the middle at least 1.
- * `scratch` has at least fuavelino_ssim_places(width, taps) places; accepted, and at 9, those are 0 after the call. Refuses 1 2 4 5 6 7 8 9.
- * fuavelino_kernel.h has the kernel that av-metrics chooses for any plane. */
+/* SSIM under a kernel: an odd count of taps from 1 to 255, each from 0 to 256, summing to 256, the same from both ends, the middle at least 1 and,
+ * where there is more than one, the ends at least 1; any other is 7. `scratch` has at least fuavelino_ssim_places(width, taps) places; accepted,
+ * and at 9, those are 0 after the call. Refuses 1 2 4 5 6 7 8 9. fuavelino_kernel.h has the kernel that av-metrics chooses for any plane, and tells
+ * how many idle taps a kernel has at each end, to be left off. */
 uint8_t fuavelino_ssim8(const uint8_t *a, size_t a_len, const uint8_t *b, size_t b_len, size_t width, size_t height,
                         size_t stride_a, size_t stride_b, uint32_t depth, const uint16_t *kernel, size_t taps, int64_t *scratch,
                         size_t places, double *ssim, double *cs);

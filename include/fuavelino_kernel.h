@@ -1,8 +1,9 @@
-/* The kernel that av-metrics 0.9.1 chooses for a plane, for fuavelino_ssim8 and fuavelino_ssim16.
+/* Kernels for fuavelino_ssim8 and fuavelino_ssim16: the one that av-metrics 0.9.1 chooses for a plane, and how many taps of one are idle.
  *
- * For a plane whose height the chart of fuavelino_kernel lists, and whose width is no smaller, it is the chart's, and proved to be lawful: link
- * with libfuavelino.a. NOT PROVED, and no part of that library, are the others: a bell curve worked out by the host's pow and log (link with -lm),
- * step by step as av-metrics does. SSIM judges the kernel that it is lent, and refuses an unlawful one with 7. */
+ * For a plane whose height the chart of fuavelino_kernel lists, and whose width is no smaller, av-metrics' kernel is the chart's, and proved to be
+ * lawful: link with libfuavelino.a. NOT PROVED, and no part of that library, are the others, a bell curve worked out by the host's pow and log (link
+ * with -lm), step by step as av-metrics does; nor is the count of idle taps. SSIM judges the kernel that it is lent, and refuses an unlawful one
+ * with 7. */
 #ifndef FUAVELINO_KERNEL_H
 #define FUAVELINO_KERNEL_H
 
@@ -39,6 +40,18 @@ static inline size_t fuavelino_gaussian_kernel(size_t width, size_t height, uint
     }
     taps[side] = middle;
     return 2 * side + 1;
+}
+
+/* How many taps at each end of a kernel are idle, that is 0 on both sides; the middle one never is, nor the two in the middle of an even count. SSIM
+ * refuses a kernel of more than one tap that ends in 0. Left off, such ends change no bit of the scores, since 0 times a sample adds nothing, and
+ * save time and scratch:
+ *     idle = fuavelino_idle_taps(kernel, taps);
+ *     said = fuavelino_ssim8(.., kernel + idle, taps - 2 * idle, scratch, fuavelino_ssim_places(width, taps - 2 * idle), &ssim, &cs);
+ * Any taps may be asked about. Not proved. */
+static inline size_t fuavelino_idle_taps(const uint16_t *kernel, size_t taps) {
+    size_t idle = 0;
+    while (2 * idle + 2 < taps && kernel[idle] == 0 && kernel[taps - 1 - idle] == 0) idle++;
+    return idle;
 }
 
 #ifdef __cplusplus

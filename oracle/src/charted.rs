@@ -80,8 +80,9 @@ impl Family for Charted {
         if left != wanted {
             return Err(format!("gave {}; not {}", left.show(c), wanted.show(c)));
         }
-        if left.answer == 0 {
-            lawful(&left.room[MARGIN..][..left.count])?;
+        let taps = &left.room[MARGIN..];
+        if left.answer == 0 && !ssim::lawful(&taps[..left.count]) {
+            return Err(format!("the kernel {:?} is unlawful", &taps[..left.count]));
         }
         Ok(left.answer)
     }
@@ -132,14 +133,6 @@ fn wanted(c: &Case) -> Left {
 /// The places that the kernel of this height needs, 0 where there is none.
 fn needed(height: usize) -> usize {
     HEIGHTS.iter().find(|listed| **listed == height).map_or(0, |listed| kernel(*listed).len())
-}
-
-/// SSIM would take these taps, and none of them is idle at an end.
-fn lawful(taps: &[u16]) -> Result<(), String> {
-    if ssim::lawful(taps) && (taps.len() == 1 || taps[0] > 0) {
-        return Ok(());
-    }
-    Err(format!("the kernel {:?} is unlawful, or ends in 0", taps))
 }
 
 /// Small planes under a kernel of the chart, some smaller than it reaches: bytes and words, at the ends of the depths.

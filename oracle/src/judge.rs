@@ -13,6 +13,7 @@ mod decibels_cases;
 mod decibels_rule;
 mod decibels_ways;
 mod downscale;
+mod edges;
 mod family;
 mod five;
 mod heights;

@@ -6,9 +6,19 @@ use crate::random::Random;
 use published::plane::Plane;
 use published::video::{psnr, psnr_hvs, ssim};
 
-/// Kernels, one after the other as the table has them: lawful up to the fourth, then the forbidden ones.
-const KERNELS: [&[u16]; 7] =
-    [&[256], &[64, 128, 64], &[10, 60, 116, 60, 10], &[0, 1, 254, 1, 0], &[128, 0, 128], &[128, 128], &[64, 127, 64]];
+/// Kernels, one after the other as the table has them: five that are lawful, then the forbidden ones, those with idle ends last.
+const KERNELS: [&[u16]; 10] = [
+    &[256],
+    &[64, 128, 64],
+    &[10, 60, 116, 60, 10],
+    &[1, 254, 1],
+    &[1, 0, 254, 0, 1],
+    &[128, 0, 128],
+    &[128, 128],
+    &[64, 127, 64],
+    &[0, 256, 0],
+    &[0, 1, 254, 1, 0],
+];
 
 /// The program lends this many places of scratch at most.
 const SCRATCH: usize = 512;
@@ -146,14 +156,17 @@ fn ssim_asks(wide: bool) -> Vec<SsimAsk> {
         (ask, 1, 120),
         (ask, 2, 240),
         (Ask { b: ask.a, ..ask }, 1, SCRATCH),
-        (low, 3, 192),
+        (ask, 3, 120),
+        (low, 4, 192),
         (one, 2, 96),
         (ask, 0, 30),
-        (ask, 4, SCRATCH),
         (ask, 5, SCRATCH),
         (ask, 6, SCRATCH),
+        (ask, 7, SCRATCH),
+        (ask, 8, SCRATCH),
+        (low, 9, 0),
         (ask, 1, 119),
-        (short, 4, 0),
+        (short, 9, 0),
     ]
 }
 
@@ -189,9 +202,11 @@ pub fn kernels() -> Vec<u16> {
 fn ssim_refusal(planes: u8, kernel: &[u16], scratch: usize, width: usize) -> u8 {
     let turned: Vec<u16> = kernel.iter().rev().copied().collect();
     let sum: u32 = kernel.iter().map(|tap| u32::from(*tap)).sum();
-    let lawful =
+    let bell =
         kernel.len() % 2 == 1 && kernel.len() <= 255 && sum == 256 && turned == kernel && kernel[kernel.len() / 2] >= 1;
-    match (planes, lawful) {
+    // more than one tap, of which the ends are 0
+    let idle = kernel.len() > 1 && kernel[0] == 0 && turned[0] == 0;
+    match (planes, bell && !idle) {
         (0, false) => 7,
         (0, true) => u8::from(scratch < 6 * width * kernel.len().next_power_of_two()) * 8,
         _ => planes,

@@ -1,13 +1,14 @@
-//! SSIM of both widths: the published pair of the unpadded copies, the rules' refusals, and what is left in the scratch.
+//! SSIM of both widths: the published pair of the unpadded copies, the rules' refusals, and what is left in the scratch. And what the bindings say
+//! of a kernel, lawful or not: the rule that it breaks, and what it is without idle ends.
 
-use crate::family::{number, run, Family, Run};
+use crate::family::{add, all_seen, number, run, Family, Run};
 use crate::heights;
 use crate::limits::SIDE;
 use crate::plane::{self, less};
 use crate::random::Random;
 use crate::samples::{sound, sound_of, Pair};
 use crate::ssim_ways;
-use fuavelino::{no_alloc, Sample};
+use fuavelino::{no_alloc, Kernel, KernelFault, Sample};
 use published::video::ssim;
 
 /// What the two places hold before a call, and must hold after a refusal.
@@ -26,8 +27,18 @@ pub fn compare(ask: Run) -> bool {
     };
     println!("ssim: {} kept pairs tell the published grouping from others", telling.len());
     let kept = telling.into_iter().map(|(pair, kernel)| exact(pair, kernel)).collect();
-    run("ssim", &mut Pairs { listed: [kept, listed()].concat() }, cases, ask)
+    let mut pairs = Pairs { listed: [kept, listed()].concat(), kernels: [0; 5] };
+    run("ssim", &mut pairs, cases, ask) && pairs.kernels_seen()
 }
+
+/// Kernels that a run must meet. The published pair is that of the trimmed one where they can be mended.
+const KERNELS: [&str; 5] = [
+    "taken with a 0 between the ends",
+    "with ends of 1",
+    "with idle ends and nothing else wrong",
+    "padded past the most taps",
+    "idle at one end",
+];
 
 /// What is asked. The scratch is filled with noise that the seed gives.
 #[derive(Clone)]
@@ -40,6 +51,23 @@ struct Case {
 
 struct Pairs {
     listed: Vec<Case>,
+    /// How often each of `KERNELS` was met.
+    kernels: [u64; 5],
+}
+
+impl Pairs {
+    fn kernels_seen(&self) -> bool {
+        let told: Vec<String> = KERNELS.iter().zip(self.kernels).map(|(what, n)| format!("{} {}", n, what)).collect();
+        println!(
+            "ssim: kernels {}; of those with idle ends the published pair is that of the trimmed one",
+            told.join(", ")
+        );
+        let seen = all_seen(KERNELS.to_vec(), &self.kernels, "had a kernel");
+        if let Err(why) = &seen {
+            println!("ssim: FAILED: {}", why);
+        }
+        seen.is_ok()
+    }
 }
 
 impl Family for Pairs {
@@ -53,23 +81,13 @@ impl Family for Pairs {
     }
 
     fn judge(&mut self, c: &Case) -> Result<u8, String> {
-        let mut scratch: Vec<i64> = (0..c.places).map(|i| noise(c.seed, i)).collect();
-        let (answer, left) = if c.pair.wide {
-            c.pair.lend(|s| s, |a, b| asked(c, &mut scratch, a, b))?
-        } else {
-            c.pair.lend(|s| s as u8, |a, b| asked(c, &mut scratch, a, b))?
-        };
-        let (wanted, then) = model(c);
-        if (answer, left) != (wanted, then) {
-            let show = |bits: [u64; 2]| bits.map(|b| format!("{} ({:#018X})", f64::from_bits(b), b)).join(" ");
-            return Err(format!("answered {} and left {}, not {} and {}", answer, show(left), wanted, show(then)));
+        let answer = answered(c)?;
+        if c.pair.refusal(0) == 0 {
+            told(&c.kernel)?;
+            mended(c)?;
+            add(&mut self.kernels, met(&c.kernel).into_iter());
         }
-        let cleared = if wanted == 0 || wanted == 9 { needed(c) as usize } else { 0 };
-        let right = |i: usize| if i < cleared { 0 } else { noise(c.seed, i) };
-        match (0..c.places).find(|i| scratch[*i] != right(*i)) {
-            Some(i) => Err(format!("left {} at {} of the scratch, of which {} are needed", scratch[i], i, needed(c))),
-            None => Ok(answer),
-        }
+        Ok(answer)
     }
 
     fn smaller(&self, c: &Case) -> Vec<Case> {
@@ -104,6 +122,45 @@ impl Family for Pairs {
     }
 }
 
+/// What the product answers, if it is right and the scratch is as it should be.
+fn answered(c: &Case) -> Result<u8, String> {
+    let mut scratch: Vec<i64> = (0..c.places).map(|i| noise(c.seed, i)).collect();
+    let (answer, left) = if c.pair.wide {
+        c.pair.lend(|s| s, |a, b| asked(c, &mut scratch, a, b))?
+    } else {
+        c.pair.lend(|s| s as u8, |a, b| asked(c, &mut scratch, a, b))?
+    };
+    let (wanted, then) = model(c);
+    if (answer, left) != (wanted, then) {
+        return Err(format!("answered {} and left {}, not {} and {}", answer, show(left), wanted, show(then)));
+    }
+    let cleared = if wanted == 0 || wanted == 9 { needed(c) as usize } else { 0 };
+    let right = |i: usize| if i < cleared { 0 } else { noise(c.seed, i) };
+    match (0..c.places).find(|i| scratch[*i] != right(*i)) {
+        Some(i) => Err(format!("left {} at {} of the scratch, of which {} are needed", scratch[i], i, needed(c))),
+        None => Ok(answer),
+    }
+}
+
+/// Under a kernel that trimming makes lawful, the published pair is the one under the trimmed kernel, and so is the product's. For planes that are
+/// not refused.
+fn mended(c: &Case) -> Result<(), String> {
+    let inner = trimmed(&c.kernel);
+    if lawful(&c.kernel) || !lawful(inner) {
+        return Ok(());
+    }
+    let [long, short] = [&c.kernel[..], inner].map(|taps| bits(published(&c.pair, taps)));
+    if long != short {
+        return Err(format!("the published pair is {}, and under the trimmed kernel {}", show(long), show(short)));
+    }
+    let kernel = Kernel::from_taps(c.kernel.clone()).trimmed();
+    match answered(&exact(c.pair.clone(), kernel.taps().to_vec())) {
+        Ok(0 | 9) => Ok(()),
+        Ok(answer) => Err(format!("answered {} under the trimmed kernel {:?}", answer, kernel.taps())),
+        Err(why) => Err(format!("under the trimmed kernel: {}", why)),
+    }
+}
+
 /// Never 0, and another at each place.
 fn noise(seed: u64, at: usize) -> i64 {
     ((seed ^ at as u64).wrapping_mul(0x9E37_79B9_7F4A_7C15) | 1) as i64
@@ -135,6 +192,67 @@ fn model(c: &Case) -> (u8, [u64; 2]) {
     }
 }
 
+fn bits((ssim, cs): (f64, f64)) -> [u64; 2] {
+    [ssim.to_bits(), cs.to_bits()]
+}
+
+fn show(bits: [u64; 2]) -> String {
+    bits.map(|b| format!("{} ({:#018X})", f64::from_bits(b), b)).join(" ")
+}
+
+/// What the bindings say of a kernel: whether SSIM takes it, else the first rule that it breaks and where; and what it is without idle ends.
+fn told(taps: &[u16]) -> Result<(), String> {
+    let kernel = Kernel::from_taps(taps.to_vec());
+    let right = match kernel.check() {
+        Ok(()) => lawful(taps),
+        Err(fault) => shows(fault, taps),
+    };
+    if !right {
+        return Err(format!(
+            "the check of the kernel says {:?}; it keeps its rules: {:?}",
+            kernel.check(),
+            rules(taps)
+        ));
+    }
+    match kernel.trimmed().taps() {
+        inner if inner == trimmed(taps) => Ok(()),
+        inner => Err(format!("trimmed, the kernel is {:?}, not {:?}", inner, trimmed(taps))),
+    }
+}
+
+/// Whether these taps break the rule that a fault names, none before it, and no sooner than at the place that it tells.
+fn shows(fault: KernelFault, taps: &[u16]) -> bool {
+    let first = rules(taps).iter().position(|kept| !kept);
+    let alike = |i: &usize| taps[*i] == taps[taps.len() - 1 - i];
+    let (rule, place) = match fault {
+        KernelFault::Count { count } => (0, count == taps.len()),
+        KernelFault::Tap { at, tap } => (1, taps[at] == tap && tap > 256 && taps[..at].iter().all(|t| *t <= 256)),
+        KernelFault::Sum { sum } => (2, sum == taps.iter().map(|t| usize::from(*t)).sum::<usize>()),
+        KernelFault::Mirror { at, other } => {
+            (3, at + other + 1 == taps.len() && (0..=at).find(|i| !alike(i)) == Some(at))
+        }
+        KernelFault::Middle { at } => (4, 2 * at + 1 == taps.len()),
+        KernelFault::IdleEnds { idle, last } => {
+            (5, last + 1 == taps.len() && trimmed(taps).len() + 2 * idle == taps.len())
+        }
+        _ => return false,
+    };
+    first == Some(rule) && place
+}
+
+/// Which of `KERNELS` this one is.
+fn met(taps: &[u16]) -> [bool; 5] {
+    let padded = !lawful(taps) && lawful(trimmed(taps));
+    let one_end = taps.len() > 1 && (taps[0] == 0) != (taps[taps.len() - 1] == 0);
+    [
+        lawful(taps) && taps.contains(&0),
+        lawful(taps) && taps[0] == 1,
+        padded && taps.len() <= 255,
+        padded && taps.len() > 255,
+        one_end,
+    ]
+}
+
 /// The published pair of planes and a kernel that are not refused.
 pub fn published(pair: &Pair, kernel: &[u16]) -> (f64, f64) {
     let [a, b] = pair.visible().map(|list| list.into_iter().map(u32::from).collect::<Vec<u32>>());
@@ -144,15 +262,38 @@ pub fn published(pair: &Pair, kernel: &[u16]) -> (f64, f64) {
 
 /// Judges one call with just enough scratch.
 pub fn judged(pair: Pair, kernel: Vec<u16>) -> Result<u8, String> {
-    Pairs { listed: vec![] }.judge(&exact(pair, kernel))
+    Pairs { listed: vec![], kernels: [0; 5] }.judge(&exact(pair, kernel))
 }
 
 /// Whether a lent kernel is lawful.
 pub fn lawful(taps: &[u16]) -> bool {
+    rules(taps) == [true; 6]
+}
+
+/// Which of the rules of a lawful kernel these taps keep: their count, each tap, the sum, the mirror, the middle, and the ends.
+fn rules(taps: &[u16]) -> [bool; 6] {
     let sum: u64 = taps.iter().map(|t| u64::from(*t)).sum();
-    let mirrored = taps.iter().eq(taps.iter().rev());
-    let counts = taps.len() % 2 == 1 && taps.len() <= 255;
-    counts && taps.iter().all(|t| *t <= 256) && sum == 256 && mirrored && taps[taps.len() / 2] > 0
+    [
+        taps.len() % 2 == 1 && taps.len() <= 255,
+        taps.iter().all(|t| *t <= 256),
+        sum == 256,
+        taps.iter().eq(taps.iter().rev()),
+        taps.get(taps.len() / 2) > Some(&0),
+        !idle_ended(taps),
+    ]
+}
+
+/// Order 7: "a kernel of more than one tap whose end taps are 0".
+fn idle_ended(taps: &[u16]) -> bool {
+    matches!(taps, [0, .., 0])
+}
+
+/// Without idle taps at both ends, as long as any are left between them.
+pub fn trimmed(taps: &[u16]) -> &[u16] {
+    match taps {
+        [0, inner @ .., 0] if !inner.is_empty() => trimmed(inner),
+        _ => taps,
+    }
 }
 
 /// The places of scratch that the call needs.
@@ -165,41 +306,75 @@ fn exact(pair: Pair, kernel: Vec<u16>) -> Case {
     Case { places: needed(&case) as usize, ..case }
 }
 
-/// With fewer taps, or with taps moved to the middle: lawful ones stay lawful.
+/// With fewer taps, or with taps moved to the middle: lawful ones stay lawful, and those with idle ends lose one at each end.
 fn smaller_kernels(taps: &[u16]) -> Vec<Vec<u16>> {
     let mut list = Vec::new();
     if taps.len() > 2 {
-        let mut inner = taps[1..taps.len() - 1].to_vec();
-        let middle = inner.len() / 2;
-        inner[middle] = inner[middle].wrapping_add(taps[0]).wrapping_add(taps[taps.len() - 1]);
-        list.push(inner);
+        let next = gathered(taps, 0);
+        let inner = &next[1..next.len() - 1];
+        list.push(if idle_ended(taps) { inner } else { trimmed(inner) }.to_vec());
     }
-    for i in (0..taps.len() / 2).filter(|i| taps[*i] > 0) {
-        let mut next = taps.to_vec();
-        let (middle, mirror) = (taps.len() / 2, taps.len() - 1 - i);
-        next[middle] = next[middle].wrapping_add(next[i]).wrapping_add(next[mirror]);
-        next[i] = 0;
-        next[mirror] = 0;
-        list.push(next);
+    list.extend((1..taps.len() / 2).filter(|i| taps[*i] > 0).map(|i| gathered(taps, i)));
+    list
+}
+
+/// With a tap and its mirror moved to the middle.
+fn gathered(taps: &[u16], i: usize) -> Vec<u16> {
+    let mut next = taps.to_vec();
+    let (middle, mirror) = (taps.len() / 2, taps.len() - 1 - i);
+    next[middle] = next[middle].wrapping_add(next[i]).wrapping_add(next[mirror]);
+    next[i] = 0;
+    next[mirror] = 0;
+    next
+}
+
+/// Some large ones, the longest kernels, and kernels on both sides of each rule, for both widths of samples.
+fn listed() -> Vec<Case> {
+    let mut r = Random::of(0, "ssim, listed", 0);
+    let mut list = Vec::new();
+    for (width, height) in [(1, 1), (3, 2), (130, 70), (400, 3), (3, 400), (320, 180)] {
+        for kernel in [level(255), hollow(255), vec![256], vec![127, 2, 127], vec![0, 256, 0]] {
+            list.push(exact(sound(&mut r, width, height), kernel));
+        }
+    }
+    list.push(exact(sound(&mut r, SIDE, 2), level(255)));
+    list.extend(walls(&mut r));
+    for kernel in [at_the_ends(), unlawful()].concat() {
+        list.extend([8, 12].map(|depth| exact(sound_of(&mut r, depth, 5, 4), kernel.clone())));
     }
     list
 }
 
-/// Some large ones, the longest kernels, and kernels on both sides of each rule.
-fn listed() -> Vec<Case> {
-    let mut r = Random::of(0, "ssim, listed", 0);
+/// Taps of 1, and the rest in the middle.
+fn level(count: usize) -> Vec<u16> {
+    let mut taps = vec![1; count];
+    taps[count / 2] = 257 - count as u16;
+    taps
+}
+
+/// Ends of 1, the rest in the middle, and 0 between.
+fn hollow(count: usize) -> Vec<u16> {
+    [vec![1], vec![0; count / 2 - 1], vec![254], vec![0; count / 2 - 1], vec![1]].concat()
+}
+
+/// With so many idle taps before and after.
+fn padded(taps: &[u16], before: usize, after: usize) -> Vec<u16> {
+    [&vec![0; before][..], taps, &vec![0; after][..]].concat()
+}
+
+/// The runs of order 7 on both sides of its rule, and more: those that are taken stand beside the same with idle ends, up to 255 taps and past them.
+fn at_the_ends() -> Vec<Vec<u16>> {
+    let few: [&[u16]; 6] =
+        [&[256], &[1, 254, 1], &[64, 128, 64], &[127, 2, 127], &[1, 0, 254, 0, 1], &[3, 0, 0, 250, 0, 0, 3]];
+    let taken = few.iter().map(|taps| taps.to_vec()).chain([level(253), hollow(253), level(255), hollow(255)]);
     let mut list = Vec::new();
-    let long = [vec![1; 127], vec![2], vec![1; 127]].concat();
-    let ends = [vec![1], vec![0; 126], vec![254], vec![0; 126], vec![1]].concat();
-    for (width, height) in [(1, 1), (3, 2), (130, 70), (400, 3), (3, 400), (320, 180)] {
-        for kernel in [&long, &ends, &vec![256], &vec![0, 256, 0], &vec![127, 2, 127]] {
-            list.push(exact(sound(&mut r, width, height), kernel.clone()));
+    for taps in taken {
+        let room = 127 - taps.len() / 2;
+        for idle in [1, 2, 5, room, room + 1] {
+            list.push(padded(&taps, idle, idle));
         }
-    }
-    list.push(exact(sound(&mut r, SIDE, 2), long));
-    list.extend(walls(&mut r));
-    for kernel in unlawful() {
-        list.push(exact(sound(&mut r, 5, 4), kernel));
+        list.extend([(1, 0), (0, 1), (2, 0), (0, 2)].map(|(before, after)| padded(&taps, before, after)));
+        list.push(taps);
     }
     list
 }
@@ -221,9 +396,8 @@ fn walls(r: &mut Random) -> Vec<Case> {
 }
 
 fn unlawful() -> Vec<Vec<u16>> {
-    let far = [vec![1], vec![0; 127], vec![254], vec![0; 127], vec![1]].concat();
     let ones = [vec![1; 128], vec![0], vec![1; 128]].concat();
-    let mut list: Vec<Vec<u16>> = vec![vec![], far, ones, vec![0; 255], vec![257; 255]];
+    let mut list: Vec<Vec<u16>> = vec![vec![], hollow(257), ones, vec![0; 255], vec![257; 255]];
     list.extend([
         vec![0],
         vec![255],
@@ -244,6 +418,9 @@ fn unlawful() -> Vec<Vec<u16>> {
             .map(|k| k.to_vec()),
     );
     list.extend([[1, 2, 250, 2, 2], [1, 2, 249, 3, 1], [100, 28, 0, 28, 100]].map(|k| k.to_vec()));
+    // ends that are 0, and something else that is wrong before that is asked
+    list.extend([[0, 128, 0, 128, 0], [0, 0, 255, 1, 0], [0, 64, 127, 64, 0], [0, 0, 0, 0, 0]].map(|k| k.to_vec()));
+    list.extend([vec![0, 0], vec![0, 128, 128, 0], vec![0, 257, 0]]);
     list
 }
 
@@ -256,7 +433,8 @@ fn any(r: &mut Random) -> Case {
     };
     let kernel = match r.below(16) {
         0 => spoilt(r, &pair),
-        1..=4 => gaussian(r, &pair),
+        1 => idle(r, &pair),
+        2..=4 => gaussian(r, &pair),
         _ => kernel(r, &pair),
     };
     let case = Case { pair, kernel, places: 0, seed: r.next() };
@@ -290,14 +468,15 @@ fn reach(pair: &Pair) -> usize {
     }
 }
 
-/// A lawful kernel: 256 shared out in pairs, and the rest in the middle.
+/// A lawful kernel: 256 shared out in pairs, the ends first, and the rest in the middle. Few shares leave many a 0 between.
 fn kernel(r: &mut Random, pair: &Pair) -> Vec<u16> {
     let most = reach(pair);
     let most = r.pick(&[1, 2, 4, 7, 20, 127]).min(most);
     let half = r.below(most + 1);
     let mut side = vec![0; half];
-    let share = r.within(0, 127);
-    for _ in 0..if half > 0 { r.pick(&[share, 127]) } else { 0 } {
+    side.iter_mut().take(1).for_each(|end| *end = 1);
+    let share = r.within(1, 127);
+    for _ in 1..if half > 0 { r.pick(&[share, 127]) } else { 1 } {
         // the sum of two leans to the middle, so that not all is even
         let at = if r.once_in(2) { r.below(half) } else { (r.below(half) + r.below(half)) / 2 };
         side[at] += 1;
@@ -321,12 +500,22 @@ fn gaussian(r: &mut Random, pair: &Pair) -> Vec<u16> {
     }
 }
 
+/// A lawful kernel with idle taps: at both ends, up to the most that it may have and one more, or at one end alone.
+fn idle(r: &mut Random, pair: &Pair) -> Vec<u16> {
+    let taps = kernel(r, pair);
+    let most = reach(pair) + 1 - taps.len() / 2;
+    let any = r.within(1, most);
+    let idle = r.pick(&[1, 1, any, any, most, (most - 1).max(1)]);
+    let (before, after) = r.pick(&[(idle, idle), (idle, idle), (idle, idle), (idle, idle), (idle, 0), (0, idle)]);
+    padded(&taps, before, after)
+}
+
 /// A lawful kernel with one thing changed, or one of the listed.
 fn spoilt(r: &mut Random, pair: &Pair) -> Vec<u16> {
     let mut taps = kernel(r, pair);
     let at = r.below(taps.len());
     let middle = taps.len() / 2;
-    match r.below(8) {
+    match r.below(9) {
         0 => taps.truncate(at),
         1 => taps.push(0),
         2 => taps[at] = taps[at].wrapping_add(1),
@@ -334,6 +523,7 @@ fn spoilt(r: &mut Random, pair: &Pair) -> Vec<u16> {
         4 => taps.swap(at, middle),
         5 => taps[at] = r.next() as u16,
         6 => taps[middle] = 0,
+        7 => taps = gathered(&taps, 0),
         _ => taps = r.pick(&unlawful().iter().collect::<Vec<_>>()).clone(),
     }
     taps

@@ -3,6 +3,7 @@
 //! compared with its rule (`averaged.rs`), and the published one with the product's pair, multiplied as the Rust does.
 
 use crate::averaged::averaged;
+use crate::edges;
 use crate::family::{run, Family, Run};
 use crate::heights::{self, HEIGHTS};
 use crate::hvs;
@@ -41,7 +42,7 @@ const SCALES: usize = 16;
 
 pub fn compare(ask: Run) -> bool {
     let cases = if ask.full { 40_000 } else { 1_000 };
-    if let Err(why) = kernels(ask) {
+    if let Err(why) = kernels(ask).and_then(|()| edges::kernels(ask)) {
         println!("together: FAILED: {}", why);
         return false;
     }
@@ -51,9 +52,9 @@ pub fn compare(ask: Run) -> bool {
 /// The kernels that the bindings take from the chart or build, for planes of every height and for other arguments.
 fn kernels(ask: Run) -> Result<(), String> {
     let began = Instant::now();
-    let mut seen = Kernels { most_taps: 0, idle_ends: 0 };
+    let mut most_taps = 0;
     for height in 1..=SIDE {
-        of_height(height, &mut seen).map_err(|e| format!("height {}, {}", height, e))?;
+        most_taps = most_taps.max(of_height(height).map_err(|e| format!("height {}, {}", height, e))?);
     }
     let time = began.elapsed().as_secs_f64();
     for number in 0..10_000 {
@@ -63,32 +64,33 @@ fn kernels(ask: Run) -> Result<(), String> {
         let ours = fuavelino::build_gaussian_kernel(sigma, most, weight);
         same("kernel", ours, ssim::probe_kernel(sigma, most, weight)).map_err(|e| format!("sigma {}, {}", sigma, e))?;
     }
-    let Kernels { most_taps, idle_ends } = seen;
     println!("together: the kernels of every height to {} are those published, and lawful, in {:.1} s", SIDE, time);
-    println!("together: they have at most {} taps, and {} of them end in 0", most_taps, idle_ends);
+    println!(
+        "together: none of more than one tap ends in 0, for {} widths each; the most taps are {}",
+        WIDTHS, most_taps
+    );
     Ok(())
 }
 
-/// What is told of the kernels.
-struct Kernels {
-    most_taps: usize,
-    idle_ends: usize,
-}
+/// Of each height so many widths are asked: as wide as high, one less, a third, the widest, and the narrowest.
+const WIDTHS: usize = 7;
 
-/// Where the chart lists the height and the width is no smaller, the kernel is the chart's.
-fn of_height(height: usize, seen: &mut Kernels) -> Result<(), String> {
+/// The most taps of the kernels of a height. Where the chart lists the height and the width is no smaller, the kernel is the chart's.
+fn of_height(height: usize) -> Result<usize, String> {
     let listed = HEIGHTS.contains(&height);
-    for width in [height, (height - 1).max(1), height / 3 + 1, SIDE] {
+    let widths: [usize; WIDTHS] = [height, (height - 1).max(1), height / 3 + 1, SIDE, 1, 2, 5];
+    let mut most = 0;
+    for width in widths {
         let kernel = Kernel::for_plane(width, height);
         let taps: Vec<i64> = kernel.taps().iter().map(|t| i64::from(*t)).collect();
         same("kernel", taps, ssim::probe_kernel(height as f64 * 1.5 / 256.0, width.min(height), 256))?;
         same("taken from the chart", kernel.is_charted(), listed && width >= height)?;
-        same("lawful", similarity::lawful(kernel.taps()), true)?;
-        seen.most_taps = seen.most_taps.max(kernel.taps().len());
-        seen.idle_ends += usize::from(kernel.taps()[0] == 0);
+        same("lawful", (similarity::lawful(kernel.taps()), kernel.check()), (true, Ok(())))?;
+        most = most.max(kernel.taps().len());
     }
     let owed = listed.then(|| heights::kernel(height)).ok_or(Refusal::Height);
-    same("charted", Kernel::charted(height).map(|kernel| kernel.taps().to_vec()), owed)
+    same("charted", Kernel::charted(height).map(|kernel| kernel.taps().to_vec()), owed)?;
+    Ok(most)
 }
 
 /// Two frames: one pair of planes, or three, all of one depth.
@@ -249,7 +251,7 @@ fn bits(x: f64) -> u64 {
     }
 }
 
-fn same<T: PartialEq + std::fmt::Debug>(what: &str, ours: T, theirs: T) -> Result<(), String> {
+pub fn same<T: PartialEq + std::fmt::Debug>(what: &str, ours: T, theirs: T) -> Result<(), String> {
     if ours == theirs {
         Ok(())
     } else {

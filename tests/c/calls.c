@@ -489,6 +489,74 @@ static void ssim(void) {
     EXPECT(cleared(scratch, COUNT(scratch), SSIM_NEED));
 }
 
+/* What SSIM of the pictures says under a kernel, of bytes and of words, and both pairs. */
+struct under {
+    uint8_t bytes, words;
+    double pairs[4];
+};
+
+static int64_t long_scratch[6 * WIDTH * 256];
+
+static struct under under(const uint16_t *kernel, size_t taps) {
+    struct under said = {77, 77, {-7.25, -8.5, -7.25, -8.5}};
+    double *p = said.pairs;
+    said.bytes = CALL(fuavelino_ssim8, (BYTES(WIDTH, HEIGHT, 8), kernel, taps, long_scratch, COUNT(long_scratch), &p[0], &p[1]));
+    said.words = CALL(fuavelino_ssim16, (WORDS(WIDTH, HEIGHT, 10), kernel, taps, long_scratch, COUNT(long_scratch), &p[2], &p[3]));
+    return said;
+}
+
+static int taken(const uint16_t *kernel, size_t taps) {
+    const struct under said = under(kernel, taps);
+    return said.bytes == 0 && said.words == 0;
+}
+
+/* Refused with 7, and nothing written. */
+static int refused(const uint16_t *kernel, size_t taps) {
+    struct under said;
+    size_t i;
+    for (i = 0; i < COUNT(long_scratch); i++) long_scratch[i] = 5;
+    said = under(kernel, taps);
+    if (said.bytes != FUAVELINO_KERNEL || said.words != FUAVELINO_KERNEL || !cleared(long_scratch, COUNT(long_scratch), 0)) return 0;
+    return said.pairs[0] == -7.25 && said.pairs[1] == -8.5 && said.pairs[2] == -7.25 && said.pairs[3] == -8.5;
+}
+
+/* Whether the kernel is refused, and taken with so many taps left off at each end, with the scores of the one that is left. */
+static int mended(const uint16_t *kernel, size_t taps, size_t idle, const uint16_t *rest, size_t rest_taps) {
+    struct under said, known;
+    if (!refused(kernel, taps) || fuavelino_idle_taps(kernel, taps) != idle || taps != rest_taps + 2 * idle) return 0;
+    said = under(kernel + idle, taps - 2 * idle), known = under(rest, rest_taps);
+    return said.bytes == 0 && said.words == 0 && memcmp(said.pairs, known.pairs, sizeof known.pairs) == 0;
+}
+
+/* Kernels that end in 0 and those that do not, up to the most taps and past them. */
+static void idle_ends(void) {
+    static const uint16_t one[] = {256}, three[] = {1, 254, 1}, within[] = {1, 0, 254, 0, 1}, bell[] = {64, 128, 64};
+    static const uint16_t idle[] = {0, 256, 0}, padded[] = {0, 64, 128, 64, 0}, twice[] = {0, 0, 1, 0, 254, 0, 1, 0, 0};
+    static const uint16_t hollow[] = {128, 0, 128}, left[] = {0, 255, 1}, right[] = {1, 255, 0}, zeros[9] = {0};
+    uint16_t most[FUAVELINO_MOST_TAPS + 2] = {0};
+    double s = -7.25, c = -8.5;
+    size_t i;
+    EXPECT(taken(one, 1) && taken(three, 3) && taken(within, 5) && taken(bell, 3));
+    EXPECT(refused(hollow, 3) && refused(left, 3) && refused(right, 3) && refused(padded, 4) && refused(zeros, 3));
+    /* 6 comes before it, and it before 8 */
+    EXPECT(CALL(fuavelino_ssim16, (WORDS(WIDTH, HEIGHT, 9), idle, 3, long_scratch, 0, &s, &c)) == FUAVELINO_SAMPLE);
+    EXPECT(CALL(fuavelino_ssim16, (WORDS(WIDTH, HEIGHT, 10), idle, 3, long_scratch, 0, &s, &c)) == FUAVELINO_KERNEL && s == -7.25 && c == -8.5);
+    EXPECT(mended(idle, 3, 1, one, 1) && mended(padded, 5, 1, bell, 3) && mended(twice, 9, 2, within, 5));
+    EXPECT(fuavelino_idle_taps(hollow, 3) == 0 && fuavelino_idle_taps(left, 3) == 0 && fuavelino_idle_taps(right, 3) == 0);
+    EXPECT(fuavelino_idle_taps(one, 1) == 0 && fuavelino_idle_taps(within, 5) == 0 && fuavelino_idle_taps(padded, 4) == 0);
+    /* of zeros alone one is left, or two of an even count */
+    for (i = 0; i <= COUNT(zeros); i++) EXPECT(fuavelino_idle_taps(zeros, i) == (i < 3 ? 0 : (i - 1) / 2));
+    /* three taps in the middle of 255 and of 257, then as many as can be that are not 0 */
+    most[127] = most[129] = 1, most[128] = 254;
+    EXPECT(mended(most + 1, 255, 126, three, 3) && mended(most, 257, 127, three, 3));
+    most[1] = most[255] = 1, most[128] = 252;
+    EXPECT(taken(most + 1, 255) && mended(most, 257, 1, most + 1, 255));
+    for (i = 1; i <= 255; i++) most[i] = i == 128 ? 2 : 1;
+    EXPECT(taken(most + 1, 255) && mended(most, 257, 1, most + 1, 255));
+    most[1] = most[255] = 0, most[128] = 4;
+    EXPECT(mended(most + 1, 255, 1, most + 2, 253));
+}
+
 #define LENT(places, a32_places, b32_places) scratch, places, a32, a32_places, b32, b32_places
 
 static int all_soiled(void) {
@@ -617,6 +685,7 @@ int main(void) {
     decibels();
     total_decibels();
     ssim();
+    idle_ends();
     msssim();
     psnr_hvs();
     combining();

@@ -1,12 +1,15 @@
 //! Kernels of SSIM: those of the library's chart, and the bell curve that av-metrics makes the others from.
 
+use crate::kernel_fault::KernelFault;
 use crate::no_alloc::{self, MOST_TAPS};
+use crate::plane::{Pair, Plane, Shape};
 use crate::refusal::Refusal;
 use std::f64::consts::{E, PI};
 
 /// The taps of a kernel, for rows and columns alike. It holds what it is given; [`ssim`](crate::ssim) judges it, and refuses an unlawful
 /// one with 7. Lawful is: an odd count of taps from 1 to 255, each from 0 to 256, summing to 256, the same from both ends, the middle one
-/// at least 1.
+/// at least 1 and, where there is more than one, the ends at least 1. [`check`](Kernel::check) says which of these fails and at which tap,
+/// [`trimmed`](Kernel::trimmed) mends ends that are 0.
 ///
 /// The library has a chart of kernels, proved to be lawful. What is not in it is built here, and is not proved.
 ///
@@ -35,7 +38,7 @@ impl PartialEq for Kernel {
 impl Eq for Kernel {}
 
 /// What the taps of a lent kernel sum to.
-const WEIGHT: usize = 256;
+pub(crate) const WEIGHT: usize = 256;
 
 /// The most taps on each side of the middle that [`build_gaussian_kernel`] makes. No lawful kernel has more than 127.
 const MOST: usize = 65_535;
@@ -86,11 +89,62 @@ impl Kernel {
     pub fn taps(&self) -> &[u16] {
         &self.taps
     }
+
+    /// Whether SSIM takes this kernel; where it does not, which rule it breaks and at which tap. The library judges, as it would in
+    /// [`ssim`](crate::ssim); only the words are found here. It asks for no memory.
+    ///
+    /// ```
+    /// use fuavelino::{Kernel, KernelFault};
+    ///
+    /// assert_eq!(Kernel::from_taps(vec![64, 128, 64]).check(), Ok(()));
+    /// let fault = Kernel::from_taps(vec![0, 64, 128, 64, 0]).check().unwrap_err();
+    /// assert_eq!(fault, KernelFault::IdleEnds { idle: 1, last: 4 });
+    /// let words = "refusal 7: the kernel is unlawful: taps 0 and 4, its ends, are 0; Kernel::trimmed leaves idle ends off";
+    /// assert_eq!(fault.to_string(), words);
+    /// ```
+    pub fn check(&self) -> Result<(), KernelFault> {
+        let (plane, shape) = (Plane { data: &[0u8], stride: 1 }, Shape { width: 1, height: 1, bit_depth: 8 });
+        // of one sample and with no scratch: 7 comes before 8, so that 8 is the answer for a lawful kernel, and nothing is worked out
+        match no_alloc::ssim(plane, plane, shape, &self.taps, &mut [], &mut Pair::default()) {
+            Err(Refusal::Kernel) => Err(KernelFault::of(&self.taps)),
+            _ => Ok(()),
+        }
+    }
+
+    /// This kernel without idle taps at its ends, which SSIM refuses: as long as both ends are 0 one tap is taken off each, but never the middle.
+    /// Any other kernel stays as it is, so also one with a 0 at one end alone, or between its ends.
+    ///
+    /// The scores are bit for bit those that the padded kernel had, since 0 times a sample adds nothing; they come sooner, in less scratch.
+    ///
+    /// ```
+    /// use fuavelino::Kernel;
+    ///
+    /// let padded = Kernel::from_taps(vec![0, 0, 64, 128, 64, 0, 0]);
+    /// assert!(padded.check().is_err() && padded.trimmed().check().is_ok());
+    /// assert_eq!(padded.trimmed().taps(), [64, 128, 64]);
+    /// assert_eq!(Kernel::from_taps(vec![0, 1, 0, 254, 0, 1, 0]).trimmed().taps(), [1, 0, 254, 0, 1]);
+    /// ```
+    pub fn trimmed(&self) -> Kernel {
+        let idle = idle_ends(&self.taps);
+        // no kernel of the chart has such ends, so that one of the chart stays one
+        Kernel { taps: self.taps[idle..self.taps.len() - idle].to_vec(), charted: self.charted }
+    }
+}
+
+/// How many taps at each end are 0, up to the middle one, or the two in the middle of an even count.
+pub(crate) fn idle_ends(taps: &[u16]) -> usize {
+    let most = taps.len().saturating_sub(1) / 2;
+    taps.iter().zip(taps.iter().rev()).take(most).take_while(|ends| *ends == (&0, &0)).count()
 }
 
 /// The kernel that av-metrics builds: a bell curve of this sigma in whole numbers that sum to `kernel_weight`, with fewer than `max_len`
 /// taps on each side of the middle. It is worked out by the host's `exp` and logarithm, and so is not proved; what it gives is judged
 /// when it is lent.
+///
+/// For the sigma of a plane's height its ends are not 0 (every height to [`MOST_SIDE`](crate::MOST_SIDE) was run). A large `max_len` pads nothing, since
+/// taps below half a unit are left out. Only where the sigma is a few doubles, or none, from one at which the count of taps changes can the host's
+/// rounding leave ends of 0: with a weight of 256 0.9118901777107576 was such a one. Then [`ssim`](crate::ssim) refuses the kernel with 7, and
+/// [`Kernel::trimmed`] mends it.
 ///
 /// It takes any arguments: a `max_len` of 0 counts as 1, a sigma that gives no curve (0, below 0, infinite, not a number) gives
 /// the one tap `kernel_weight`, and no kernel has more than 65,535 taps on each side.

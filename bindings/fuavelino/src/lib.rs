@@ -5,7 +5,8 @@
 //! [`combine_hvs`] gives another: an average, where av-metrics multiplies. No caller checks first. Where two planes differ, [`first_difference`]
 //! and [`error_map`] say. PSNR in decibels, with a known error, is [`decibels()`] of records, or [`PsnrMetrics::hundredths`] of one. What this crate
 //! adds to the library, and so is tested and not proved, is little: slices and scratch are lent for you, a [`Kernel`] that is not in the library's
-//! chart is built, and [`video`] has the decibels of av-metrics' own frame functions.
+//! chart is built, idle ends are taken off one that was lent and words found for what else is wrong with it ([`KernelFault`]), and [`video`] has the
+//! decibels of av-metrics' own frame functions.
 //!
 //! ```
 //! use fuavelino::{psnr_hvs, squared_error, ssim, Kernel, Plane, PlaneKind, Refusal, Scratch, Shape};
@@ -36,6 +37,7 @@
 mod decibels;
 mod exports;
 mod kernel;
+mod kernel_fault;
 mod locate;
 pub mod no_alloc;
 mod plane;
@@ -46,6 +48,7 @@ pub mod video;
 
 pub use decibels::{decibels, Decibels};
 pub use kernel::{build_gaussian_kernel, Kernel};
+pub use kernel_fault::KernelFault;
 pub use locate::{error_map, first_difference, ErrorMap, Place, Tile, Tiles, TILE_SIDE};
 pub use plane::{Pair, Plane, PlaneKind, PsnrMetrics, Sample, Shape, MOST_SAMPLES, MOST_SIDE, MOST_STRIDE};
 pub use refusal::Refusal;

@@ -135,7 +135,8 @@ pub fn ssim_places(width: usize, taps: usize) -> usize {
     exports::ssim_places(width, taps)
 }
 
-/// SSIM under a lent kernel. It needs [`ssim_places`] of scratch. Refuses 1 2 4 5 6 7 8 9.
+/// SSIM under a lent kernel. It needs [`ssim_places`] of scratch. Refuses 1 2 4 5 6 7 8 9. [`Kernel`](crate::Kernel) says which kernels are lawful:
+/// among other things one of more than one tap does not end in 0.
 pub fn ssim<T: Sample>(
     a: Plane<'_, T>,
     b: Plane<'_, T>,

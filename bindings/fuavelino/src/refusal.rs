@@ -18,7 +18,7 @@ pub enum Refusal {
     Short = 5,
     /// 6: a visible sample is above 2^depth − 1.
     Sample = 6,
-    /// 7: the lent kernel is unlawful.
+    /// 7: the lent kernel is unlawful. [`Kernel`](crate::Kernel) says what is lawful, [`Kernel::check`](crate::Kernel::check) what is wrong with one.
     Kernel = 7,
     /// 8: lent scratch, or room lent for a map or a kernel, is too short.
     Scratch = 8,

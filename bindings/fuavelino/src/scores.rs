@@ -46,7 +46,8 @@ pub fn series(records: &[PsnrMetrics]) -> Result<PsnrMetrics, Refusal> {
     Ok(total)
 }
 
-/// SSIM under a kernel. Refuses 1 2 4 5 6 7 9, and 8 only where there is no memory for its scratch.
+/// SSIM under a kernel. Refuses 1 2 4 5 6 7 9, and 8 only where there is no memory for its scratch. [`Kernel`] says which kernels are lawful: among
+/// other things one of more than one tap does not end in 0, which [`Kernel::trimmed`] sees to.
 ///
 /// ```
 /// use fuavelino::{ssim, Kernel, Plane, Scratch, Shape};

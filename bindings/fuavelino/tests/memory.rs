@@ -106,6 +106,16 @@ fn a_charted_kernel_asks_for_its_taps() {
     }
 }
 
+/// Judging a kernel asks for nothing, whatever is wrong with it; a trimmed one for the taps that are left.
+#[test]
+fn a_kernel_is_judged_for_nothing() {
+    let kernels =
+        [vec![256], vec![1; 256], vec![0, 256, 0], vec![128, 0, 128], vec![0; 1 << 20]].map(Kernel::from_taps);
+    let refused = asked(|| assert_eq!(kernels.iter().filter(|kernel| kernel.check().is_err()).count(), 4));
+    assert_eq!(refused, 0);
+    assert_eq!(asked(|| assert_eq!(kernels[2].trimmed().taps(), [256])), 2);
+}
+
 #[test]
 fn room_is_kept() {
     let samples: Vec<u8> = (0..64 * 64).map(|i| (i * 7) as u8).collect();

@@ -110,10 +110,32 @@ fn kernels() {
     let bytes = [7u8; 256];
     let a = plane(&bytes, 16);
     let asked = |taps: &[u16]| ssim(a, a, SHAPE, &Kernel::from_taps(taps.to_vec()), &mut Scratch::new()).map(|_| ());
-    assert_eq!(asked(&[64, 128, 64]), Ok(()));
-    assert_eq!(asked(&[256]), Ok(()));
+    for taps in [&[64, 128, 64][..], &[256], &[1, 254, 1], &[1, 0, 254, 0, 1]] {
+        assert_eq!(asked(taps), Ok(()));
+    }
     for taps in [&[][..], &[128, 0, 128], &[128, 128], &[257], &[63, 128, 65], &[0; 300], &[u16::MAX; 255]] {
         assert_eq!(asked(taps), Err(Refusal::Kernel));
+    }
+    // idle ends
+    for taps in [&[0, 256, 0][..], &[0, 64, 128, 64, 0], &[0, 0, 1, 254, 1, 0, 0]] {
+        assert_eq!(asked(taps), Err(Refusal::Kernel));
+    }
+}
+
+/// An unlawful kernel leaves every place as it was. It comes before scratch that is too short, and after planes.
+#[test]
+fn idle_ends_change_nothing() {
+    let (bytes, words) = ([7u8; 256], [7u16; 256]);
+    let idle = [0, 64, 128, 64, 0];
+    for places in [0, 6 * 16 * 8, 6 * 16 * 8 + 9] {
+        let (mut sums, mut out) = (vec![5i64; places], BEFORE);
+        let a = plane(&bytes, 16);
+        assert_eq!(no_alloc::ssim(a, a, SHAPE, &idle, &mut sums, &mut out), Err(Refusal::Kernel));
+        let a = plane(&words, 16);
+        let shape = Shape { bit_depth: 9, ..SHAPE };
+        assert_eq!(no_alloc::ssim(a, a, shape, &idle, &mut sums, &mut out), Err(Refusal::Kernel));
+        assert_eq!(no_alloc::ssim(a, a, SHAPE, &idle, &mut sums, &mut out), Err(Refusal::Depth));
+        assert_eq!((sums, out), (vec![5; places], BEFORE));
     }
 }
 
