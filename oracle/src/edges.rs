@@ -40,14 +40,15 @@ pub fn kernels(ask: Run) -> Result<(), String> {
     }
     let (time, steps) = (began.elapsed().as_secs_f64(), 2 * reach(peak));
     println!(
-        "together: at {} sigmas the count of taps changes; {} kernels within {} doubles",
-        steps, found.built, near
+        "together: {} kernels within {} doubles of {} sigmas at which the count of taps changes are those published, in {:.1} s",
+        found.built, near, steps, time
     );
-    println!("together: of them are those published, in {:.1} s, and {} have idle ends", time, found.idle);
-    if let Some((sigma, taps)) = found.first {
-        println!("together: these are lawful when trimmed, and at most {} doubles off;", found.far);
-        println!("together: the first has sigma {:?} and {} taps", sigma, taps);
-    }
+    let first =
+        found.first.map_or(String::new(), |(sigma, taps)| format!("; the first: sigma {:?}, {} taps", sigma, taps));
+    println!(
+        "together: {} of these have idle ends, {} doubles off at most, and are lawful when trimmed{}",
+        found.idle, found.far, first
+    );
     Ok(())
 }
 
