@@ -58,10 +58,7 @@ struct Pairs {
 impl Pairs {
     fn kernels_seen(&self) -> bool {
         let told: Vec<String> = KERNELS.iter().zip(self.kernels).map(|(what, n)| format!("{} {}", n, what)).collect();
-        println!(
-            "ssim: kernels {}; of those with idle ends the published pair is that of the trimmed one",
-            told.join(", ")
-        );
+        println!("ssim: kernels: {}; with idle ends the published pair is that of the trimmed one", told.join(", "));
         let seen = all_seen(KERNELS.to_vec(), &self.kernels, "had a kernel");
         if let Err(why) = &seen {
             println!("ssim: FAILED: {}", why);
