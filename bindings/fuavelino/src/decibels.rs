@@ -1,7 +1,7 @@
 //! PSNR in whole hundredths of a decibel, by the library's own calls: no logarithm of the host has a say in it.
 
 use crate::no_alloc;
-use crate::plane::PsnrMetrics;
+use crate::plane::{PsnrMetrics, Record};
 use crate::refusal::Refusal;
 use std::fmt;
 
@@ -61,8 +61,8 @@ impl fmt::Display for Decibels {
 }
 
 impl PsnrMetrics {
-    /// PSNR of this record or total, by the library's call for a total. Refuses 10: no series adds up to these numbers. Of a record that
-    /// [`squared_error`](crate::squared_error) gave, and of a total that [`series`](crate::series) gave, it is never refused.
+    /// PSNR of this total, by the library's call for one. Refuses 10: no series adds up to these numbers. Of a total that
+    /// [`series`](crate::series) gave, and of the figures of a record that [`squared_error`](crate::squared_error) gave, it is never refused.
     ///
     /// A count may be that of many planes, up to 65,536 × [`MOST_SAMPLES`](crate::MOST_SAMPLES), and an error at most 2^53.
     ///
@@ -80,21 +80,38 @@ impl PsnrMetrics {
     }
 }
 
+impl Record {
+    /// PSNR of this plane, by the library's call for a run of records. Refuses 10: a bad record. Of one that [`squared_error`](crate::squared_error)
+    /// gave it is never refused.
+    ///
+    /// ```
+    /// use fuavelino::{Decibels, Record, Refusal};
+    ///
+    /// let record = Record { sq_err: 25.0, n_pixels: 3, sample_max: 255, frame: 7, plane: 2 };
+    /// assert_eq!(record.hundredths(), Ok(Decibels::Hundredths(3_892)));
+    /// assert_eq!(Record { plane: 3, ..record }.hundredths(), Err(Refusal::Record));
+    /// ```
+    pub fn hundredths(&self) -> Result<Decibels, Refusal> {
+        decibels(&[*self])
+    }
+}
+
 /// PSNR of a run of records taken together, as of the planes of a frame, or of one plane's frames. Refuses 10 11. It allocates nothing.
 ///
 /// It is that of their [`series`](crate::series), and of one record its own.
 ///
 /// ```
-/// use fuavelino::{decibels, Decibels, PsnrMetrics, Refusal};
+/// use fuavelino::{decibels, Decibels, Record, Refusal};
 ///
-/// let record = PsnrMetrics { sq_err: 25.0, n_pixels: 3, sample_max: 255 };
-/// let same = PsnrMetrics { sq_err: 0.0, ..record };
+/// let record = Record { sq_err: 25.0, n_pixels: 3, sample_max: 255, frame: 7, plane: 0 };
+/// let same = Record { sq_err: 0.0, plane: 1, ..record };
 /// assert_eq!(decibels(&[record]), record.hundredths());
 /// assert_eq!(decibels(&[record, same]), Ok(Decibels::Hundredths(4_193)));
-/// assert_eq!(decibels(&[same, same]), Ok(Decibels::Identical));
-/// assert_eq!(decibels(&[]), Err(Refusal::Record));
+/// assert_eq!(decibels(&[same, Record { plane: 2, ..same }]), Ok(Decibels::Identical));
+/// // one plane twice
+/// assert_eq!(decibels(&[same, same]), Err(Refusal::Record));
 /// ```
-pub fn decibels(records: &[PsnrMetrics]) -> Result<Decibels, Refusal> {
+pub fn decibels(records: &[Record]) -> Result<Decibels, Refusal> {
     let (mut hundredths, mut identical) = (0, 0);
     no_alloc::decibels(records, &mut hundredths, &mut identical)?;
     Ok(Decibels::written(hundredths, identical))

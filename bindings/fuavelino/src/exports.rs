@@ -7,7 +7,7 @@
 #![allow(unsafe_code)]
 
 use crate::locate::{Place, Tiles};
-use crate::plane::{Pair, Plane, PlaneKind, PsnrMetrics, Shape};
+use crate::plane::{Pair, Plane, PlaneKind, PsnrMetrics, Record, Shape};
 
 extern "C" {
     fn fuavelino_version() -> u32;
@@ -18,13 +18,13 @@ extern "C" {
     fn fuavelino_kernel(height: usize, taps: *mut u16, places: usize, count: &mut usize) -> u8;
     fn fuavelino_root(x: f64, out: &mut f64) -> u8;
     fn fuavelino_series(
-        records: *const PsnrMetrics,
+        records: *const Record,
         count: usize,
         sq_err: &mut f64,
         n: &mut u64,
         sample_max: &mut u32,
     ) -> u8;
-    fn fuavelino_decibels(records: *const PsnrMetrics, count: usize, hundredths: &mut u32, identical: &mut u8) -> u8;
+    fn fuavelino_decibels(records: *const Record, count: usize, hundredths: &mut u32, identical: &mut u8) -> u8;
     fn fuavelino_total_decibels(sq_err: f64, n: u64, sample_max: u32, hundredths: &mut u32, identical: &mut u8) -> u8;
     fn fuavelino_combine_ssim(c: f64, y: f64, u: f64, v: f64, sum: &mut f64, weight: &mut f64) -> u8;
     fn fuavelino_combine_hvs(c: f64, y: f64, u: f64, v: f64, score: &mut f64) -> u8;
@@ -76,14 +76,14 @@ pub fn root(x: f64, out: &mut f64) -> u8 {
 }
 
 #[inline]
-pub fn series(records: &[PsnrMetrics], out: &mut PsnrMetrics) -> u8 {
+pub fn series(records: &[Record], out: &mut PsnrMetrics) -> u8 {
     let PsnrMetrics { sq_err, n_pixels, sample_max } = out;
     // SAFETY: the pointer and the count are those of one slice, of C's layout; the three fields are places of their own.
     unsafe { fuavelino_series(records.as_ptr(), records.len(), sq_err, n_pixels, sample_max) }
 }
 
 #[inline]
-pub fn decibels(records: &[PsnrMetrics], hundredths: &mut u32, identical: &mut u8) -> u8 {
+pub fn decibels(records: &[Record], hundredths: &mut u32, identical: &mut u8) -> u8 {
     // SAFETY: the pointer and the count are those of one slice, of C's layout; both results are places of their own.
     unsafe { fuavelino_decibels(records.as_ptr(), records.len(), hundredths, identical) }
 }
@@ -123,7 +123,14 @@ pub fn inverse(coefs: &[i32], out: &mut [i32]) -> u8 {
 pub trait Width: Copy {
     fn check(a: Plane<'_, Self>, b: Plane<'_, Self>, shape: Shape, least: usize) -> u8;
 
-    fn squared_error(a: Plane<'_, Self>, b: Plane<'_, Self>, shape: Shape, out: &mut PsnrMetrics) -> u8;
+    fn squared_error(
+        a: Plane<'_, Self>,
+        b: Plane<'_, Self>,
+        shape: Shape,
+        frame: u32,
+        plane: u32,
+        out: &mut Record,
+    ) -> u8;
 
     fn first_difference(
         a: Plane<'_, Self>,
@@ -164,7 +171,7 @@ macro_rules! width {
         $hvs_y:ident, $hvs_u:ident, $hvs_v:ident
     ) => {
         declare!($sample, $check: least: usize);
-        declare!($sample, $squared_error: sq_err: &mut f64, n: &mut u64, sample_max: &mut u32);
+        declare!($sample, $squared_error: frame: u32, plane: u32, sq_err: &mut f64, n: &mut u64, sample_max: &mut u32);
         declare!($sample, $first_difference: differs: &mut u8, row: &mut usize, column: &mut usize);
         declare!($sample, $error_map: map: *mut u64, places: usize, across: &mut usize, down: &mut usize);
         declare!(
@@ -185,9 +192,20 @@ macro_rules! width {
             }
 
             #[inline]
-            fn squared_error(a: Plane<'_, Self>, b: Plane<'_, Self>, shape: Shape, out: &mut PsnrMetrics) -> u8 {
-                let PsnrMetrics { sq_err, n_pixels, sample_max } = out;
-                lend!($squared_error, a, b, shape, sq_err, n_pixels, sample_max)
+            fn squared_error(
+                a: Plane<'_, Self>,
+                b: Plane<'_, Self>,
+                shape: Shape,
+                frame: u32,
+                plane: u32,
+                out: &mut Record,
+            ) -> u8 {
+                let Record { sq_err, n_pixels, sample_max, .. } = out;
+                let number = lend!($squared_error, a, b, shape, frame, plane, sq_err, n_pixels, sample_max);
+                if number == 0 {
+                    (out.frame, out.plane) = (frame, plane);
+                }
+                number
             }
 
             #[inline]

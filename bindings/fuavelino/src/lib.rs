@@ -3,7 +3,7 @@
 //! These are the calls of `libfuavelino.a`, in which each function is proved to meet its contract: safe for whatever it is lent, with the
 //! exact conditions under which it refuses, and with the numbers of the published av-metrics 0.9.1, bit for bit, for planes with no padding. Only
 //! [`combine_hvs`] gives another: an average, where av-metrics multiplies. No caller checks first. Where two planes differ, [`first_difference`]
-//! and [`error_map`] say. PSNR in decibels, with a known error, is [`decibels()`] of records, or [`PsnrMetrics::hundredths`] of one. What this crate
+//! and [`error_map`] say. PSNR in decibels, with a known error, is [`decibels()`] of records, or [`Record::hundredths`] of one. What this crate
 //! adds to the library, and so is tested and not proved, is little: slices and scratch are lent for you, a [`Kernel`] that is not in the library's
 //! chart is built, idle ends are taken off one that was lent and words found for what else is wrong with it ([`KernelFault`]), and [`video`] has the
 //! decibels of av-metrics' own frame functions.
@@ -16,7 +16,8 @@
 //!     let a = Plane { data: original, stride: 64 };
 //!     let b = Plane { data: decoded, stride: 80 };
 //!     let shape = Shape { width: 64, height: 48, bit_depth: 8 };
-//!     let record = squared_error(a, b, shape)?;
+//!     // the first plane of frame 7
+//!     let record = squared_error(a, b, shape, 7, 0)?;
 //!     let pair = ssim(a, b, shape, &Kernel::for_plane(64, 48), scratch)?;
 //!     let seen = psnr_hvs(a, b, shape, PlaneKind::Y)?;
 //!     println!("{} {} {}", record.sq_err, pair.ssim, seen);
@@ -50,7 +51,9 @@ pub use decibels::{decibels, Decibels};
 pub use kernel::{build_gaussian_kernel, Kernel};
 pub use kernel_fault::KernelFault;
 pub use locate::{error_map, first_difference, ErrorMap, Place, Tile, Tiles, TILE_SIDE};
-pub use plane::{Pair, Plane, PlaneKind, PsnrMetrics, Sample, Shape, MOST_SAMPLES, MOST_SIDE, MOST_STRIDE};
+pub use plane::{
+    Pair, Plane, PlaneKind, PsnrMetrics, Record, Sample, Shape, MOST_PLANE, MOST_SAMPLES, MOST_SIDE, MOST_STRIDE,
+};
 pub use refusal::Refusal;
 pub use scores::{
     check, combine_hvs, combine_ssim, forward, inverse, msssim, psnr_hvs, root, series, squared_error, ssim, version,

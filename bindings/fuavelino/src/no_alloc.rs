@@ -21,7 +21,7 @@
 
 use crate::exports;
 use crate::locate::{Place, Tiles};
-use crate::plane::{Pair, Plane, PlaneKind, PsnrMetrics, Sample, Shape};
+use crate::plane::{Pair, Plane, PlaneKind, PsnrMetrics, Record, Sample, Shape};
 use crate::refusal::{outcome, Refusal};
 
 /// The square root of `x`, the double nearest the exact one. Refuses 12.
@@ -35,14 +35,16 @@ pub fn check<T: Sample>(a: Plane<'_, T>, b: Plane<'_, T>, shape: Shape, least: u
     outcome(T::check(a, b, shape, least))
 }
 
-/// The squared error of two planes. Refuses 1 2 4 5 6.
+/// The squared error of two planes, recorded as that of this plane of this frame. Refuses 1 2 4 5 6, and 10: the plane's number is above 2.
 pub fn squared_error<T: Sample>(
     a: Plane<'_, T>,
     b: Plane<'_, T>,
     shape: Shape,
-    out: &mut PsnrMetrics,
+    frame: u32,
+    plane: u32,
+    out: &mut Record,
 ) -> Result<(), Refusal> {
-    outcome(T::squared_error(a, b, shape, out))
+    outcome(T::squared_error(a, b, shape, frame, plane, out))
 }
 
 /// The first sample, row by row, at which two planes differ: `differs` becomes 1 and `place` says where, or it becomes 0 and `place` stays as
@@ -78,7 +80,7 @@ pub fn error_map<T: Sample>(
 
 /// The total of a run of records. Refuses 10 11.
 #[inline]
-pub fn series(records: &[PsnrMetrics], out: &mut PsnrMetrics) -> Result<(), Refusal> {
+pub fn series(records: &[Record], out: &mut PsnrMetrics) -> Result<(), Refusal> {
     outcome(exports::series(records, out))
 }
 
@@ -86,9 +88,9 @@ pub fn series(records: &[PsnrMetrics], out: &mut PsnrMetrics) -> Result<(), Refu
 /// or, where the error is 0, 10,000 and 1. Refuses 10 11.
 ///
 /// ```
-/// use fuavelino::{no_alloc, PsnrMetrics, Refusal};
+/// use fuavelino::{no_alloc, Record, Refusal};
 ///
-/// let record = PsnrMetrics { sq_err: 25.0, n_pixels: 3, sample_max: 255 };
+/// let record = Record { sq_err: 25.0, n_pixels: 3, sample_max: 255, frame: 7, plane: 0 };
 /// let (mut hundredths, mut identical) = (7, 7);
 /// assert_eq!(no_alloc::decibels(&[], &mut hundredths, &mut identical), Err(Refusal::Record));
 /// assert_eq!((hundredths, identical), (7, 7));
@@ -97,7 +99,7 @@ pub fn series(records: &[PsnrMetrics], out: &mut PsnrMetrics) -> Result<(), Refu
 /// # Ok::<(), Refusal>(())
 /// ```
 #[inline]
-pub fn decibels(records: &[PsnrMetrics], hundredths: &mut u32, identical: &mut u8) -> Result<(), Refusal> {
+pub fn decibels(records: &[Record], hundredths: &mut u32, identical: &mut u8) -> Result<(), Refusal> {
     outcome(exports::decibels(records, hundredths, identical))
 }
 

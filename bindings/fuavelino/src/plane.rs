@@ -11,6 +11,9 @@ pub const MOST_STRIDE: usize = 32_768;
 /// The largest count of samples in a record, that of a plane with both sides at [`MOST_SIDE`]. Above it a series refuses with 10.
 pub const MOST_SAMPLES: u64 = 268_435_456;
 
+/// The largest number of a plane in its frame: 0 is luma, 1 and 2 are chroma. Above it a record is refused with 10.
+pub const MOST_PLANE: u32 = 2;
+
 /// A sample: a byte (depths 1 to 8) or a 16-bit word (depths 9 to 12). No other type can be one.
 pub trait Sample: exports::Width {}
 
@@ -37,7 +40,7 @@ pub struct Shape {
     pub bit_depth: u32,
 }
 
-/// Which plane of a frame it is: PSNR-HVS has a table of contrasts for each.
+/// Which plane of a frame it is: a record has its number, and PSNR-HVS a table of contrasts for each.
 #[derive(Clone, Copy, Debug, PartialEq, Eq, Hash)]
 pub enum PlaneKind {
     /// Luma.
@@ -48,8 +51,47 @@ pub enum PlaneKind {
     V,
 }
 
-/// The record of a plane, or the total of a series of them. [`hundredths`](PsnrMetrics::hundredths) is its PSNR.
+impl PlaneKind {
+    /// The plane's number in a record: 0 for luma, 1 and 2 for chroma.
+    pub fn number(self) -> u32 {
+        match self {
+            PlaneKind::Y => 0,
+            PlaneKind::U => 1,
+            PlaneKind::V => 2,
+        }
+    }
+}
+
+/// What comparing one plane of one frame leaves, and whose it is. [`hundredths`](Record::hundredths) is its PSNR, and a [`series`](crate::series) takes
+/// a run of them that rises, by frame and then by plane.
 #[repr(C)]
+#[derive(Clone, Copy, Debug, Default, PartialEq)]
+pub struct Record {
+    /// The squared error: a whole number.
+    pub sq_err: f64,
+    /// How many samples were compared.
+    pub n_pixels: u64,
+    /// The largest sample of the depth.
+    pub sample_max: u32,
+    /// The frame's number, any.
+    pub frame: u32,
+    /// The plane's number in it, 0 to [`MOST_PLANE`].
+    pub plane: u32,
+}
+
+impl Record {
+    /// Its figures, apart from whose they are.
+    pub fn metrics(&self) -> PsnrMetrics {
+        PsnrMetrics { sq_err: self.sq_err, n_pixels: self.n_pixels, sample_max: self.sample_max }
+    }
+
+    /// Whether samples were compared and each was the same. PSNR says 100 then.
+    pub fn is_identical(&self) -> bool {
+        self.metrics().is_identical()
+    }
+}
+
+/// The figures of a record, or the total of a series of them. [`hundredths`](PsnrMetrics::hundredths) is their PSNR.
 #[derive(Clone, Copy, Debug, Default, PartialEq)]
 pub struct PsnrMetrics {
     /// The squared error: a whole number.

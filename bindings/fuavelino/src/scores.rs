@@ -3,7 +3,7 @@
 use crate::exports;
 use crate::kernel::Kernel;
 use crate::no_alloc::{self, msssim_places, msssim_samples, ssim_places};
-use crate::plane::{Pair, Plane, PlaneKind, PsnrMetrics, Sample, Shape};
+use crate::plane::{Pair, Plane, PlaneKind, PsnrMetrics, Record, Sample, Shape};
 use crate::refusal::Refusal;
 use crate::scratch::Scratch;
 
@@ -12,35 +12,50 @@ pub use crate::no_alloc::{check, forward, inverse};
 /// The least side of MS-SSIM.
 const LEAST: usize = 16;
 
-/// The squared error of the visible samples, with their count and their largest. Refuses 1 2 4 5 6.
+/// The squared error of the visible samples, with their count and their largest, recorded as that of this plane of this frame. Refuses 1 2 4 5 6,
+/// and 10: the plane's number is above 2. The frame's may be any.
 ///
 /// ```
-/// use fuavelino::{squared_error, Plane, Shape};
+/// use fuavelino::{squared_error, Plane, Record, Refusal, Shape};
 ///
 /// let a = Plane { data: &[10u8, 20, 30], stride: 3 };
 /// let b = Plane { data: &[13u8, 20, 26], stride: 3 };
-/// let record = squared_error(a, b, Shape { width: 3, height: 1, bit_depth: 8 })?;
-/// assert_eq!((record.sq_err, record.n_pixels, record.sample_max), (25.0, 3, 255));
+/// let shape = Shape { width: 3, height: 1, bit_depth: 8 };
+/// // luma of frame 7
+/// let record = squared_error(a, b, shape, 7, 0)?;
+/// assert_eq!(record, Record { sq_err: 25.0, n_pixels: 3, sample_max: 255, frame: 7, plane: 0 });
 /// assert!(!record.is_identical());
-/// # Ok::<(), fuavelino::Refusal>(())
+/// assert_eq!(squared_error(a, b, shape, 7, 3), Err(Refusal::Record));
+/// # Ok::<(), Refusal>(())
 /// ```
-pub fn squared_error<T: Sample>(a: Plane<'_, T>, b: Plane<'_, T>, shape: Shape) -> Result<PsnrMetrics, Refusal> {
-    let mut record = PsnrMetrics::default();
-    no_alloc::squared_error(a, b, shape, &mut record)?;
+pub fn squared_error<T: Sample>(
+    a: Plane<'_, T>,
+    b: Plane<'_, T>,
+    shape: Shape,
+    frame: u32,
+    plane: u32,
+) -> Result<Record, Refusal> {
+    let mut record = Record::default();
+    no_alloc::squared_error(a, b, shape, frame, plane, &mut record)?;
     Ok(record)
 }
 
-/// The total of a run of records: errors and counts added, under their one largest sample. Refuses 10 11.
+/// The total of a run of records: errors and counts added, under their one largest sample. They rise, by frame and then by plane, so that none is
+/// counted twice. Refuses 10 11.
 ///
 /// ```
-/// use fuavelino::{series, PsnrMetrics, Refusal};
+/// use fuavelino::{series, Record, Refusal};
 ///
-/// let record = PsnrMetrics { sq_err: 25.0, n_pixels: 3, sample_max: 255 };
-/// assert_eq!(series(&[record, record])?.sq_err, 50.0);
+/// let luma = Record { sq_err: 25.0, n_pixels: 3, sample_max: 255, frame: 7, plane: 0 };
+/// let chroma = Record { plane: 1, ..luma };
+/// assert_eq!(series(&[luma, chroma])?.sq_err, 50.0);
+/// // the same plane twice, and planes out of their order
+/// assert_eq!(series(&[luma, luma]), Err(Refusal::Record));
+/// assert_eq!(series(&[chroma, luma]), Err(Refusal::Record));
 /// assert_eq!(series(&[]), Err(Refusal::Record));
 /// # Ok::<(), Refusal>(())
 /// ```
-pub fn series(records: &[PsnrMetrics]) -> Result<PsnrMetrics, Refusal> {
+pub fn series(records: &[Record]) -> Result<PsnrMetrics, Refusal> {
     let mut total = PsnrMetrics::default();
     no_alloc::series(records, &mut total)?;
     Ok(total)

@@ -9,7 +9,7 @@ use psnr::Record;
 use psnr::SquaredError;
 use psnr::Summed;
 
-// Writes a record where there is one.
+// Writes the figures of a record where there is one.
 fn put_record(answer: SquaredError, sq_err: &mut f64, n: &mut u64, sample_max: &mut u32) -> u8
     ensures { λ r. ⌜ r ≡ errorNumber answer ⌝ }
     ensures { λ _. ⌜ record { «sq_err» = now («sq_err» .exit); n = now (n .exit); «sample_max» = now («sample_max» .exit) }
@@ -33,7 +33,8 @@ fn put_record(answer: SquaredError, sq_err: &mut f64, n: &mut u64, sample_max: &
     }
 }
 
-// The squared error of two planes of bytes, its count of samples and their sample_max, written to the three places.
+// The squared error of two planes of bytes, its count of samples and their sample_max, written to the three places. With the frame and the plane
+// that it is told they are the record.
 #[no_mangle]
 pub extern "C" fn fuavelino_squared_error8(
     a: &[u8],
@@ -43,16 +44,18 @@ pub extern "C" fn fuavelino_squared_error8(
     stride_a: usize,
     stride_b: usize,
     depth: u32,
+    frame: u32,
+    plane: u32,
     sq_err: &mut f64,
     n: &mut u64,
     sample_max: &mut u32,
 ) -> u8
-    ensures { λ r. ⌜ r ≡ errorNumber (squaredErrorOf (called false (a .entry) (b .entry) width height «stride_a» «stride_b» depth)) ⌝ }
+    ensures { λ r. ⌜ r ≡ errorNumber (squaredErrorOf (called false (a .entry) (b .entry) width height «stride_a» «stride_b» depth) frame plane) ⌝ }
     ensures { λ _. ⌜ record { «sq_err» = now («sq_err» .exit); n = now (n .exit); «sample_max» = now («sample_max» .exit) }
-        ≡ errorWritten (squaredErrorOf (called false (a .entry) (b .entry) width height «stride_a» «stride_b» depth))
+        ≡ errorWritten (squaredErrorOf (called false (a .entry) (b .entry) width height «stride_a» «stride_b» depth) frame plane)
         (record { «sq_err» = now («sq_err» .entry); n = now (n .entry); «sample_max» = now («sample_max» .entry) }) ⌝ }
 {
-    let answer = psnr::squared_error8(a, b, width, height, stride_a, stride_b, depth);
+    let answer = psnr::squared_error8(a, b, width, height, stride_a, stride_b, depth, frame, plane);
     put_record(answer, sq_err, n, sample_max)
 }
 
@@ -66,16 +69,18 @@ pub extern "C" fn fuavelino_squared_error16(
     stride_a: usize,
     stride_b: usize,
     depth: u32,
+    frame: u32,
+    plane: u32,
     sq_err: &mut f64,
     n: &mut u64,
     sample_max: &mut u32,
 ) -> u8
-    ensures { λ r. ⌜ r ≡ errorNumber (squaredErrorOf (called true (a .entry) (b .entry) width height «stride_a» «stride_b» depth)) ⌝ }
+    ensures { λ r. ⌜ r ≡ errorNumber (squaredErrorOf (called true (a .entry) (b .entry) width height «stride_a» «stride_b» depth) frame plane) ⌝ }
     ensures { λ _. ⌜ record { «sq_err» = now («sq_err» .exit); n = now (n .exit); «sample_max» = now («sample_max» .exit) }
-        ≡ errorWritten (squaredErrorOf (called true (a .entry) (b .entry) width height «stride_a» «stride_b» depth))
+        ≡ errorWritten (squaredErrorOf (called true (a .entry) (b .entry) width height «stride_a» «stride_b» depth) frame plane)
         (record { «sq_err» = now («sq_err» .entry); n = now (n .entry); «sample_max» = now («sample_max» .entry) }) ⌝ }
 {
-    let answer = psnr::squared_error16(a, b, width, height, stride_a, stride_b, depth);
+    let answer = psnr::squared_error16(a, b, width, height, stride_a, stride_b, depth, frame, plane);
     put_record(answer, sq_err, n, sample_max)
 }
 

@@ -4,7 +4,7 @@ use Prim.Native.Nat.{ℕ, zero, suc}
 use lib.Dec.{eqb}
 use Rattle.refusal.specs.First.{byRefusal}
 use Rattle.plane.specs.Plane.{Planes, sampleAt}
-use Rattle.psnr.specs.Squared.{squaredErrorRefusal}
+use Rattle.plane.specs.Tests.{pairRefusal}
 use Rattle.locate.specs.declared.Located.{Located}
 use Rattle.locate.specs.declared.Located.the-variants.{At, Alike, Refused}
 
@@ -32,6 +32,6 @@ downTo f width (suc n) = orElse (downTo f width n) (alongTo f n width)
 abbrev pub firstDifference : Planes → Located
 firstDifference p = downTo (differAt p) (p .size .width) (p .size .height)
 
--- the answer; it refuses what the squared error refuses: 1 2 4 5 6
+-- the answer; it refuses the planes that the squared error refuses: 1 2 4 5 6
 unfoldable pub locatedOf : Planes → Located
-locatedOf p = let n = squaredErrorRefusal p in byRefusal n (firstDifference p) (Refused n)
+locatedOf p = let n = pairRefusal p 0 in byRefusal n (firstDifference p) (Refused n)

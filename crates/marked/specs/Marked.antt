@@ -41,9 +41,9 @@ errorTold (Differs r) = pos (wholeOf (r .«sq_err»)) ∷ []
 errorTold (Identical r) = pos (wholeOf (r .«sq_err»)) ∷ []
 errorTold (Refused k) = []
 
--- of one row of three bytes beside another
+-- of one row of three bytes beside another, the first plane of the first frame
 abbrev errorOfThree : List ℕ → List ℕ → List ℤ
-errorOfThree a b = errorTold (squaredErrorOf (planesOf (sizeOf false 3 1 8) (planeOf a 3) (planeOf b 3)))
+errorOfThree a b = errorTold (squaredErrorOf (planesOf (sizeOf false 3 1 8) (planeOf a 3) (planeOf b 3)) 0 0)
 
 -- the first plane of a scale, row by row
 abbrev rowByRow : Scale → List ℤ

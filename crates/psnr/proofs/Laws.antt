@@ -1,27 +1,31 @@
 -- What a user may count on, stated about the definitions: equal planes differ by 0, only visible samples count, it does not matter which
 -- plane comes first, and the record that a call answers is never bad. Assumes nothing.
-use mathlib.Core.Path.{_≡_, refl}
+use mathlib.Core.Path.{_≡_, refl, sym}
 use mathlib.Core.Bool.{Bool, true, false}
 use Prim.Native.Nat.{ℕ, _+_, _-_, _*_, _≤_, _<_}
 use native.Mathlib.Nat.{le-trans, le-refl, le-of-lt, mul-pos, mul-comm, mul-assoc}
 use native.Mathlib.Omega.{arith}
-use borrow.Author.Tests.{eq-eqb, le-leb}
+use borrow.Author.Tests.{eq-eqb, le-leb, lt-leb}
 use lib.Dec.{lit≤}
+use Rattle.refusal.specs.Numbers.{recordNo}
 use Rattle.plane.specs.Limits.{sideLimit, leastDepth, mostDepth}
 use Rattle.plane.specs.declared.Size.{Size}
 use Rattle.plane.specs.Plane.{Plane, Planes, planesOf, maxOf, sampleAt}
 use Rattle.plane.specs.Sums.{sumTo}
+use Rattle.plane.specs.Tests.{pairRefusal}
 use Rattle.plane.specs.Inner.Lawful.{AcceptedPair, Alike, Equivalent}
 use Rattle.plane.proofs.Sums.{sum-ext, sum-zero}
 use Rattle.plane.proofs.Exchange.{refusal-exchanged, refusal-equivalent}
 use Rattle.plane.proofs.Limits.{deepest, area-le}
 use Rattle.number.specs.Limits.{exactLimit}
 use Rattle.number.specs.Steps.{double}
-use Rattle.psnr.specs.Limits.{countLimit, totalLimit}
+use Rattle.psnr.specs.Limits.{countLimit, mostPlane, totalLimit}
+use Rattle.psnr.specs.declared.SquaredError.the-variants.{Refused}
 use Rattle.psnr.specs.Squared.{squareOf, rowError, errorTo, squaredErrorScore, recordOf, squaredErrorOf}
-use Rattle.psnr.specs.Record.{countSuits, maxSuits, errorSuits, recordSuits}
+use Rattle.psnr.specs.Record.{countSuits, maxSuits, errorSuits, planeSuits, recordSuits}
 use Rattle.psnr.proofs.Squares.{error-le, error-below, walkable}
 use Rattle.psnr.proofs.Records.{some-true}
+use Rattle.psnr.proofs.Accept.{number-refuses, refusal-same}
 use Rattle.psnr.proofs.Whole.{whole-back}
 
 -- ---- one sample
@@ -52,19 +56,26 @@ module _ (size : Size) where
   score-visible a b a′ b′ p q = rows _ _ (λ y x ly lx. rw (p y x ly lx, q y x ly lx))
 
   -- nor do they for the whole answer, its refusals with it: beside visible samples only tests 4 and 5 look at how a plane is lent
-  pub visible-only : {a b a′ b′ : Plane} → Equivalent size a a′ → Equivalent size b b′
-      → squaredErrorOf (planesOf size a b) ≡ squaredErrorOf (planesOf size a′ b′)
+  pub visible-only : (frame plane : ℕ) {a b a′ b′ : Plane} → Equivalent size a a′ → Equivalent size b b′
+      → squaredErrorOf (planesOf size a b) frame plane ≡ squaredErrorOf (planesOf size a′ b′) frame plane
   unfolding squaredErrorOf
-  visible-only {a} {b} {a′} {b′} p q = rw (refusal-equivalent size 0 p q, score-visible a b a′ b′ (p .alike) (q .alike))
+  visible-only frame plane {a} {b} {a′} {b′} p q =
+      rw (refusal-same plane _ _ (refusal-equivalent size 0 p q), score-visible a b a′ b′ (p .alike) (q .alike))
 
   -- which plane comes first does not count
   score-exchanged : (a b : Plane) → squaredErrorScore (planesOf size a b) ≡ squaredErrorScore (planesOf size b a)
   unfolding errorTo rowError
   score-exchanged a b = rows _ _ (λ y x ly lx. square-swap (sampleAt a y x) (sampleAt b y x))
 
-  pub exchanged : (a b : Plane) → squaredErrorOf (planesOf size a b) ≡ squaredErrorOf (planesOf size b a)
+  pub exchanged : (frame plane : ℕ) (a b : Plane) → squaredErrorOf (planesOf size a b) frame plane ≡ squaredErrorOf (planesOf size b a) frame plane
   unfolding squaredErrorOf
-  exchanged a b = rw (refusal-exchanged size a b 0, score-exchanged a b)
+  exchanged frame plane a b = rw (refusal-same plane _ _ (refusal-exchanged size a b 0), score-exchanged a b)
+
+-- ---- whose they are
+-- planes that are taken, with a number that no plane has
+pub number-refused : (p : Planes) (frame plane : ℕ) → pairRefusal p 0 ≡ 0 → mostPlane < plane → squaredErrorOf p frame plane ≡ Refused recordNo
+unfolding squaredErrorOf planeSuits
+number-refused p frame plane e l = rw (← (number-refuses plane p (sym e) refl (lt-leb plane mostPlane l)))
 
 -- ---- the record
 -- no plane has more samples than a record may count: said of the limits, whatever they are
@@ -117,6 +128,6 @@ module _ {p : Planes} {least : ℕ} (c : AcceptedPair p least) where
       rw (w .0, w .1, le-leb _ _ most)
 
   -- the record that a call answers is never bad
-  pub record-suits : recordSuits (recordOf p) ≡ true
+  pub record-suits : (frame plane : ℕ) → planeSuits plane ≡ true → recordSuits (recordOf p frame plane) ≡ true
   unfolding recordSuits
-  record-suits = rw (count-ok, max-ok, error-ok)
+  record-suits frame plane number-ok = rw (count-ok, max-ok, error-ok, number-ok)

@@ -3,6 +3,8 @@ mod Parts
 mod Walks
 pub mod Whole
 pub mod Records
+pub mod Rising
+pub mod Accept
 pub mod Fold
 pub mod Laws
 pub mod Room

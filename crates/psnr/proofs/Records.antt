@@ -14,7 +14,7 @@ use Rattle.plane.specs.Plane.{maxOf, sampleLimit}
 use Rattle.plane.proofs.Depth.{max-grows}
 use Rattle.psnr.specs.Limits.{countLimit, totalLimit}
 use Rattle.psnr.specs.declared.Record.{Record}
-use Rattle.psnr.specs.Record.{isWhole, someTo, countSuits, maxSuits, errorSuits, recordSuits, joins}
+use Rattle.psnr.specs.Record.{isWhole, wholeOf, someTo, countSuits, maxSuits, errorSuits, planeSuits, recordSuits, joins}
 use Rattle.psnr.proofs.Squares.{total-fits}
 
 -- ---- some index below n
@@ -83,14 +83,42 @@ pub joins-suits : (max : ℕ) (r : Record) → joins max r ≡ true → recordSu
 unfolding joins
 joins-suits max r e = and-left _ _ e
 
-pub suits-count : (r : Record) → recordSuits r ≡ true → r .n ≤ countLimit
-unfolding recordSuits
-suits-count r e = count-says (r .n) (and-left _ _ (and-left _ _ e)) .1
+-- ---- a record that is not bad by itself
+module _ (r : Record) (e : recordSuits r ≡ true) where
+  abbrev count-max : Bool
+  count-max = countSuits (r .n) && maxSuits (r .«sample_max»)
 
-pub suits-some : (r : Record) → recordSuits r ≡ true → 1 ≤ r .n
-unfolding recordSuits
-suits-some r e = count-says (r .n) (and-left _ _ (and-left _ _ e)) .0
+  abbrev error : Bool
+  error = errorSuits (r .n * (r .«sample_max» * r .«sample_max»)) (r .«sq_err»)
 
-pub suits-whole : (r : Record) → recordSuits r ≡ true → isWhole (r .«sq_err») ≡ true
-unfolding recordSuits errorSuits
-suits-whole r e = and-left _ _ (and-right (countSuits (r .n) && maxSuits (r .«sample_max»)) _ e)
+  figures : (count-max && error) ≡ true
+  unfolding recordSuits
+  figures = and-left (count-max && error) _ e
+
+  pub suits-plane : planeSuits (r .plane) ≡ true
+  unfolding recordSuits
+  suits-plane = and-right (count-max && error) _ e
+
+  pub suits-countSuits : countSuits (r .n) ≡ true
+  suits-countSuits = and-left _ _ (and-left count-max error figures)
+
+  pub suits-max : maxSuits (r .«sample_max») ≡ true
+  suits-max = and-right (countSuits (r .n)) _ (and-left count-max error figures)
+
+  pub suits-error : error ≡ true
+  suits-error = and-right count-max error figures
+
+  pub suits-count : r .n ≤ countLimit
+  suits-count = count-says (r .n) suits-countSuits .1
+
+  pub suits-some : 1 ≤ r .n
+  suits-some = count-says (r .n) suits-countSuits .0
+
+  pub suits-whole : isWhole (r .«sq_err») ≡ true
+  unfolding errorSuits
+  suits-whole = and-left _ _ suits-error
+
+  -- its error is at most what its samples can have
+  pub suits-most : wholeOf (r .«sq_err») ≤ r .n * (r .«sample_max» * r .«sample_max»)
+  unfolding errorSuits
+  suits-most = leb-true _ _ (and-right (isWhole (r .«sq_err»)) _ suits-error)

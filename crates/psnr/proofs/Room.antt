@@ -15,16 +15,17 @@ use Rattle.refusal.proofs.Chain.{and-left, and-right}
 use Rattle.plane.specs.Limits.{mostDepth}
 use Rattle.plane.specs.Plane.{Planes, maxOf, sampleLimit}
 use Rattle.plane.specs.Inner.Lawful.{AcceptedPair}
-use Rattle.plane.proofs.Accept.{accepted}
 use Rattle.plane.proofs.Depth.{max-grows}
 use Rattle.number.specs.Steps.{double}
 use Rattle.psnr.specs.declared.Record.{Record}
-use Rattle.psnr.specs.Limits.{countLimit, recordLimit, totalLimit}
-use Rattle.psnr.specs.Record.{isWhole, wholeOf, someTo, countSuits, maxSuits, errorSuits, recordSuits, joins}
+use Rattle.psnr.specs.Limits.{countLimit, mostPlane, recordLimit, totalLimit}
+use Rattle.psnr.specs.Record.{isWhole, wholeOf, someTo, countSuits, maxSuits, errorSuits, planeSuits, recordSuits, joins}
 use Rattle.psnr.specs.Squared.{recordOf, squaredErrorRefusal}
-use Rattle.psnr.specs.Series.{firstMax, allJoin, runSuits, errorTotal, countTotal, seriesRefusal}
-use Rattle.psnr.proofs.Records.{max-says, joins-suits, suits-count, squares-fit}
+use Rattle.psnr.specs.Series.{firstMax, allJoin, rising, runSuits, errorTotal, countTotal, seriesRefusal}
+use Rattle.psnr.proofs.Records.{max-says, joins-suits, suits-count, suits-max, suits-most, squares-fit}
+use Rattle.psnr.proofs.Accept.{error-taken}
 use Rattle.psnr.proofs.Laws.{record-suits}
+use Rattle.psnr.proofs.Rising.{next-plane}
 use Rattle.psnr.proofs.Whole.{whole-back}
 
 -- the largest error of a record, and what of it twice and three times fits: said of the limits, whatever they are
@@ -54,15 +55,10 @@ module _ (max : ℕ) (r : Record) (j : joins max r ≡ true) where
   its-max = eqb-true (r .«sample_max») max (and-right (recordSuits r) _ j)
 
   pub max-suits : maxSuits max ≡ true
-  unfolding recordSuits
-  max-suits = rw its-max at (and-right (countSuits (r .n)) _ (and-left _ _ (joins-suits max r j)))
+  max-suits = rw its-max at (suits-max r (joins-suits max r j))
 
   error-most : wholeOf (r .«sq_err») ≤ r .n * (max * max)
-  unfolding recordSuits errorSuits
-  error-most =
-      let e = and-right (countSuits (r .n) && maxSuits (r .«sample_max»)) _ (joins-suits max r j) in
-      let l : wholeOf (r .«sq_err») ≤ r .n * (r .«sample_max» * r .«sample_max») = leb-true _ _ (and-right (isWhole (r .«sq_err»)) _ e) in
-      rw its-max at l
+  error-most = rw its-max at (suits-most r (joins-suits max r j))
 
 pub errors-most : (max : ℕ) (rs : List Record) → allJoin max rs ≡ true → errorTotal rs ≤ countTotal rs * (max * max)
 unfolding allJoin errorTotal countTotal
@@ -75,69 +71,84 @@ errors-most max (r ∷ rs) j =
 pub room-enough : (rs : List Record) → runSuits rs ≡ true → countTotal rs * (firstMax rs * firstMax rs) ≤ totalLimit → seriesRefusal rs ≡ 0
 unfolding runSuits
 room-enough rs e l =
-    let j = and-right (leb 1 (length rs) && leb (length rs) recordLimit) (allJoin (firstMax rs) rs) e in
+    let few = leb 1 (length rs) && leb (length rs) recordLimit in
+    let j = and-right few (allJoin (firstMax rs) rs) (and-left _ (rising rs) e) in
     rw (e, le-leb (errorTotal rs) totalLimit (le-trans (errors-most (firstMax rs) rs j) l))
 
 -- ---- a frame: the records that three calls answered at one depth
-module _ (y u v : Planes) (du : u .size .depth ≡ y .size .depth) (dv : v .size .depth ≡ y .size .depth)
-    (ey : squaredErrorRefusal y ≡ 0) (eu : squaredErrorRefusal u ≡ 0) (ev : squaredErrorRefusal v ≡ 0) where
+module _ (number : ℕ) (y u v : Planes) (du : u .size .depth ≡ y .size .depth) (dv : v .size .depth ≡ y .size .depth)
+    (ey : squaredErrorRefusal y 0 ≡ 0) (eu : squaredErrorRefusal u 1 ≡ 0) (ev : squaredErrorRefusal v 2 ≡ 0) where
   abbrev frame : List Record
-  frame = recordOf y ∷ recordOf u ∷ recordOf v ∷ []
+  frame = recordOf y number 0 ∷ recordOf u number 1 ∷ recordOf v number 2 ∷ []
 
   abbrev max : ℕ
   max = maxOf (y .size .depth)
 
-  taken : (p : Planes) → squaredErrorRefusal p ≡ 0 → AcceptedPair p 0
-  taken p e = accepted (p .size) (p .a ∷ p .b ∷ []) 0 e
+  module _ (p : Planes) (plane : ℕ) (e : squaredErrorRefusal p plane ≡ 0) where
+    sound : recordSuits (recordOf p number plane) ≡ true
+    sound = let taken = error-taken plane p e in record-suits (taken .0) number plane (taken .1)
 
-  joined : (p : Planes) → squaredErrorRefusal p ≡ 0 → p .size .depth ≡ y .size .depth → joins max (recordOf p) ≡ true
-  unfolding joins
-  joined p e d = rw (record-suits (taken p e), d, eq-eqb max max refl)
+    joined : p .size .depth ≡ y .size .depth → joins max (recordOf p number plane) ≡ true
+    unfolding joins
+    joined d = rw (sound, d, eq-eqb max max refl)
 
-  count-most : (p : Planes) → squaredErrorRefusal p ≡ 0 → p .size .width * p .size .height ≤ countLimit
-  count-most p e = suits-count (recordOf p) (record-suits (taken p e))
+    count-most : p .size .width * p .size .height ≤ countLimit
+    count-most = suits-count (recordOf p number plane) sound
 
   frame-suits : runSuits frame ≡ true
-  unfolding runSuits allJoin recordLimit
-  frame-suits = rw (joined y ey refl, joined u eu du, joined v ev dv)
+  unfolding runSuits allJoin rising recordLimit
+  frame-suits = rw (joined y 0 ey refl, joined u 1 eu du, joined v 2 ev dv, next-plane number 0 1 (lit< tt), next-plane number 1 2 (lit< tt))
 
   -- 11 does not meet it where both chroma planes together have no more samples than one plane may have
   pub frame-fits : u .size .width * u .size .height + v .size .width * v .size .height ≤ countLimit → seriesRefusal frame ≡ 0
   unfolding countTotal
   frame-fits l =
-      let few : countTotal frame ≤ 2 * countLimit = omega (arith, l, count-most y ey) in
-      let small = max-says max (max-suits max (recordOf y) (joined y ey refl)) in
+      let few : countTotal frame ≤ 2 * countLimit = omega (arith, l, count-most y 0 ey) in
+      let small = max-says max (max-suits max (recordOf y number 0) (joined y 0 ey refl)) in
       room-enough frame frame-suits (le-trans (mul-le-mul few (mul-le-mul small small)) two-fit)
 
   -- nor, whatever its planes, below the largest depth
   pub shallow-fits : y .size .depth < mostDepth true → seriesRefusal frame ≡ 0
   unfolding countTotal
   shallow-fits l =
-      let few : countTotal frame ≤ 3 * countLimit = omega (arith, count-most y ey, count-most u eu, count-most v ev) in
+      let few : countTotal frame ≤ 3 * countLimit = omega (arith, count-most y 0 ey, count-most u 1 eu, count-most v 2 ev) in
       let small : max ≤ maxOf (mostDepth true - 1) = max-grows (omega arith) in
       room-enough frame frame-suits (le-trans (mul-le-mul few (mul-le-mul small small)) shallow-three)
 
--- ---- three records of the largest error
-abbrev pub largest : Record
-largest = record { «sq_err» = double mostError; n = countLimit; «sample_max» = sampleLimit }
+-- ---- three records of the largest error, those of one frame
+abbrev pub largest : ℕ → ℕ → Record
+largest frame plane = record { «sq_err» = double mostError; n = countLimit; «sample_max» = sampleLimit; frame = frame; plane = plane }
 
 its-error : (isWhole (double mostError) ≡ true) × (wholeOf (double mostError) ≡ mostError)
 unfolding totalLimit
 its-error = whole-back mostError (le-of-lt squares-fit)
 
-largest-joins : joins sampleLimit largest ≡ true
-unfolding joins recordSuits countSuits maxSuits errorSuits someTo mostDepth maxOf
-largest-joins =
+largest-joins : (frame plane : ℕ) → plane ≤ mostPlane → joins sampleLimit (largest frame plane) ≡ true
+unfolding joins recordSuits countSuits maxSuits errorSuits planeSuits someTo mostDepth maxOf
+largest-joins frame plane number =
     rw (
       le-leb 1 countLimit count-some,
       le-leb countLimit countLimit (le-refl countLimit),
       its-error .0,
       its-error .1,
       le-leb mostError mostError (le-refl mostError),
+      le-leb plane mostPlane number,
     )
 
+three-planes : 2 ≤ mostPlane
+unfolding mostPlane
+three-planes = lit≤ tt
+
 -- 11 meets them
-pub three-refused : seriesRefusal (largest ∷ largest ∷ largest ∷ []) ≡ totalNo
-unfolding runSuits allJoin errorTotal recordLimit
-three-refused =
-    rw (largest-joins, its-error .1, lt-leb (mostError + (mostError + (mostError + 0))) totalLimit (omega (arith, three-past)))
+pub three-refused : (frame : ℕ) → seriesRefusal (largest frame 0 ∷ largest frame 1 ∷ largest frame 2 ∷ []) ≡ totalNo
+unfolding runSuits allJoin rising errorTotal recordLimit
+three-refused frame =
+    rw (
+      largest-joins frame 0 (omega arith),
+      largest-joins frame 1 (omega (arith, three-planes)),
+      largest-joins frame 2 three-planes,
+      next-plane frame 0 1 (lit< tt),
+      next-plane frame 1 2 (lit< tt),
+      its-error .1,
+      lt-leb (mostError + (mostError + (mostError + 0))) totalLimit (omega (arith, three-past)),
+    )

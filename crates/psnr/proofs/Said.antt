@@ -17,9 +17,10 @@ saidOf zero zero a = saidIdentical a
 saidOf zero (suc e) a = saidDiffers a
 saidOf (suc k) e a = saidRefused (suc k)
 
-pub error-says : (p : Planes) → errorSaid (squaredErrorOf p) ≡ saidOf (squaredErrorRefusal p) (squaredErrorScore p) (recordOf p)
+pub error-says : (p : Planes) (frame plane : ℕ)
+    → errorSaid (squaredErrorOf p frame plane) ≡ saidOf (squaredErrorRefusal p plane) (squaredErrorScore p) (recordOf p frame plane)
 unfolding squaredErrorOf
-error-says p = go (squaredErrorRefusal p) (squaredErrorScore p) (recordOf p)
+error-says p frame plane = go (squaredErrorRefusal p plane) (squaredErrorScore p) (recordOf p frame plane)
   where
     go : (n e : ℕ) (r : Record) → errorSaid (byRefusal n (errorAnswer e r) (Refused n)) ≡ saidOf n e r
     go zero zero r = refl

@@ -12,7 +12,7 @@ use Rattle.refusal.proofs.Chain.{Named, and-left, and-right, passed}
 use Rattle.psnr.specs.declared.Record.{Record}
 use Rattle.psnr.specs.Limits.{countLimit, recordLimit, totalLimit}
 use Rattle.psnr.specs.Record.{maxSuits, joins}
-use Rattle.psnr.specs.Series.{firstMax, allJoin, runSuits, errorTotal, countTotal, seriesTests, seriesRefusal}
+use Rattle.psnr.specs.Series.{firstMax, allJoin, rising, runSuits, errorTotal, countTotal, seriesTests, seriesRefusal}
 use Rattle.psnr.proofs.Records.{joins-suits, suits-some}
 use Rattle.psnr.proofs.Fold.{count-bound}
 use Rattle.psnr.proofs.Room.{max-suits, errors-most}
@@ -41,8 +41,9 @@ series-adds rs e =
     let all = passed (seriesTests rs) (series-named rs) e in
     let a = leb 1 (length rs) in
     let b = leb (length rs) recordLimit in
-    let join = and-right (a && b) (allJoin (firstMax rs) rs) (all .0) in
-    let lengths = and-left (a && b) (allJoin (firstMax rs) rs) (all .0) in
+    let joined = and-left (a && b && allJoin (firstMax rs) rs) (rising rs) (all .0) in
+    let join = and-right (a && b) (allJoin (firstMax rs) rs) joined in
+    let lengths = and-left (a && b) (allJoin (firstMax rs) rs) joined in
     let first = first-some rs (leb-true 1 (length rs) (and-left a b lengths)) join in
     let short : length rs ≤ recordLimit = leb-true (length rs) recordLimit (and-right a b lengths) in
     record {

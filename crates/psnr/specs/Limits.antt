@@ -6,6 +6,10 @@ use Rattle.number.specs.Limits.{exactLimit}
 unfoldable pub countLimit : ℕ
 countLimit = 268435456
 
+-- the largest number of a plane: 0 is luma, 1 and 2 are chroma
+unfoldable pub mostPlane : ℕ
+mostPlane = 2
+
 -- the most records of a series
 unfoldable pub recordLimit : ℕ
 recordLimit = 65536

@@ -35,6 +35,10 @@ module _ {A : Type 0} where
   figureOr [] old = old
   figureOr (a ∷ more) old = a
 
+-- the figures of a record, apart from whose they are
+abbrev pub figuresOf : Record → Total
+figuresOf r = record { «sq_err» = r .«sq_err»; n = r .n; «sample_max» = r .«sample_max» }
+
 -- what the two answers say, case by case
 abbrev pub errorSaid : SquaredError → Said Record
 errorSaid (compared.Differs r) = saidDiffers r

@@ -13,7 +13,7 @@ use Rattle.psnr.specs.declared.Total.{Total}
 use Rattle.psnr.specs.declared.Summed.{Summed}
 use Rattle.psnr.specs.declared.Summed.the-variants.{Differs, Identical, Refused}
 use Rattle.psnr.specs.Limits.{recordLimit, totalLimit}
-use Rattle.psnr.specs.Record.{wholeOf, joins}
+use Rattle.psnr.specs.Record.{wholeOf, joins, before}
 
 -- the first record's max
 abbrev pub firstMax : List Record → ℕ
@@ -25,9 +25,15 @@ unfoldable pub allJoin : ℕ → List Record → Bool
 allJoin max [] = true
 allJoin max (r ∷ rs) = joins max r && allJoin max rs
 
--- 10: neither none nor too many records, and no bad one
+-- each comes after the one before it, by frame and then by plane
+unfoldable pub rising : List Record → Bool
+rising [] = true
+rising (r ∷ []) = true
+rising (r ∷ s ∷ rs) = before r s && rising (s ∷ rs)
+
+-- 10: neither none nor too many records, no bad one, and they rise
 unfoldable pub runSuits : List Record → Bool
-runSuits rs = leb 1 (length rs) && leb (length rs) recordLimit && allJoin (firstMax rs) rs
+runSuits rs = leb 1 (length rs) && leb (length rs) recordLimit && allJoin (firstMax rs) rs && rising rs
 
 -- the exact total of the errors
 unfoldable pub errorTotal : List Record → ℕ

@@ -1,11 +1,14 @@
 // Which record is bad, after SCOPE, "When the desk says no".
 ghost use mathlib.Core.Path.{_≡_};
 ghost use Prim.Native.Nat.{_+_, min};
-ghost use Rattle.psnr.specs.Record.{isWhole, countSuits, maxSuits, errorSuits, recordSuits, joins};
+ghost use Rattle.psnr.specs.Record.{isWhole, countSuits, maxSuits, errorSuits, planeSuits, recordSuits, joins, earlier};
 use crate::Record;
 
 // The largest n of a record.
 pub const COUNT_LIMIT: u64 = 268435456;
+
+// The largest number of a plane.
+pub const MOST_PLANE: u32 = 2;
 
 // a + b, but no more than `cap`.
 pub fn capped_sum(a: u64, b: u64, cap: u64) -> u64
@@ -63,6 +66,13 @@ pub fn max_suits(max: u32) -> bool
     ok
 }
 
+// Whether the plane's number is 0, 1 or 2.
+pub fn plane_suits(plane: u32) -> bool
+    ensures { λ r. ⌜ r ≡ planeSuits plane ⌝ }
+{
+    plane <= MOST_PLANE
+}
+
 // Whether the record is not bad by itself. n and max are judged first, so that the product fits.
 pub fn record_suits(r: Record) -> bool
     ensures { λ b. ⌜ b ≡ recordSuits r ⌝ }
@@ -75,7 +85,7 @@ pub fn record_suits(r: Record) -> bool
     if !max_suits(max) {
         return false;
     }
-    error_suits(n * ((max as u64) * (max as u64)), r.sq_err)
+    error_suits(n * ((max as u64) * (max as u64)), r.sq_err) & plane_suits(r.plane)
 }
 
 // Whether it is not bad in a series whose first record has this max.
@@ -83,4 +93,11 @@ pub fn joins(max: u32, r: Record) -> bool
     ensures { λ b. ⌜ b ≡ joins max r ⌝ }
 {
     record_suits(r) & (r.sample_max == max)
+}
+
+// Whether a frame and plane come before others: by frame, then by plane.
+pub fn is_earlier(frame: u32, plane: u32, next_frame: u32, next_plane: u32) -> bool
+    ensures { λ b. ⌜ b ≡ earlier frame plane «next_frame» «next_plane» ⌝ }
+{
+    (frame < next_frame) | ((frame == next_frame) & (plane < next_plane))
 }

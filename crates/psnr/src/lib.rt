@@ -5,7 +5,7 @@ ghost use Rattle.plane.specs.Plane.{called};
 ghost use Rattle.plane.specs.Inner.Lent.{planes};
 ghost use Rattle.psnr.specs.Squared.{squaredErrorOf};
 ghost use Rattle.psnr.specs.Series.{seriesOf};
-ghost use Rattle.psnr.specs.Inner.Fold.{runWith, runStart, runStep, runFinish};
+ghost use Rattle.psnr.specs.Inner.Fold.{rises, runWith, runStart, runStep, runFinish};
 use plane::Layout;
 use plane::Size;
 use walk::Walked;
@@ -18,12 +18,14 @@ pub const RECORD_LIMIT: u64 = 65536;
 // The largest total: up to it the double is exact.
 pub const TOTAL_LIMIT: u64 = number::EXACT_LIMIT;
 
-// What a comparison of two planes leaves. The error is a whole number, and exact.
+// What a comparison of two planes leaves, and whose they are. The error is a whole number, and exact.
 #[repr(C)]
 pub struct Record {
     pub sq_err: f64,
     pub n: u64,
     pub sample_max: u32,
+    pub frame: u32,
+    pub plane: u32,
 }
 
 // What asking for a squared error answers. Identical says "identical, 100" beside its record.
@@ -47,12 +49,15 @@ pub enum Summed {
     Refused(u8),
 }
 
-// A series so far, in whole numbers: how many records, and what they add up to. An error above TOTAL_LIMIT is kept as one above it.
+// A series so far, in whole numbers: how many records, what they add up to, and the last one's frame and plane. An error above TOTAL_LIMIT is
+// kept as one above it.
 pub struct Tally {
     pub records: u64,
     pub error: u64,
     pub n: u64,
     pub sample_max: u32,
+    pub frame: u32,
+    pub plane: u32,
 }
 
 // No record yet; sound ones only; or a bad one or one too many among them.
@@ -62,9 +67,17 @@ pub enum Run {
     Spoiled,
 }
 
-// The answer for two planes of either width, the samples of each as bytes and as words. 6, the last of its refusals, is judged on the walk.
-fn answer(a8: &[u8], a16: &[u16], b8: &[u8], b16: &[u16], layout: Layout) -> SquaredError
-    ensures { λ r. ⌜ r ≡ squaredErrorOf (planes layout (a8 .entry) (a16 .entry) (b8 .entry) (b16 .entry)) ⌝ }
+// The answer for two planes of either width, the samples of each as bytes and as words. 6 is judged on the walk, and 10 after it.
+fn answer(
+    a8: &[u8],
+    a16: &[u16],
+    b8: &[u8],
+    b16: &[u16],
+    layout: Layout,
+    frame: u32,
+    plane: u32,
+) -> SquaredError
+    ensures { λ r. ⌜ r ≡ squaredErrorOf (planes layout (a8 .entry) (a16 .entry) (b8 .entry) (b16 .entry)) frame plane ⌝ }
 {
     let no = plane::check_unread(a8, a16, b8, b16, layout, 0);
     if no != 0 {
@@ -74,10 +87,15 @@ fn answer(a8: &[u8], a16: &[u16], b8: &[u8], b16: &[u16], layout: Layout) -> Squ
     let height = layout.size.height;
     match walk::rows(a8, a16, b8, b16, layout) {
         Walked::Sum(error) => {
+            if !judge::plane_suits(plane) {
+                return SquaredError::Refused(refusal::RECORD);
+            }
             let record = Record {
                 sq_err: number::exact(error),
                 n: (width * height) as u64,
                 sample_max: plane::sample_max(layout.size.depth),
+                frame,
+                plane,
             };
             if error == 0 {
                 SquaredError::Identical(record)
@@ -89,7 +107,7 @@ fn answer(a8: &[u8], a16: &[u16], b8: &[u8], b16: &[u16], layout: Layout) -> Squ
     }
 }
 
-// The squared error of two planes of bytes.
+// The squared error of two planes of bytes, recorded as that of this plane of this frame.
 pub fn squared_error8(
     a: &[u8],
     b: &[u8],
@@ -98,8 +116,10 @@ pub fn squared_error8(
     stride_a: usize,
     stride_b: usize,
     depth: u32,
+    frame: u32,
+    plane: u32,
 ) -> SquaredError
-    ensures { λ r. ⌜ r ≡ squaredErrorOf (called false (a .entry) (b .entry) width height «stride_a» «stride_b» depth) ⌝ }
+    ensures { λ r. ⌜ r ≡ squaredErrorOf (called false (a .entry) (b .entry) width height «stride_a» «stride_b» depth) frame plane ⌝ }
 {
     let size = Size {
         wide: false,
@@ -112,7 +132,7 @@ pub fn squared_error8(
         stride_a,
         stride_b,
     };
-    answer(a, &[0u16; 0], b, &[0u16; 0], layout)
+    answer(a, &[0u16; 0], b, &[0u16; 0], layout, frame, plane)
 }
 
 // The same of words.
@@ -124,8 +144,10 @@ pub fn squared_error16(
     stride_a: usize,
     stride_b: usize,
     depth: u32,
+    frame: u32,
+    plane: u32,
 ) -> SquaredError
-    ensures { λ r. ⌜ r ≡ squaredErrorOf (called true (a .entry) (b .entry) width height «stride_a» «stride_b» depth) ⌝ }
+    ensures { λ r. ⌜ r ≡ squaredErrorOf (called true (a .entry) (b .entry) width height «stride_a» «stride_b» depth) frame plane ⌝ }
 {
     let size = Size {
         wide: true,
@@ -138,7 +160,14 @@ pub fn squared_error16(
         stride_a,
         stride_b,
     };
-    answer(&[0u8; 0], a, &[0u8; 0], b, layout)
+    answer(&[0u8; 0], a, &[0u8; 0], b, layout, frame, plane)
+}
+
+// Whether the record comes after the last one, where there is one.
+fn rises(t: Tally, r: Record) -> bool
+    ensures { λ b. ⌜ b ≡ rises t r ⌝ }
+{
+    (t.records == 0) | judge::is_earlier(t.frame, t.plane, r.frame, r.plane)
 }
 
 // One record more, whatever the tally so far may be.
@@ -151,11 +180,16 @@ pub fn add_record(t: Tally, r: Record) -> Run
     if !judge::joins(t.sample_max, r) {
         return Run::Spoiled;
     }
+    if !rises(t, r) {
+        return Run::Spoiled;
+    }
     Run::Sound(Tally {
         records: t.records + 1,
         error: judge::capped_sum(t.error, r.sq_err as u64, TOTAL_LIMIT + 1),
         n: judge::capped_sum(t.n, r.n, RECORD_LIMIT * judge::COUNT_LIMIT),
         sample_max: t.sample_max,
+        frame: r.frame,
+        plane: r.plane,
     })
 }
 
@@ -177,6 +211,8 @@ pub fn step(s: Run, r: Record) -> Run
                 error: 0,
                 n: 0,
                 sample_max: r.sample_max,
+                frame: 0,
+                plane: 0,
             },
             r,
         ),

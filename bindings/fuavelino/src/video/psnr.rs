@@ -34,10 +34,12 @@ pub fn calculate_frame_psnr<T: Sample>(
     bit_depth: usize,
     chroma_sampling: ChromaSampling,
 ) -> Result<PlanarMetrics, MetricsError> {
-    let records = scored(frame1, frame2, bit_depth, chroma_sampling, |a, b, shape, _| squared_error(a, b, shape))?;
+    let records = scored(frame1, frame2, bit_depth, chroma_sampling, |a, b, shape, kind| {
+        squared_error(a, b, shape, 0, kind.number())
+    })?;
     let total = series(&records[..chroma_sampling.count()]).map_err(combining)?;
     let avg = decibels(total).ok_or(MetricsError::NotANumber { field: Field::Avg })?;
-    Ok(PlanarMetrics { avg, ..of_planes(records, decibels)? })
+    Ok(PlanarMetrics { avg, ..of_planes(records, |record| decibels(record.metrics()))? })
 }
 
 /// The decibels of a record or a total by the host's `log10`, as av-metrics has them, 100 where the error is 0; none where they would not be

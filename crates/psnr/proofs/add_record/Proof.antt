@@ -11,7 +11,7 @@ use Rattle.psnr.specs.declared.Tally.{Tally}
 use Rattle.psnr.specs.declared.Run.the-variants.{Sound, Spoiled}
 use Rattle.psnr.specs.Limits.{recordLimit, countLimit, totalLimit}
 use Rattle.psnr.specs.Record.{joins}
-use Rattle.psnr.specs.Inner.Fold.{tallyMore, runWith}
+use Rattle.psnr.specs.Inner.Fold.{tallyMore, rises, runWith}
 use Rattle.psnr.proofs.Records.{joins-suits, suits-whole}
 use Rattle.psnr.proofs.add_record.Statement.{statement}
 use Rattle.psnr.proofs.add_record.Tie as tie
@@ -25,9 +25,13 @@ module _ (t : Tally) (r : Record) where
   unfolding runWith
   bad e = rw (e, and-false)
 
-  good : t .records < recordLimit → joins (t .«sample_max») r ≡ true → Sound (tallyMore t r) ≡ runWith t r
+  falls : rises t r ≡ false → Spoiled ≡ runWith t r
   unfolding runWith
-  good l e = rw (lt-ltb (t .records) recordLimit l, e)
+  falls e = rw (e, and-false)
+
+  good : t .records < recordLimit → joins (t .«sample_max») r ≡ true → rises t r ≡ true → Sound (tallyMore t r) ≡ runWith t r
+  unfolding runWith
+  good l e u = rw (lt-ltb (t .records) recordLimit l, e, u)
 
 -- the record suits, past the second branch
 suits : (c : tie.Else2) → let s = c .before .before .before .before in joins (s .args .t .«sample_max») (s .args .r) ≡ true
@@ -43,12 +47,18 @@ joins-requires c κs = search needs
 returns-2 : tie.Need-returns-2
 returns-2 c = bad _ _ (fails (c .before .joins .ensures) (c .if2 .taken))
 
+rises-requires : tie.Need-rises-requires
+rises-requires c κs = search needs
+
+returns-3 : tie.Need-returns-3
+returns-3 c = falls _ _ (fails (c .before .rises .ensures) (c .if3 .taken))
+
 add-t5 : tie.Need-add-t5
 add-t5 c = search needs
 
 float-to-int-capped-sum : tie.Need-float-to-int-capped-sum
 float-to-int-capped-sum c =
-    subst T (sym (suits-whole _ (joins-suits _ _ (suits (c .before .before))))) tt
+    subst T (sym (suits-whole _ (joins-suits _ _ (suits (c .before .before .before .before))))) tt
 
 add-capped-sum : tie.Need-add-capped-sum
 add-capped-sum c = search needs
@@ -62,11 +72,13 @@ mul-capped-sum c = search needs
 capped-sum-requires-2 : tie.Need-capped-sum-requires-2
 capped-sum-requires-2 c κs = search needs
 
-returns-3 : tie.Need-returns-3
+returns-4 : tie.Need-returns-4
 unfolding recordLimit countLimit totalLimit
-returns-3 c =
-    let e = c .before .before .before .before in
-    rw (c .before .capped-sum .ensures, c .capped-sum2 .ensures) (good _ _ (e .before .before .if1 .left) (suits e))
+returns-4 c =
+    let up = c .before .before .before .before in
+    let e = up .before .before in
+    rw (c .before .capped-sum .ensures, c .capped-sum2 .ensures)
+    (good _ _ (e .before .before .if1 .left) (suits e) (holds (up .before .rises .ensures) (up .if3 .left)))
 
 pub add-record-spec : {M : Type 1} → statement M
 add-record-spec =
@@ -75,10 +87,12 @@ add-record-spec =
     returns
     joins-requires
     returns-2
+    rises-requires
+    returns-3
     add-t5
     float-to-int-capped-sum
     add-capped-sum
     capped-sum-requires
     mul-capped-sum
     capped-sum-requires-2
-    returns-3)
+    returns-4)

@@ -84,7 +84,7 @@ use Rattle.psnr.proofs.series.Code.Mir as mir
 -- ---- records, and the fold
 -- what `getD` has past the end
 abbrev none : Record
-none = record { «sq_err» = fin false 0 (pos 0); n = 0; «sample_max» = 0 }
+none = record { «sq_err» = fin false 0 (pos 0); n = 0; «sample_max» = 0; frame = 0; plane = 0 }
 
 -- a record's machine value, as the laws have it: `T′.lowered` is the same by computation only where each field is a number or a bool
 abbrev val : Record → Val
@@ -93,9 +93,9 @@ val = LL.val T.the-type T′.the-laws
 abbrev vals : Record → List Val
 vals r = val r ∷ []
 
--- a record's size in memory: the literal of the MIR's `i * 24`, and `size-is` of the generated `Record/Laws.antt`
+-- a record's size in memory: the literal of the MIR's `i * 32`, and `size-is` of the generated `Record/Laws.antt`
 abbrev bytes : ℕ
-bytes = 24
+bytes = 32
 
 -- an index's offset in bytes is a usize
 offset-fits : (i n : ℕ) → i < n → n * bytes < 2 ^ 63 → i * bytes < 2 ^ 64

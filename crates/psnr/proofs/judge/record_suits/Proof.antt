@@ -44,9 +44,13 @@ mul-error-suits-2 c = record { fits = product-room _ _ (count-ok c) (max-ok c) }
 error-suits-requires : tie.Need-error-suits-requires
 error-suits-requires c κs = search needs
 
+plane-suits-requires : tie.Need-plane-suits-requires
+plane-suits-requires c κs = search needs
+
 returns-3 : tie.Need-returns-3
 unfolding recordSuits
-returns-3 c = rw (count-ok (c .before), max-ok (c .before)) (c .error-suits .ensures)
+returns-3 c =
+    let e = c .before .before in rw (count-ok e, max-ok e, c .before .error-suits .ensures, c .plane-suits .ensures)
 
 pub record-suits-spec : {M : Type 1} → statement M
 record-suits-spec =
@@ -61,4 +65,5 @@ record-suits-spec =
     mul-error-suits
     mul-error-suits-2
     error-suits-requires
+    plane-suits-requires
     returns-3)
