@@ -1,7 +1,8 @@
--- Decibels of a run are those of what its series answers (`series-summed`); a record is a run of one (`run-of-one`). Assumes nothing.
-use mathlib.Core.Path.{_≡_, refl}
+-- Decibels of a run are those of what its series answers (`series-summed`), whosever they are (`renumbered-decibels`); a record is a run of one
+-- (`run-of-one`). Assumes nothing.
+use mathlib.Core.Path.{_≡_, refl, sym, ap, _∙_}
 use mathlib.Core.Bool.{Bool, true, false, _&&_}
-use mathlib.Core.List.{List, [], _∷_}
+use mathlib.Core.List.{List, [], _∷_, map}
 use Prim.Native.Nat.{ℕ, zero, suc, _+_, _*_, _≤_}
 use native.Mathlib.Nat.{add-zero, le-trans, le-of-lt}
 use native.Mathlib.Omega.{arith}
@@ -13,9 +14,11 @@ use Rattle.number.specs.Steps.{double}
 use Rattle.psnr.specs.declared.Record.{Record}
 use Rattle.psnr.specs.declared.Total.{Total}
 use Rattle.psnr.specs.Limits.{countLimit, recordLimit, totalLimit}
-use Rattle.psnr.specs.Record.{wholeOf, isWhole, countSuits, maxSuits, errorSuits, recordSuits, joins}
-use Rattle.psnr.specs.Series.{firstMax, allJoin, runSuits, errorTotal, countTotal, seriesRefusal, seriesTotal, seriesAnswer, seriesOf}
-use Rattle.psnr.proofs.Records.{product-fits}
+use Rattle.psnr.specs.Record.{wholeOf, isWhole, errorSuits, recordSuits, joins}
+use Rattle.psnr.specs.Series.{firstMax, allJoin, rising, runSuits, errorTotal, countTotal, seriesRefusal, seriesTotal, seriesAnswer, seriesOf}
+use Rattle.psnr.specs.Said.{figuresOf}
+use Rattle.psnr.proofs.Numbers.{numbered, renumbered}
+use Rattle.psnr.proofs.Records.{product-fits, suits-countSuits, suits-max, suits-most}
 use Rattle.psnr.proofs.Totals.{Adds, series-adds}
 use Rattle.psnr.proofs.Whole.{whole-back}
 use Rattle.decibels.specs.declared.Decibels.the-variants.{Refused}
@@ -63,21 +66,20 @@ series-summed rs = go (seriesRefusal rs) refl
     go zero e = told (errorTotal rs) (countTotal rs) (firstMax rs) _ (its-decibels rs (series-adds rs e))
     go (suc k) e = refl
 
+-- whose the records are does not count, where their numbers are right
+pub renumbered-decibels : (xs ys : List Record) → map figuresOf xs ≡ map figuresOf ys → numbered xs ≡ numbered ys → seriesDecibels xs ≡ seriesDecibels ys
+renumbered-decibels xs ys figures numbers = sym (series-summed xs) ∙ ap summedDecibels (renumbered xs ys figures numbers) ∙ series-summed ys
+
 -- ---- a record is a run of one
 suits-below : (r : Record) → recordSuits r ≡ true → wholeOf (r .«sq_err») ≤ totalLimit
-unfolding recordSuits errorSuits
-suits-below r s =
-    let a = countSuits (r .n) in
-    let b = maxSuits (r .«sample_max») in
-    let most = leb-true _ _ (and-right (isWhole (r .«sq_err»)) _ (and-right (a && b) _ s)) in
-    le-trans most (le-of-lt (product-fits (r .n) (r .«sample_max») (and-left a b (and-left (a && b) _ s)) (and-right a b (and-left (a && b) _ s))))
+suits-below r s = le-trans (suits-most r s) (le-of-lt (product-fits (r .n) (r .«sample_max») (suits-countSuits r s) (suits-max r s)))
 
 module _ (r : Record) where
   one-suits : runSuits (r ∷ []) ≡ recordSuits r
-  unfolding runSuits allJoin joins recordLimit
+  unfolding runSuits allJoin rising joins recordLimit
   one-suits = rw (eq-eqb (r .«sample_max») (r .«sample_max») refl) (go (recordSuits r))
     where
-      go : (b : Bool) → ((b && true) && true) ≡ b
+      go : (b : Bool) → (((b && true) && true) && true) ≡ b
       go true = refl
       go false = refl
 

@@ -9,8 +9,8 @@ use Rattle.refusal.proofs.Chain.{and-left, and-right}
 use Rattle.psnr.specs.declared.Record.{Record}
 use Rattle.psnr.specs.declared.Total.{Total}
 use Rattle.psnr.specs.Limits.{countLimit, recordLimit}
-use Rattle.psnr.specs.Record.{isWhole, wholeOf, countSuits, maxSuits, errorSuits, recordSuits}
-use Rattle.psnr.proofs.Records.{suits-count, suits-whole}
+use Rattle.psnr.specs.Record.{isWhole, wholeOf, maxSuits, errorSuits, recordSuits}
+use Rattle.psnr.proofs.Records.{suits-count, suits-max, suits-whole, suits-most}
 use Rattle.decibels.specs.Hundredths.{peakOf}
 use Rattle.decibels.specs.Answer.{totalSuits}
 use Rattle.decibels.specs.Inner.Room.{peakLimit}
@@ -27,14 +27,12 @@ unfolding recordLimit countLimit
 few-records = lit≤ tt
 
 pub record-suits : (r : Record) → recordSuits r ≡ true → Suits (isWhole (r .«sq_err»)) (wholeOf (r .«sq_err»)) (peakOf (r .n) (r .«sample_max»))
-unfolding recordSuits errorSuits peakOf
+unfolding peakOf
 record-suits r s =
-    let a = countSuits (r .n) in
-    let b = maxSuits (r .«sample_max») in
     record {
       whole = suits-whole r s;
-      below = leb-true _ _ (and-right (isWhole (r .«sq_err»)) _ (and-right (a && b) _ s));
-      fits = peak-fits (r .n) (r .«sample_max») (le-trans (suits-count r s) few-records) (and-right a b (and-left (a && b) _ s));
+      below = suits-most r s;
+      fits = peak-fits (r .n) (r .«sample_max») (le-trans (suits-count r s) few-records) (suits-max r s);
     }
 
 pub total-suits : (t : Total) → totalSuits t ≡ true → Suits (isWhole (t .«sq_err»)) (wholeOf (t .«sq_err»)) (peakOf (t .n) (t .«sample_max»))

@@ -12,12 +12,16 @@ use lib.Dec.{eqb}
 use Rattle.refusal.specs.First.{byRefusal}
 use Rattle.plane.specs.declared.Size.{Size}
 use Rattle.plane.specs.Plane.{Plane, Planes, planesOf, sampleAt}
+use Rattle.plane.specs.Tests.{pairRefusal}
 use Rattle.plane.specs.Inner.Lawful.{Equivalent}
 use Rattle.plane.proofs.Sums.{sum-term}
 use Rattle.plane.proofs.Exchange.{refusal-exchanged, refusal-equivalent}
 use Rattle.psnr.specs.declared.SquaredError.the-variants as compared
 use Rattle.psnr.specs.declared.SquaredError.the-variants.{Identical}
+use Rattle.psnr.specs.declared.Record.{Record}
+use Rattle.psnr.specs.Record.{planeSuits}
 use Rattle.psnr.specs.Squared.{apart, squareOf, rowError, errorTo, squaredErrorScore, recordOf, errorAnswer, squaredErrorRefusal, squaredErrorOf}
+use Rattle.psnr.proofs.Accept.{planes-taken, planes-alone}
 use Rattle.psnr.proofs.Laws.{equal-planes}
 use Rattle.locate.specs.declared.Located.{Located}
 use Rattle.locate.specs.declared.Located.the-variants.{At, Alike, Refused}
@@ -185,27 +189,31 @@ module _ (p : Planes) where
       same _ _ (no-square _ _ none))
 
   -- the locator says "alike" exactly where the squared error says "identical"
-  pub alike-identical : locatedOf p ≡ Alike → squaredErrorOf p ≡ Identical (recordOf p)
-  unfolding locatedOf squaredErrorOf
-  alike-identical e = go (squaredErrorRefusal p) e
-    where
-      go : (n : ℕ) → byRefusal n (firstDifference p) (Refused n) ≡ Alike
-          → byRefusal n (errorAnswer (squaredErrorScore p) (recordOf p)) (compared.Refused n) ≡ Identical (recordOf p)
-      go zero t = rw (alike-zero t)
-      go (suc n) t = cc
+  module _ (frame plane : ℕ) where
+    abbrev its : Record
+    its = recordOf p frame plane
 
-  pub identical-alike : squaredErrorOf p ≡ Identical (recordOf p) → locatedOf p ≡ Alike
-  unfolding locatedOf squaredErrorOf
-  identical-alike e = go (squaredErrorRefusal p) e
-    where
-      no-error : (n : ℕ) → errorAnswer n (recordOf p) ≡ Identical (recordOf p) → n ≡ 0
-      no-error zero t = refl
-      no-error (suc n) t = cc
+    pub alike-identical : planeSuits plane ≡ true → locatedOf p ≡ Alike → squaredErrorOf p frame plane ≡ Identical its
+    unfolding locatedOf squaredErrorOf
+    alike-identical suits e = rw (planes-alone plane p suits) (go (pairRefusal p 0) e)
+      where
+        go : (n : ℕ) → byRefusal n (firstDifference p) (Refused n) ≡ Alike
+            → byRefusal n (errorAnswer (squaredErrorScore p) its) (compared.Refused n) ≡ Identical its
+        go zero t = rw (alike-zero t)
+        go (suc n) t = cc
 
-      go : (n : ℕ) → byRefusal n (errorAnswer (squaredErrorScore p) (recordOf p)) (compared.Refused n) ≡ Identical (recordOf p)
-          → byRefusal n (firstDifference p) (Refused n) ≡ Alike
-      go zero t = zero-alike (no-error (squaredErrorScore p) t)
-      go (suc n) t = cc
+    pub identical-alike : squaredErrorOf p frame plane ≡ Identical its → locatedOf p ≡ Alike
+    unfolding locatedOf squaredErrorOf
+    identical-alike e = go (squaredErrorRefusal p plane) refl e
+      where
+        no-error : (n : ℕ) → errorAnswer n its ≡ Identical its → n ≡ 0
+        no-error zero t = refl
+        no-error (suc n) t = cc
+
+        go : (n : ℕ) → squaredErrorRefusal p plane ≡ n → byRefusal n (errorAnswer (squaredErrorScore p) its) (compared.Refused n) ≡ Identical its
+            → byRefusal (pairRefusal p 0) (firstDifference p) (Refused (pairRefusal p 0)) ≡ Alike
+        go zero z t = rw (planes-taken plane p z) (zero-alike (no-error (squaredErrorScore p) t))
+        go (suc n) z t = cc
 
 -- ---- what does not count
 eqb-swap : (a b : ℕ) → eqb a b ≡ eqb b a

@@ -31,10 +31,23 @@ module _ (plane : ℕ) where
     none-refuses z f = sym (planes-pass (p .size) (both p) 0 e own z (rw f))
 
   -- where none refuses, the planes are lawful and the number suits
-  pub error-taken : (p : Planes) → squaredErrorRefusal p plane ≡ 0 → AcceptedPair p 0 × (planeSuits plane ≡ true)
-  error-taken p e =
-      let h = halves (pairTests p 0) own (plane-named (p .size) (both p) 0) e in
-      (accepted (p .size) (both p) 0 (h .0), passed own (lit≤ tt, tt) (h .1) .0)
+  module _ (p : Planes) (e : squaredErrorRefusal p plane ≡ 0) where
+    apart : (pairRefusal p 0 ≡ 0) × (planeSuits plane ≡ true)
+    apart = let h = halves (pairTests p 0) own (plane-named (p .size) (both p) 0) e in (h .0, passed own (lit≤ tt, tt) (h .1) .0)
+
+    pub planes-taken : pairRefusal p 0 ≡ 0
+    planes-taken = apart .0
+
+    pub error-taken : AcceptedPair p 0 × (planeSuits plane ≡ true)
+    error-taken = (accepted (p .size) (both p) 0 planes-taken, apart .1)
+
+  -- where it suits, only the planes are refused
+  pub planes-alone : (p : Planes) → planeSuits plane ≡ true → squaredErrorRefusal p plane ≡ pairRefusal p 0
+  planes-alone p suits = go (pairRefusal p 0) refl
+    where
+      go : (n : ℕ) → n ≡ pairRefusal p 0 → squaredErrorRefusal p plane ≡ n
+      go zero e = none-refuses p e refl suits
+      go (suc n) e = sym (planes-refuse p e (λ z. omega (arith, z)))
 
   -- planes that no test tells apart are refused alike
   pub refusal-same : (p q : Planes) → pairRefusal p 0 ≡ pairRefusal q 0 → squaredErrorRefusal p plane ≡ squaredErrorRefusal q plane

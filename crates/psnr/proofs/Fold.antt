@@ -29,12 +29,12 @@ unfolding runFrom
 fold-cut s [] ys = refl
 fold-cut s (x ∷ xs) ys = fold-cut (runStep s x) xs ys
 
-error-cut : (xs ys : List Record) → errorTotal (xs ++ ys) ≡ errorTotal xs + errorTotal ys
+pub error-cut : (xs ys : List Record) → errorTotal (xs ++ ys) ≡ errorTotal xs + errorTotal ys
 unfolding errorTotal
 error-cut [] ys = omega arith
 error-cut (x ∷ xs) ys = omega (arith, error-cut xs ys)
 
-count-cut : (xs ys : List Record) → countTotal (xs ++ ys) ≡ countTotal xs + countTotal ys
+pub count-cut : (xs ys : List Record) → countTotal (xs ++ ys) ≡ countTotal xs + countTotal ys
 unfolding countTotal
 count-cut [] ys = omega arith
 count-cut (x ∷ xs) ys = omega (arith, count-cut xs ys)

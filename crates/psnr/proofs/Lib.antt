@@ -9,5 +9,7 @@ pub mod Fold
 pub mod Laws
 pub mod Room
 pub mod Totals
+pub mod Cut
 pub mod Given
+pub mod Numbers
 pub mod Said

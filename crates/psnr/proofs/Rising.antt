@@ -51,7 +51,7 @@ before-all none r (s ∷ rs) e zero l = and-left _ _ e
 before-all none r (s ∷ rs) e (suc j) l =
     earlier-on _ _ _ _ _ _ (and-left _ _ e) (before-all none s rs (and-right (before r s) _ e) j (omega arith))
 
-rising-rest : (r : Record) (rs : List Record) → rising (r ∷ rs) ≡ true → rising rs ≡ true
+pub rising-rest : (r : Record) (rs : List Record) → rising (r ∷ rs) ≡ true → rising rs ≡ true
 unfolding rising
 rising-rest r [] e = refl
 rising-rest r (s ∷ rs) e = and-right (before r s) _ e

@@ -24,7 +24,7 @@ pub record Adds (rs : List Record) : Type 0 where
   pub most : errorTotal rs ≤ countTotal rs * (firstMax rs * firstMax rs)
   pub whole : errorTotal rs ≤ totalLimit
 
-series-named : (rs : List Record) → Named (seriesTests rs)
+pub series-named : (rs : List Record) → Named (seriesTests rs)
 series-named rs = (lit≤ tt, (lit≤ tt, tt))
 
 -- a run that has a first record
