@@ -29,10 +29,12 @@ extern "C" {
 #define FUAVELINO_VERSION (10000 * FUAVELINO_VERSION_MAJOR + 100 * FUAVELINO_VERSION_MINOR + FUAVELINO_VERSION_PATCH)
 uint32_t fuavelino_version(void);
 
-/* The limits: of width and of height (above it 2), of a stride (4), and of the samples that a record counts (10). */
+/* The limits: of width and of height (above it 2), of a stride (4), of the samples that a record counts (10), and of a plane's number in its
+ * frame (10): 0 is luma, 1 and 2 are chroma. */
 #define FUAVELINO_MOST_SIDE 16384
 #define FUAVELINO_MOST_STRIDE 32768
 #define FUAVELINO_MOST_SAMPLES 268435456
+#define FUAVELINO_MOST_PLANE 2
 
 /* What the calls answer. */
 enum fuavelino_refusal {
@@ -46,7 +48,8 @@ enum fuavelino_refusal {
     FUAVELINO_KERNEL = 7,      /* the kernel is unlawful */
     FUAVELINO_SCRATCH = 8,     /* lent scratch, or room lent for a map or a kernel, is too short */
     FUAVELINO_NOT_FINITE = 9,  /* nothing else applies, and the defined score is infinite or not a number */
-    FUAVELINO_RECORD = 10,     /* a series of none or over 65536 records, or with a bad one; decibels of a total that no series has */
+    FUAVELINO_RECORD = 10,     /* a series of none or over 65536 records, or with one that is bad or out of order; decibels of a total that no
+                                  series has; a squared error with a plane number above FUAVELINO_MOST_PLANE */
     FUAVELINO_TOTAL = 11,      /* a series whose exact total is above 2^53 */
     FUAVELINO_VALUE = 12,      /* a root or a transform of what it does not take */
     FUAVELINO_WEIGHT = 13,     /* a weight outside 0 to 1, or a number that is not finite */
@@ -66,7 +69,7 @@ static inline const char *fuavelino_refusal_text(unsigned number) {
     case FUAVELINO_KERNEL: return "the kernel is unlawful";
     case FUAVELINO_SCRATCH: return "lent scratch, or room lent for a map or a kernel, is too short";
     case FUAVELINO_NOT_FINITE: return "the score is infinite or not a number";
-    case FUAVELINO_RECORD: return "a series of no records, of too many, or with a bad one; or a total that no series has";
+    case FUAVELINO_RECORD: return "a series of no records, of too many, or with one that is bad or out of order; a total that no series has; or a plane number above 2";
     case FUAVELINO_TOTAL: return "the exact total of a series is above 2^53";
     case FUAVELINO_VALUE: return "a value, or a count of values, is out of range";
     case FUAVELINO_WEIGHT: return "a weight is outside 0 to 1, or a number is not finite";
@@ -75,12 +78,14 @@ static inline const char *fuavelino_refusal_text(unsigned number) {
     }
 }
 
-/* The squared error of a plane, or the total of a series of planes. An error of 0 says that they are identical: PSNR is called 100.
- * fuavelino_decibels has the PSNR of any other. */
+/* The squared error of a plane, and whose it is. An error of 0 says that the two are identical: PSNR is called 100. fuavelino_decibels has the
+ * PSNR of any other. The total of a series is the first three alone. */
 typedef struct fuavelino_record {
     double sq_err;       /* a whole number from 0 to n * sample_max^2 */
-    uint64_t n;          /* samples compared, 1 to FUAVELINO_MOST_SAMPLES in what a series takes */
+    uint64_t n;          /* samples compared, 1 to FUAVELINO_MOST_SAMPLES */
     uint32_t sample_max; /* 2^depth - 1 */
+    uint32_t frame;      /* the frame's number, any */
+    uint32_t plane;      /* the plane's number in its frame, 0 to FUAVELINO_MOST_PLANE */
 } fuavelino_record;
 
 /* The square root of x, the double nearest the exact one. 12: x is not +0 or positive and finite. */
@@ -92,13 +97,16 @@ uint8_t fuavelino_check8(const uint8_t *a, size_t a_len, const uint8_t *b, size_
 uint8_t fuavelino_check16(const uint16_t *a, size_t a_len, const uint16_t *b, size_t b_len, size_t width, size_t height,
                           size_t stride_a, size_t stride_b, uint32_t depth, size_t least);
 
-/* The squared error of two planes, with the count of samples and sample_max. Refuses 1 2 4 5 6. */
+/* The squared error of two planes, with the count of samples and sample_max. With the frame and the plane that it is told, these are the record:
+ *     fuavelino_record r = {.frame = f, .plane = p};
+ *     no = fuavelino_squared_error8(.., depth, r.frame, r.plane, &r.sq_err, &r.n, &r.sample_max);
+ * Refuses 1 2 4 5 6, and 10: plane is above 2. */
 uint8_t fuavelino_squared_error8(const uint8_t *a, size_t a_len, const uint8_t *b, size_t b_len, size_t width, size_t height,
-                                 size_t stride_a, size_t stride_b, uint32_t depth, double *sq_err, uint64_t *n,
-                                 uint32_t *sample_max);
+                                 size_t stride_a, size_t stride_b, uint32_t depth, uint32_t frame, uint32_t plane,
+                                 double *sq_err, uint64_t *n, uint32_t *sample_max);
 uint8_t fuavelino_squared_error16(const uint16_t *a, size_t a_len, const uint16_t *b, size_t b_len, size_t width, size_t height,
-                                  size_t stride_a, size_t stride_b, uint32_t depth, double *sq_err, uint64_t *n,
-                                  uint32_t *sample_max);
+                                  size_t stride_a, size_t stride_b, uint32_t depth, uint32_t frame, uint32_t plane,
+                                  double *sq_err, uint64_t *n, uint32_t *sample_max);
 
 /* The first sample, row by row, at which two planes differ: *differs is 1, and *row and *column, from 0 on, are its own; or *differs is 0, and
  * those two stay as they were. Refuses 1 2 4 5 6. */
@@ -123,13 +131,15 @@ uint8_t fuavelino_error_map16(const uint16_t *a, size_t a_len, const uint16_t *b
  * number, whatever is lent. */
 size_t fuavelino_error_map_places(size_t width, size_t height);
 
-/* Adds up the errors and counts of a run of records, under their one sample_max. Refuses 10 11. */
+/* Adds up the errors and counts of a run of records, under their one sample_max. The records rise strictly, by frame and then by plane, so that no
+ * plane is counted twice. Refuses 10 11. */
 uint8_t fuavelino_series(const fuavelino_record *records, size_t count, double *sq_err, uint64_t *n, uint32_t *sample_max);
 
-/* PSNR of a run of records taken together, in whole hundredths of a decibel; with a count of 1 that of one record. Where the error is not 0,
- * *identical is 0 and *hundredths is 1000 * log10(n * sample_max^2 / sq_err) of the total, rounded down: less than 1 below the exact figure, and
- * above it by five billionths of a decibel at most. Where it is 0, *identical is 1 and *hundredths is 10000, the 100 dB that stand for it; an
- * error that is not 0 can have 10000 too. A limit in hundredths is met where *identical || *hundredths >= limit. Refuses 10 11. */
+/* PSNR of a run of records taken together, in whole hundredths of a decibel; with a count of 1 that of one record. They rise as for
+ * fuavelino_series. Where the error is not 0, *identical is 0 and *hundredths is 1000 * log10(n * sample_max^2 / sq_err) of the total, rounded
+ * down: less than 1 below the exact figure, and above it by five billionths of a decibel at most. Where it is 0, *identical is 1 and *hundredths
+ * is 10000, the 100 dB that stand for it; an error that is not 0 can have 10000 too. A limit in hundredths is met where
+ * *identical || *hundredths >= limit. Refuses 10 11. */
 uint8_t fuavelino_decibels(const fuavelino_record *records, size_t count, uint32_t *hundredths, uint8_t *identical);
 
 /* The same of a total, as fuavelino_series writes it, or of several totals that were added up. 10: no series adds up to this, since n is not 1 to

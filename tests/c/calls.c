@@ -123,22 +123,75 @@ static void check(void) {
     EXPECT(CALL(fuavelino_check16, (WORDS(WIDTH + 1, HEIGHT - 1, 10), 0)) == FUAVELINO_SAMPLE);
 }
 
+/* A record lies in memory as the library and the Rust package have it. The mark in front lets C99 have what C11 brought. */
+#define LAID_OUT(truth) __extension__ _Static_assert(truth, #truth)
+LAID_OUT(sizeof(fuavelino_record) == 32);
+LAID_OUT(offsetof(fuavelino_record, sq_err) == 0);
+LAID_OUT(offsetof(fuavelino_record, n) == 8);
+LAID_OUT(offsetof(fuavelino_record, sample_max) == 16);
+LAID_OUT(offsetof(fuavelino_record, frame) == 20);
+LAID_OUT(offsetof(fuavelino_record, plane) == 24);
+
+static fuavelino_record record(double sq_err, uint64_t n, uint32_t sample_max, uint32_t frame, uint32_t plane) {
+    fuavelino_record r;
+    r.sq_err = sq_err, r.n = n, r.sample_max = sample_max, r.frame = frame, r.plane = plane;
+    return r;
+}
+
+/* Whether it has these figures, beside the frame and the plane that it was given. */
+static int is_record(fuavelino_record r, double sq_err, uint64_t n, uint32_t sample_max, uint32_t frame, uint32_t plane) {
+    return r.sq_err == sq_err && r.n == n && r.sample_max == sample_max && r.frame == frame && r.plane == plane;
+}
+
+/* The record as a call is told of it and writes it. */
+#define RECORD(r) (r).frame, (r).plane, &(r).sq_err, &(r).n, &(r).sample_max
+
 static void squared_error(void) {
     static const uint8_t x[] = {10, 20, 30}, y[] = {13, 20, 26};
-    double error = -7.25;
-    uint64_t n = 77;
-    uint32_t max = 88;
-    EXPECT(CALL(fuavelino_squared_error8, (BYTES(WIDTH, 0, 8), &error, &n, &max)) == FUAVELINO_SIZE);
-    EXPECT(CALL(fuavelino_squared_error16, (WORDS(WIDTH, HEIGHT, 8), &error, &n, &max)) == FUAVELINO_DEPTH);
-    EXPECT(error == -7.25 && n == 77 && max == 88);
-    EXPECT(CALL(fuavelino_squared_error8, (x, 3, y, 3, 3, 1, 3, 3, 8, &error, &n, &max)) == 0);
-    EXPECT(error == 25 && n == 3 && max == 255);
-    EXPECT(CALL(fuavelino_squared_error8, (BYTES(WIDTH, HEIGHT, 8), &error, &n, &max)) == 0);
-    EXPECT(error == 4306 && n == WIDTH * HEIGHT && max == 255);
-    EXPECT(CALL(fuavelino_squared_error16, (WORDS(WIDTH, HEIGHT, 10), &error, &n, &max)) == 0);
-    EXPECT(error == 4306 && n == WIDTH * HEIGHT && max == 1023);
-    EXPECT(CALL(fuavelino_squared_error16, (a16, LEN, a16, LEN, WIDTH, 1, STRIDE, STRIDE, 12, &error, &n, &max)) == 0);
-    EXPECT(error == 0 && n == WIDTH && max == 4095);
+    fuavelino_record r = {.sq_err = -7.25, .n = 77, .sample_max = 88, .frame = 5, .plane = 1};
+    EXPECT(CALL(fuavelino_squared_error8, (BYTES(WIDTH, 0, 8), RECORD(r))) == FUAVELINO_SIZE);
+    EXPECT(CALL(fuavelino_squared_error16, (WORDS(WIDTH, HEIGHT, 8), RECORD(r))) == FUAVELINO_DEPTH);
+    EXPECT(is_record(r, -7.25, 77, 88, 5, 1));
+    EXPECT(CALL(fuavelino_squared_error8, (x, 3, y, 3, 3, 1, 3, 3, 8, RECORD(r))) == 0);
+    EXPECT(is_record(r, 25, 3, 255, 5, 1));
+    EXPECT(CALL(fuavelino_squared_error8, (BYTES(WIDTH, HEIGHT, 8), RECORD(r))) == 0);
+    EXPECT(is_record(r, 4306, WIDTH * HEIGHT, 255, 5, 1));
+    EXPECT(CALL(fuavelino_squared_error16, (WORDS(WIDTH, HEIGHT, 10), RECORD(r))) == 0);
+    EXPECT(is_record(r, 4306, WIDTH * HEIGHT, 1023, 5, 1));
+    EXPECT(CALL(fuavelino_squared_error16, (a16, LEN, a16, LEN, WIDTH, 1, STRIDE, STRIDE, 12, RECORD(r))) == 0);
+    EXPECT(is_record(r, 0, WIDTH, 4095, 5, 1));
+}
+
+/* Any frame is taken, and planes 0 to 2. A plane past them is 10, where nothing lower applies, and the record stays as it was. */
+static void whose(void) {
+    static const uint32_t frames[] = {0, 1, UINT32_MAX - 1, UINT32_MAX}, past[] = {3, 4, 255, 256, 65536, UINT32_C(1) << 31, UINT32_MAX};
+    static const uint8_t dim[] = {127, 127}, bright[] = {127, 128};
+    size_t i, j;
+    for (i = 0; i < COUNT(frames); i++) {
+        fuavelino_record r = {.frame = frames[i]};
+        for (r.plane = 0; r.plane <= FUAVELINO_MOST_PLANE; r.plane++) {
+            r.sq_err = -7.25, r.n = 77, r.sample_max = 88;
+            EXPECT(CALL(fuavelino_squared_error8, (BYTES(WIDTH, HEIGHT, 8), RECORD(r))) == 0);
+            EXPECT(r.sq_err == 4306 && r.n == WIDTH * HEIGHT && r.sample_max == 255);
+            EXPECT(CALL(fuavelino_squared_error16, (WORDS(WIDTH, HEIGHT, 10), RECORD(r))) == 0);
+            EXPECT(r.sq_err == 4306 && r.n == WIDTH * HEIGHT && r.sample_max == 1023);
+        }
+        for (j = 0; j < COUNT(past); j++) {
+            fuavelino_record p = record(-7.25, 77, 88, frames[i], past[j]);
+            EXPECT(CALL(fuavelino_squared_error8, (BYTES(WIDTH, HEIGHT, 8), RECORD(p))) == FUAVELINO_RECORD);
+            EXPECT(CALL(fuavelino_squared_error16, (WORDS(WIDTH, HEIGHT, 10), RECORD(p))) == FUAVELINO_RECORD);
+            /* planes that are identical get no other answer */
+            EXPECT(CALL(fuavelino_squared_error8, (a8, LEN, a8, LEN, WIDTH, HEIGHT, STRIDE, STRIDE, 8, RECORD(p))) == FUAVELINO_RECORD);
+            EXPECT(CALL(fuavelino_squared_error8, (BYTES(WIDTH, HEIGHT, 9), RECORD(p))) == FUAVELINO_DEPTH);
+            EXPECT(CALL(fuavelino_squared_error16, (WORDS(0, HEIGHT, 10), RECORD(p))) == FUAVELINO_SIZE);
+            EXPECT(CALL(fuavelino_squared_error8, (BYTES(STRIDE + 1, HEIGHT, 8), RECORD(p))) == FUAVELINO_STRIDE);
+            EXPECT(CALL(fuavelino_squared_error8, (BYTES(WIDTH, HEIGHT + 1, 8), RECORD(p))) == FUAVELINO_SHORT);
+            EXPECT(CALL(fuavelino_squared_error16, (WORDS(WIDTH, HEIGHT + 1, 10), RECORD(p))) == FUAVELINO_SHORT);
+            EXPECT(CALL(fuavelino_squared_error8, (dim, 2, bright, 2, 2, 1, 2, 2, 7, RECORD(p))) == FUAVELINO_SAMPLE);
+            EXPECT(CALL(fuavelino_squared_error16, (WORDS(WIDTH, HEIGHT, 9), RECORD(p))) == FUAVELINO_SAMPLE);
+            EXPECT(is_record(p, -7.25, 77, 88, frames[i], past[j]));
+        }
+    }
 }
 
 static void first_difference(void) {
@@ -238,11 +291,7 @@ static void series(void) {
     uint64_t n = 77;
     uint32_t max = 88;
     size_t i;
-    for (i = 0; i < COUNT(run); i++) {
-        run[i].sq_err = most;
-        run[i].n = FUAVELINO_MOST_SAMPLES;
-        run[i].sample_max = 4095;
-    }
+    for (i = 0; i < COUNT(run); i++) run[i] = record(most, FUAVELINO_MOST_SAMPLES, 4095, (uint32_t)i, 0);
     EXPECT(CALL(fuavelino_series, (run, 0, &error, &n, &max)) == FUAVELINO_RECORD);
     EXPECT(CALL(fuavelino_series, (run, 3, &error, &n, &max)) == FUAVELINO_TOTAL);
     run[2].sq_err = two_to_53 - 2 * most;
@@ -260,7 +309,14 @@ static void series(void) {
     run[3].n--;
     run[3].sq_err = -0.0;
     EXPECT(CALL(fuavelino_series, (run, 4, &error, &n, &max)) == FUAVELINO_RECORD);
-    EXPECT(error == two_to_53 && n == UINT64_C(3) * FUAVELINO_MOST_SAMPLES);
+    /* 10 before 11: what comes after too much is still judged */
+    run[2].sq_err = most, run[3].sq_err = 1;
+    EXPECT(CALL(fuavelino_series, (run, 4, &error, &n, &max)) == FUAVELINO_TOTAL);
+    run[3].frame = 2;
+    EXPECT(CALL(fuavelino_series, (run, 4, &error, &n, &max)) == FUAVELINO_RECORD);
+    run[3].frame = 3, run[3].plane = 3;
+    EXPECT(CALL(fuavelino_series, (run, 4, &error, &n, &max)) == FUAVELINO_RECORD);
+    EXPECT(error == two_to_53 && n == UINT64_C(3) * FUAVELINO_MOST_SAMPLES && max == 4095);
 }
 
 /* What PSNR's calls write. They are soiled before each call, so that what it leaves is seen. */
@@ -287,7 +343,7 @@ static uint8_t of_total(double sq_err, uint64_t n, uint32_t sample_max) {
 static void decibels(void) {
     static fuavelino_record run[65537];
     size_t i;
-    for (i = 0; i < COUNT(run); i++) run[i].sq_err = 0, run[i].n = 3, run[i].sample_max = 255;
+    for (i = 0; i < COUNT(run); i++) run[i] = record(0, 3, 255, (uint32_t)i, 0);
     /* only the last of as many as can be is wrong */
     run[65535].sq_err = 3 * 65025.0;
     EXPECT(of_run(run, 65536) == 0 && is_decibels(4816));
@@ -314,9 +370,103 @@ static void decibels(void) {
     run[0].sq_err = -0.0;
     EXPECT(of_run(run, 1) == FUAVELINO_RECORD && is_soiled());
     /* the largest errors of three planes are too much together, of two they are not */
-    for (i = 0; i < 3; i++) run[i].sq_err = 4501400872550400.0, run[i].n = FUAVELINO_MOST_SAMPLES, run[i].sample_max = 4095;
+    for (i = 0; i < 3; i++) run[i] = record(4501400872550400.0, FUAVELINO_MOST_SAMPLES, 4095, 7, (uint32_t)i);
     EXPECT(of_run(run, 2) == 0 && is_decibels(0));
     EXPECT(of_run(run, 3) == FUAVELINO_TOTAL && is_soiled());
+}
+
+/* Whether a run is taken by both calls, with these sums and what they say in decibels. */
+static int adds_up(const fuavelino_record *run, size_t count, double sq_err, uint64_t samples) {
+    double error = -7.25;
+    uint64_t n = 77;
+    uint32_t max = 88, known;
+    if (CALL(fuavelino_series, (run, count, &error, &n, &max)) != 0 || error != sq_err || n != samples || max != 255) return 0;
+    if (of_total(sq_err, samples, 255) != 0) return 0;
+    known = hundredths;
+    return of_run(run, count) == 0 && is_decibels(known);
+}
+
+/* Whether both calls refuse it with 10, and write nothing. */
+static int is_bad(const fuavelino_record *run, size_t count) {
+    double error = -7.25;
+    uint64_t n = 77;
+    uint32_t max = 88;
+    if (CALL(fuavelino_series, (run, count, &error, &n, &max)) != FUAVELINO_RECORD || error != -7.25 || n != 77 || max != 88) return 0;
+    return of_run(run, count) == FUAVELINO_RECORD && is_soiled();
+}
+
+/* Whether two records, of this frame and plane and of that, are taken one after the other. */
+static int follows(uint32_t frame, uint32_t plane, uint32_t next_frame, uint32_t next_plane) {
+    const fuavelino_record two[] = {record(25, 3, 255, frame, plane), record(7, 5, 255, next_frame, next_plane)};
+    if (is_bad(two, 2)) return 0;
+    EXPECT(adds_up(two, 2, 32, 8));
+    return 1;
+}
+
+static void rising(void) {
+    static const uint32_t frames[] = {0, 1, 2, 5, 255, 256, UINT32_C(1) << 31, UINT32_MAX - 1, UINT32_MAX};
+    fuavelino_record one = record(25, 3, 255, 0, 0);
+    size_t i, j;
+    uint32_t p, q;
+    EXPECT(!follows(1, 0, 0, 2) && follows(0, 2, 1, 0) && !follows(5, 1, 5, 1) && follows(5, 1, 5, 2) && !follows(5, 2, 5, 1));
+    EXPECT(follows(UINT32_MAX - 1, 2, UINT32_MAX, 0) && !follows(UINT32_MAX, 2, 0, 0) && !follows(UINT32_MAX, 2, UINT32_MAX, 2));
+    for (i = 0; i < COUNT(frames); i++) {
+        for (j = 0; j < COUNT(frames); j++) {
+            for (p = 0; p <= FUAVELINO_MOST_PLANE; p++) {
+                for (q = 0; q <= FUAVELINO_MOST_PLANE; q++) EXPECT(follows(frames[i], p, frames[j], q) == (i < j || (i == j && p < q)));
+            }
+        }
+        /* alone any frame is taken, and a plane past the last is not; nor is it beside others */
+        one.frame = frames[i], one.plane = 0;
+        for (; one.plane <= FUAVELINO_MOST_PLANE; one.plane++) EXPECT(adds_up(&one, 1, 25, 3));
+        EXPECT(is_bad(&one, 1));
+        one.plane = UINT32_MAX;
+        EXPECT(is_bad(&one, 1));
+    }
+    EXPECT(!follows(5, 2, 5, 3) && !follows(5, 3, 6, 0) && !follows(5, 0, 6, UINT32_MAX));
+}
+
+enum { LONGEST = 65536 };
+
+static fuavelino_record film[LONGEST + 1];
+
+/* As many records as a series takes, and one more: the three planes of each frame in turn. Errors and counts of neighbours differ. */
+static void number_film(uint32_t first, uint32_t apart) {
+    size_t i;
+    for (i = 0; i < COUNT(film); i++) film[i] = record((double)(i % 5), 3 + i % 2, 255, first + apart * (uint32_t)(i / 3), (uint32_t)(i % 3));
+}
+
+static int film_adds_up(void) { return adds_up(film, LONGEST, 131070, UINT64_C(229376)); }
+
+/* The longest run, and it with one record wrong: first, in the middle and last. */
+static void long_run(void) {
+    static const size_t places[] = {0, 1, LONGEST / 2, LONGEST - 2, LONGEST - 1};
+    size_t i;
+    /* sums do not go by the numbers */
+    number_film(1000000, 190000);
+    EXPECT(film_adds_up());
+    number_film(UINT32_MAX - LONGEST / 3, 1);
+    EXPECT(film[LONGEST].frame == UINT32_MAX && film_adds_up());
+    number_film(0, 1);
+    EXPECT(film_adds_up());
+    EXPECT(is_bad(film, LONGEST + 1) && is_bad(film, 0));
+    EXPECT(adds_up(film + 1, LONGEST, 131071, UINT64_C(229376)));
+    for (i = 0; i < COUNT(places); i++) {
+        fuavelino_record *at = film + places[i], kept = *at, *near = at == film ? at + 1 : at - 1, other = *near;
+        /* one beside it repeated; exchanged with it; a plane past the last; a frame that was there before, or comes later */
+        *at = other;
+        EXPECT(is_bad(film, LONGEST));
+        *near = kept;
+        EXPECT(is_bad(film, LONGEST));
+        *at = kept, *near = other;
+        at->plane = FUAVELINO_MOST_PLANE + 1;
+        EXPECT(is_bad(film, LONGEST));
+        *at = kept;
+        at->frame = at == film ? UINT32_MAX : 0, at->plane = 0;
+        EXPECT(is_bad(film, LONGEST));
+        *at = kept;
+        EXPECT(film_adds_up());
+    }
 }
 
 static void total_decibels(void) {
@@ -681,10 +831,13 @@ int main(void) {
     root();
     check();
     squared_error();
+    whose();
     first_difference();
     error_map();
     series();
     decibels();
+    rising();
+    long_run();
     total_decibels();
     ssim();
     idle_ends();

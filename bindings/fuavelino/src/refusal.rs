@@ -24,7 +24,8 @@ pub enum Refusal {
     Scratch = 8,
     /// 9: nothing else applies, and the defined score is infinite or not a number.
     NotFinite = 9,
-    /// 10: a series of none or over 65,536 records, or with a bad one; decibels of a total that no series has.
+    /// 10: a series of none or over 65,536 records, or with one that is bad or out of order; decibels of a total that no series has; a squared error
+    /// with a plane number above [`MOST_PLANE`](crate::MOST_PLANE).
     Record = 10,
     /// 11: a series whose exact total is above 2^53.
     Total = 11,
@@ -47,7 +48,7 @@ const RULES: [(Refusal, &str); 14] = [
     (Refusal::Kernel, "the kernel is unlawful"),
     (Refusal::Scratch, "lent scratch, or room lent for a map or a kernel, is too short"),
     (Refusal::NotFinite, "the score is infinite or not a number"),
-    (Refusal::Record, "a series of no records, of too many, or with a bad one; or a total that no series has"),
+    (Refusal::Record, "a series of no records, of too many, or with one that is bad or out of order; a total that no series has; or a plane number above 2"),
     (Refusal::Total, "the exact total of a series is above 2^53"),
     (Refusal::Value, "a value, or a count of values, is out of range"),
     (Refusal::Weight, "a weight is outside 0 to 1, or a number is not finite"),
