@@ -117,7 +117,7 @@ pub fn first_difference<T: Sample>(a: Plane<'_, T>, b: Plane<'_, T>, shape: Shap
 /// let map = error_map(a, b, shape)?;
 /// assert_eq!((map.across(), map.down(), map.errors()), (2, 2, &[0, 4, 0, 9][..]));
 /// assert_eq!(map.worst(), Some(Tile { row: 1, column: 1, error: 9 }));
-/// assert_eq!(map.total() as f64, squared_error(a, b, shape)?.sq_err);
+/// assert_eq!(map.total() as f64, squared_error(a, b, shape, 0, 0)?.sq_err);
 /// # Ok::<(), fuavelino::Refusal>(())
 /// ```
 pub fn error_map<T: Sample>(a: Plane<'_, T>, b: Plane<'_, T>, shape: Shape) -> Result<ErrorMap, Refusal> {

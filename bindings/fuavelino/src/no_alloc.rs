@@ -78,7 +78,7 @@ pub fn error_map<T: Sample>(
     outcome(T::error_map(a, b, shape, map, tiles))
 }
 
-/// The total of a run of records. Refuses 10 11.
+/// The total of a run of records that rises, by frame and then by plane. Refuses 10 11.
 #[inline]
 pub fn series(records: &[Record], out: &mut PsnrMetrics) -> Result<(), Refusal> {
     outcome(exports::series(records, out))
@@ -103,7 +103,7 @@ pub fn decibels(records: &[Record], hundredths: &mut u32, identical: &mut u8) ->
     outcome(exports::decibels(records, hundredths, identical))
 }
 
-/// The same of a total: the record of a plane, what [`series`] writes, or several of these added up. Refuses 10: no series adds up to it.
+/// The same of a total: what [`series`] writes, the figures of a record, or several of these added up. Refuses 10: no series adds up to it.
 #[inline]
 pub fn total_decibels(total: PsnrMetrics, hundredths: &mut u32, identical: &mut u8) -> Result<(), Refusal> {
     outcome(exports::total_decibels(total, hundredths, identical))

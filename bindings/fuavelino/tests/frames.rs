@@ -88,6 +88,32 @@ fn hvs_of_the_three_is_an_average() {
     }
 }
 
+/// PSNR goes by the errors and the counts alone: of each plane, and of all samples together. The planes of a frame are unlike in size too.
+#[test]
+fn psnr_of_the_three_is_that_of_all_samples() {
+    let (a, b) = (lively(0), [lively(1), lively(2), lively(3)]);
+    let sized = |data, height| Plane { data, cfg: PlaneConfig { width: SIDE, height, stride: SIDE } };
+    let heights = [SIDE, SIDE / 2, SIDE / 4];
+    let frame = |data: [_; 3]| Frame { planes: [0, 1, 2].map(|i| sized(data[i], heights[i])) };
+    let of = |i: usize| {
+        let count = SIDE * heights[i];
+        let error = a.iter().zip(&b[i]).take(count).map(|(x, y)| f64::from(x.abs_diff(*y)).powi(2)).sum();
+        PsnrMetrics { sq_err: error, n_pixels: count as u64, sample_max: 255 }
+    };
+    let planes = [of(0), of(1), of(2)];
+    let sq_err = planes.iter().map(|plane| plane.sq_err).sum();
+    let all = PsnrMetrics { sq_err, n_pixels: planes.iter().map(|plane| plane.n_pixels).sum(), sample_max: 255 };
+    let [y, u, v] = planes.map(|plane| psnr::decibels(plane).unwrap());
+    assert!(y != u && u != v && y != v);
+    let (one, other) = (frame([&a[..]; 3]), frame([&b[0][..], &b[1][..], &b[2][..]]));
+    for sampling in &EVERY[..3] {
+        let figures = calculate_frame_psnr(&one, &other, 8, *sampling);
+        assert_eq!(figures, Ok(PlanarMetrics { y, u, v, avg: psnr::decibels(all).unwrap() }));
+    }
+    let gray = calculate_frame_psnr(&one, &other, 8, ChromaSampling::Cs400);
+    assert_eq!(gray, Ok(PlanarMetrics { y, u: y, v: y, avg: y }));
+}
+
 #[test]
 fn past_the_weight() {
     assert_eq!(ssim::decibels(1.0, 1.0), Some(100.0));

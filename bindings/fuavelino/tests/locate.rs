@@ -37,7 +37,7 @@ fn both<T: Sample>(value: T, noise: [T; 2], odd: &[(usize, usize, T)], shape: Sh
     }
     let (a, b) = (plane(&a, STRIDES[0]), plane(&b, STRIDES[1]));
     let map = error_map(a, b, shape).unwrap();
-    assert_eq!(map.total() as f64, squared_error(a, b, shape).unwrap().sq_err);
+    assert_eq!(map.total() as f64, squared_error(a, b, shape, 0, 0).unwrap().sq_err);
     (first_difference(a, b, shape).unwrap(), map)
 }
 

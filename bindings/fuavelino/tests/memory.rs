@@ -51,7 +51,7 @@ fn wild_shapes_ask_for_nothing() {
                 if data.is_empty() || (width, height) != (1, 1) {
                     refused += usize::from(ssim(plane, plane, shape, &kernel, &mut scratch).is_err());
                     refused += usize::from(msssim(plane, plane, shape, &mut scratch).is_err());
-                    refused += usize::from(squared_error(plane, plane, shape).is_err());
+                    refused += usize::from(squared_error(plane, plane, shape, 7, 1).is_err());
                     refused += usize::from(first_difference(plane, plane, shape).is_err());
                     refused += usize::from(error_map(plane, plane, shape).is_err());
                     refused += usize::from(psnr_hvs(plane, plane, shape, PlaneKind::U).is_err());
@@ -90,11 +90,31 @@ fn a_map_asks_for_its_places() {
 /// Nor does PSNR, of one record and of many, taken or refused.
 #[test]
 fn decibels_ask_for_nothing() {
-    let record = PsnrMetrics { sq_err: 25.0, n_pixels: 3, sample_max: 255 };
-    let mut many = vec![record; 1_000];
-    assert_eq!(asked(|| assert_eq!([decibels(&many), record.hundredths()], [Ok(Decibels::Hundredths(3_892)); 2])), 0);
+    let record = Record { sq_err: 25.0, n_pixels: 3, sample_max: 255, frame: 0, plane: 1 };
+    let mut many: Vec<Record> = (0..1_000).map(|frame| Record { frame, ..record }).collect();
+    let each = |run: &[Record]| [decibels(run), run[999].hundredths(), run[999].metrics().hundredths()];
+    assert_eq!(asked(|| assert_eq!(each(&many), [Ok(Decibels::Hundredths(3_892)); 3])), 0);
     many[999].n_pixels = 0;
-    assert_eq!(asked(|| assert_eq!([decibels(&many), many[999].hundredths()], [Err(Refusal::Record); 2])), 0);
+    assert_eq!(asked(|| assert_eq!(each(&many), [Err(Refusal::Record); 3])), 0);
+}
+
+/// Nor do the squared error and a series, taken or refused.
+#[test]
+fn records_ask_for_nothing() {
+    let samples = [7u8; 64];
+    let plane = Plane { data: &samples[..], stride: 8 };
+    let shape = Shape { width: 8, height: 8, bit_depth: 8 };
+    let mut run = [Record::default(); 300];
+    let bytes = asked(|| {
+        for (frame, place) in (0..).zip(&mut run) {
+            *place = squared_error(plane, plane, shape, frame, 2).unwrap();
+            assert_eq!(squared_error(plane, plane, shape, frame, 3), Err(Refusal::Record));
+        }
+        assert_eq!(series(&run).map(|total| total.n_pixels), Ok(300 * 64));
+        run[299].frame = 298;
+        assert_eq!(series(&run), Err(Refusal::Record));
+    });
+    assert_eq!(bytes, 0);
 }
 
 /// A kernel asks for its taps, a height that the chart does not list for nothing.

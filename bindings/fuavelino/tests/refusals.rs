@@ -4,7 +4,7 @@ use fuavelino::*;
 
 const SHAPE: Shape = Shape { width: 16, height: 16, bit_depth: 8 };
 const BEFORE: Pair = Pair { ssim: 0.125, cs: -7.5 };
-const RECORD: PsnrMetrics = PsnrMetrics { sq_err: 25.0, n_pixels: 3, sample_max: 255 };
+const RECORD: Record = Record { sq_err: 25.0, n_pixels: 3, sample_max: 255, frame: 7, plane: 0 };
 
 fn plane<T>(data: &[T], stride: usize) -> Plane<'_, T> {
     Plane { data, stride }
@@ -16,7 +16,7 @@ fn all<T: Sample>(a: Plane<'_, T>, b: Plane<'_, T>, shape: Shape) -> Vec<Result<
     let kernel = Kernel::for_plane(shape.width, shape.height);
     let hvs = |kind| psnr_hvs(a, b, shape, kind).map(|_| ());
     vec![
-        squared_error(a, b, shape).map(|_| ()),
+        squared_error(a, b, shape, 7, 0).map(|_| ()),
         first_difference(a, b, shape).map(|_| ()),
         error_map(a, b, shape).map(|_| ()),
         ssim(a, b, shape, &kernel, &mut scratch).map(|_| ()),
@@ -86,7 +86,7 @@ fn padding_is_not_read() {
     padded.iter_mut().skip(16).step_by(17).for_each(|s| *s = u16::MAX);
     let shape = Shape { bit_depth: 10, ..SHAPE };
     assert_eq!(all(plane(&padded, 17), plane(&seen, 16), shape), [Ok(()); 9]);
-    assert!(squared_error(plane(&padded, 17), plane(&seen, 16), shape).unwrap().is_identical());
+    assert!(squared_error(plane(&padded, 17), plane(&seen, 16), shape, 7, 0).unwrap().is_identical());
 }
 
 #[test]
@@ -173,27 +173,37 @@ fn scratch_past_the_need_is_kept() {
 #[test]
 fn series_of_records() {
     let most = MOST_SAMPLES * 4_095 * 4_095;
-    let full = PsnrMetrics { sq_err: most as f64, n_pixels: MOST_SAMPLES, sample_max: 4_095 };
-    let error = |run: &[PsnrMetrics]| series(run).map(|total| total.sq_err);
+    let full = Record { sq_err: most as f64, n_pixels: MOST_SAMPLES, sample_max: 4_095, frame: 7, plane: 0 };
+    // numbered as they come
+    let error = |run: &[Record]| {
+        let run: Vec<Record> = (0..).zip(run).map(|(frame, record)| Record { frame, ..*record }).collect();
+        series(&run).map(|total| total.sq_err)
+    };
     // of planes with the largest error one and two fit, three do not
     assert_eq!(error(&[full]), Ok(4_501_400_872_550_400.0));
     assert_eq!(error(&[full; 2]), Ok(9_002_801_745_100_800.0));
     assert_eq!(error(&[full; 3]), Err(Refusal::Total));
-    let rest = PsnrMetrics { sq_err: ((1u64 << 53) - 2 * most) as f64, ..full };
+    let rest = Record { sq_err: ((1u64 << 53) - 2 * most) as f64, ..full };
     assert_eq!(error(&[full, full, rest]), Ok(9_007_199_254_740_992.0));
-    assert_eq!(error(&[full, full, rest, PsnrMetrics { sq_err: 1.0, ..full }]), Err(Refusal::Total));
-    assert_eq!(series(&vec![RECORD; 65_537]), Err(Refusal::Record));
-    let bad = [f64::NAN, -0.0, 0.5, -1.0, f64::INFINITY, 195_076.0].map(|sq_err| PsnrMetrics { sq_err, ..RECORD });
+    assert_eq!(error(&[full, full, rest, Record { sq_err: 1.0, ..full }]), Err(Refusal::Total));
+    assert_eq!(error(&vec![RECORD; 65_536]), Ok(1_638_400.0));
+    assert_eq!(error(&vec![RECORD; 65_537]), Err(Refusal::Record));
+    let next = Record { plane: 1, ..RECORD };
+    let bad = [f64::NAN, -0.0, 0.5, -1.0, f64::INFINITY, 195_076.0].map(|sq_err| Record { sq_err, ..next });
     for record in bad.into_iter().chain([
-        PsnrMetrics { n_pixels: 0, ..RECORD },
-        PsnrMetrics { n_pixels: MOST_SAMPLES + 1, ..RECORD },
-        PsnrMetrics { sample_max: 254, ..RECORD },
-        PsnrMetrics { sample_max: 1_023, ..RECORD },
+        Record { n_pixels: 0, ..next },
+        Record { n_pixels: MOST_SAMPLES + 1, ..next },
+        Record { sample_max: 254, ..next },
+        Record { sample_max: 1_023, ..next },
+        Record { plane: 3, ..next },
+        Record { frame: 6, ..next },
+        RECORD,
     ]) {
-        let mut total = RECORD;
+        let mut total = RECORD.metrics();
         assert_eq!(no_alloc::series(&[RECORD, record], &mut total), Err(Refusal::Record));
-        assert_eq!(total, RECORD);
+        assert_eq!(total, RECORD.metrics());
     }
+    assert_eq!(series(&[RECORD, next]).map(|total| total.sq_err), Ok(50.0));
 }
 
 #[test]
@@ -254,4 +264,5 @@ fn numbers_and_rules() {
     assert_eq!([0, 15, 255].map(Refusal::from_number), [None; 3]);
     let said = Refusal::Sample.to_string();
     assert_eq!(said, "refusal 6: a visible sample is above the depth's largest");
+    assert!(Refusal::Record.rule().ends_with(&format!("a plane number above {}", MOST_PLANE)));
 }

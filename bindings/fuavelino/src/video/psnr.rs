@@ -7,7 +7,7 @@ use crate::scores::{series, squared_error};
 /// PSNR of two frames in decibels; higher is better, and identical planes are 100. `avg` is that of all samples together.
 ///
 /// These are av-metrics' figures, by the host's `log10`, for whoever compares with it. Proved, with a known error, are
-/// [`PsnrMetrics::hundredths`] of the planes' records and [`decibels`](crate::decibels()) of them together: let these decide.
+/// [`Record::hundredths`](crate::Record::hundredths) of the planes' records and [`decibels`](crate::decibels()) of them together: let these decide.
 ///
 /// ```
 /// use fuavelino::video::psnr::calculate_frame_psnr;
@@ -42,7 +42,7 @@ pub fn calculate_frame_psnr<T: Sample>(
     Ok(PlanarMetrics { avg, ..of_planes(records, |record| decibels(record.metrics()))? })
 }
 
-/// The decibels of a record or a total by the host's `log10`, as av-metrics has them, 100 where the error is 0; none where they would not be
+/// The decibels of a record's figures or a total by the host's `log10`, as av-metrics has them, 100 where the error is 0; none where they would not be
 /// finite, or nothing was compared. [`PsnrMetrics::hundredths`] is what is proved.
 pub fn decibels(total: PsnrMetrics) -> Option<f64> {
     if total.is_identical() {
