@@ -78,8 +78,8 @@ static inline const char *fuavelino_refusal_text(unsigned number) {
     }
 }
 
-/* The squared error of a plane, and whose it is. An error of 0 says that the two are identical: PSNR is called 100. fuavelino_decibels has the
- * PSNR of any other. The total of a series is the first three alone. */
+/* What comparing two planes leaves, and which plane of which frame they are. An error of 0 says that they are identical: PSNR is called 100.
+ * fuavelino_decibels has the PSNR of any other. The total of a series has no frame and plane. */
 typedef struct fuavelino_record {
     double sq_err;       /* a whole number from 0 to n * sample_max^2 */
     uint64_t n;          /* samples compared, 1 to FUAVELINO_MOST_SAMPLES */
