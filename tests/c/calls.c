@@ -131,6 +131,7 @@ LAID_OUT(offsetof(fuavelino_record, n) == 8);
 LAID_OUT(offsetof(fuavelino_record, sample_max) == 16);
 LAID_OUT(offsetof(fuavelino_record, frame) == 20);
 LAID_OUT(offsetof(fuavelino_record, plane) == 24);
+LAID_OUT(sizeof(((fuavelino_record *)0)->frame) == 4 && sizeof(((fuavelino_record *)0)->plane) == 4);
 
 static fuavelino_record record(double sq_err, uint64_t n, uint32_t sample_max, uint32_t frame, uint32_t plane) {
     fuavelino_record r;
