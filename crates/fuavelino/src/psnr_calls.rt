@@ -80,7 +80,17 @@ pub extern "C" fn fuavelino_squared_error16(
         ≡ errorWritten (squaredErrorOf (called true (a .entry) (b .entry) width height «stride_a» «stride_b» depth) frame plane)
         (record { «sq_err» = now («sq_err» .entry); n = now (n .entry); «sample_max» = now («sample_max» .entry) }) ⌝ }
 {
-    let answer = psnr::squared_error16(a, b, width, height, stride_a, stride_b, depth, frame, plane);
+    let answer = psnr::squared_error16(
+        a,
+        b,
+        width,
+        height,
+        stride_a,
+        stride_b,
+        depth,
+        frame,
+        plane,
+    );
     put_record(answer, sq_err, n, sample_max)
 }
 

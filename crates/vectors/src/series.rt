@@ -12,20 +12,33 @@ const MAX: u32 = 4095;
 // The largest error of a record: each of its most samples is off by 4,095.
 const MOST: f64 = 4501400872550400.0;
 
-fn record(sq_err: f64, n: u64, sample_max: u32) -> Record {
+fn record(frame: u32, sq_err: f64, n: u64, sample_max: u32) -> Record {
     Record {
         sq_err,
         n,
         sample_max,
+        frame,
+        plane: 0,
     }
 }
 
-// A series with a record more, this many times.
-fn repeated(s: Run, r: Record, times: usize) -> Run {
-    let mut t = s;
-    let mut i: usize = 0;
+// A record of this frame and plane.
+fn numbered(frame: u32, plane: u32) -> Record {
+    Record {
+        sq_err: 9.0,
+        n: 2,
+        sample_max: 255,
+        frame,
+        plane,
+    }
+}
+
+// A series of so many records, of frames from 0 on.
+fn repeated(sq_err: f64, n: u64, sample_max: u32, times: u32) -> Run {
+    let mut t = psnr::start();
+    let mut i: u32 = 0;
     while i < times {
-        t = psnr::step(t, r);
+        t = psnr::step(t, record(i, sq_err, n, sample_max));
         i += 1;
     }
     t
@@ -45,24 +58,24 @@ fn total_is(t: Total, no: u8, error: f64, n: u64, max: u32) -> bool {
 }
 
 // So many of the largest records.
-fn largest(times: usize) -> Run {
-    repeated(psnr::start(), record(MOST, COUNT_LIMIT, MAX), times)
+fn largest(times: u32) -> Run {
+    repeated(MOST, COUNT_LIMIT, MAX, times)
 }
 
 // Two of the largest, and one.
 fn three(error: f64) -> Run {
-    psnr::step(largest(2), record(error, COUNT_LIMIT, MAX))
+    psnr::step(largest(2), record(2, error, COUNT_LIMIT, MAX))
 }
 
 // A sound record, and one.
 fn two(sq_err: f64, n: u64, sample_max: u32) -> Run {
-    let one = psnr::step(psnr::start(), record(9.0, 2, 255));
-    psnr::step(one, record(sq_err, n, sample_max))
+    let one = psnr::step(psnr::start(), record(0, 9.0, 2, 255));
+    psnr::step(one, record(1, sq_err, n, sample_max))
 }
 
 // So many equal records of error 0.
-fn equal(times: usize, sample_max: u32) -> Run {
-    repeated(psnr::start(), record(0.0, 5, sample_max), times)
+fn equal(times: u32, sample_max: u32) -> Run {
+    repeated(0.0, 5, sample_max, times)
 }
 
 fn spoils(sq_err: f64, n: u64, sample_max: u32) -> bool {
@@ -113,8 +126,36 @@ fn spoiled() {
     tell::held(b"spoiled series: ", &list);
 }
 
+// Whether two records of these frames and planes are taken, and else refused with 10.
+fn rises(f: u32, p: u32, g: u32, q: u32) -> bool {
+    let s = psnr::step(psnr::step(psnr::start(), numbered(f, p)), numbered(g, q));
+    sums_to(s, 0, 18.0, 4, 255)
+}
+
+fn falls(f: u32, p: u32, g: u32, q: u32) -> bool {
+    let s = psnr::step(psnr::step(psnr::start(), numbered(f, p)), numbered(g, q));
+    sums_to(s, refusal::RECORD, 0.0, 0, 0)
+}
+
+// Frames and planes that rise, that do not, and a plane that no frame has.
+fn ordered() {
+    let list = [
+        rises(0, 2, 1, 0),
+        rises(5, 1, 5, 2),
+        rises(0, 0, 4294967295, 2),
+        falls(1, 0, 0, 2),
+        falls(5, 1, 5, 1),
+        falls(5, 2, 5, 1),
+        falls(4294967295, 0, 0, 0),
+        falls(0, 0, 1, 3),
+        falls(0, 3, 1, 0),
+    ];
+    tell::held(b"frames and planes: ", &list);
+}
+
 pub fn replay() {
     totals();
     counts();
     spoiled();
+    ordered();
 }
