@@ -13,6 +13,7 @@ class Scope:
         whole = lambda words: [int(word.replace(",", "")) for word in words]
         self.side, self.stride = whole(find(r"\| 2 \| [^|]* exceeds ([\d,]+) \|") + find(r"\| 4 \| [^|]* exceeds ([\d,]+) \|"))
         self.least = dict(zip(("hvs", "msssim"), whole(find(r"less than (\d+) for HVS, less than (\d+) for MS-SSIM"))))
+        self.plane = whole(find(r"if its plane number exceeds (\d+)"))[0]
         self.depths = whole(find(r"byte at depths (\d+) to (\d+) and a word of 16 bits at depths (\d+) to (\d+)"))
         self.fixed = whole(find(r"no caller lends: ([\d ]+),")[0].split())
         self.forward, self.inverse = whole(find(r"Forward takes values from −[\d,]+ to ([\d,]+)") + find(r"inverse takes values from −[\d,]+ to ([\d,]+)"))
@@ -68,6 +69,11 @@ class Scope:
             lambda: all(sample <= 2**depth - 1 for plane in planes for sample in visible(plane)),
         ]
         return next((number for number, test in enumerate(tests, 1) if not test()), 0)
+
+    def series(self, records):
+        """0 where records of these frames and planes rise, else 10."""
+        rise = all(one < other for one, other in zip(records, records[1:]))
+        return 0 if rise and all(plane <= self.plane for _, plane in records) else 10
 
     def roots(self):
         """The chart of decibels, each place with its entry: they go up, so that each is looked for from the one before."""
