@@ -14,7 +14,7 @@ use Rattle.plane.specs.Plane.{maxOf, sampleLimit}
 use Rattle.plane.proofs.Depth.{max-grows}
 use Rattle.psnr.specs.Limits.{countLimit, totalLimit}
 use Rattle.psnr.specs.declared.Record.{Record}
-use Rattle.psnr.specs.Record.{isWhole, wholeOf, someTo, countSuits, maxSuits, errorSuits, planeSuits, recordSuits, joins}
+use Rattle.psnr.specs.Record.{isWhole, wholeOf, someTo, countSuits, maxSuits, errorSuits, recordSuits, joins}
 use Rattle.psnr.proofs.Squares.{total-fits}
 
 -- ---- some index below n
@@ -95,17 +95,13 @@ module _ (r : Record) (e : recordSuits r ≡ true) where
   unfolding recordSuits
   figures = and-left (count-max && error) _ e
 
-  pub suits-plane : planeSuits (r .plane) ≡ true
-  unfolding recordSuits
-  suits-plane = and-right (count-max && error) _ e
-
   pub suits-countSuits : countSuits (r .n) ≡ true
   suits-countSuits = and-left _ _ (and-left count-max error figures)
 
   pub suits-max : maxSuits (r .«sample_max») ≡ true
   suits-max = and-right (countSuits (r .n)) _ (and-left count-max error figures)
 
-  pub suits-error : error ≡ true
+  suits-error : error ≡ true
   suits-error = and-right count-max error figures
 
   pub suits-count : r .n ≤ countLimit

@@ -24,7 +24,7 @@ pub next-plane : (f p q : ℕ) → p < q → earlier f p f q ≡ true
 unfolding earlier
 next-plane f p q l = rw (eq-eqb f f refl, lt-ltb p q l) (or-true (ltb f f))
 
-pub earlier-says : (f p g q : ℕ) → earlier f p g q ≡ true → (f < g) ⊎ ((f ≡ g) × (p < q))
+earlier-says : (f p g q : ℕ) → earlier f p g q ≡ true → (f < g) ⊎ ((f ≡ g) × (p < q))
 unfolding earlier
 earlier-says f p g q e = go (ltb f g) refl e
   where
