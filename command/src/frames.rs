@@ -99,3 +99,72 @@ pub fn both<T: Stored>(sources: &mut [Source; 2], frames: &mut [Frame<T>; 2]) ->
         (true, false) => Err(unlike(b, a)),
     }
 }
+
+/// The same of the frame with this index, and the number that its records are to have; there may be no such frame.
+pub fn numbered<T: Stored>(
+    sources: &mut [Source; 2],
+    frames: &mut [Frame<T>; 2],
+    index: u64,
+) -> Result<Option<u32>, Fault> {
+    both(sources, frames)?.then(|| recorded(index)).transpose()
+}
+
+/// A record has 32 bits for its frame's number. That is the index, and what has no room there is never cut.
+fn recorded(index: u64) -> Result<u32, Fault> {
+    let past = |_| Fault::new(format!("frame {}: a run has at most 4,294,967,296 frames", index));
+    u32::try_from(index).map_err(past)
+}
+
+#[cfg(test)]
+pub mod tests {
+    use super::*;
+    use crate::format::Chroma;
+    use std::{env, fs, process};
+
+    pub const MONO: Format = Format { width: 2, height: 2, depth: 8, chroma: Chroma::Cs400 };
+
+    /// Two raw files of so many frames; frame i of the second is off by i in its first sample.
+    pub fn sources(name: &str, format: Format, frames: u8) -> [Source; 2] {
+        let room = env::temp_dir().join(format!("fuavelino-{}-{}", name, process::id()));
+        fs::create_dir_all(&room).unwrap();
+        let size: usize = format.shapes().iter().map(|shape| shape.width * shape.height).sum();
+        let made = [0, 1].map(|which| {
+            let frame = |number: u8| [vec![number * which], vec![0; size - 1]].concat();
+            let path = room.join(which.to_string());
+            fs::write(&path, (0..frames).flat_map(frame).collect::<Vec<u8>>()).unwrap();
+            Source::open(&path, Some(format)).unwrap()
+        });
+        // what is open stays readable
+        fs::remove_dir_all(&room).unwrap();
+        made
+    }
+
+    #[test]
+    fn a_frame_has_its_index_for_a_number() {
+        for index in [0, 1, 65_535, 65_536, u32::MAX - 1, u32::MAX] {
+            assert_eq!(recorded(u64::from(index)).ok(), Some(index));
+        }
+    }
+
+    #[test]
+    fn an_index_past_32_bits_is_never_cut() {
+        for index in [1 << 32, (1 << 32) + 1, 1 << 33, u64::MAX] {
+            let fault = recorded(index).unwrap_err();
+            assert_eq!(fault.message, format!("frame {}: a run has at most 4,294,967,296 frames", index));
+            assert_eq!(fault.refusal, None);
+        }
+    }
+
+    /// The last frame that has a number may be followed by the files' end, and by no other frame.
+    #[test]
+    fn a_run_may_end_after_the_last_number() {
+        let mut frames = [Frame::<u8>::new(&MONO), Frame::new(&MONO)];
+        let (last, past) = (u64::from(u32::MAX), 1 << 32);
+        let mut one = sources("last", MONO, 1);
+        assert_eq!(numbered(&mut one, &mut frames, last).unwrap(), Some(u32::MAX));
+        assert_eq!(numbered(&mut one, &mut frames, past).unwrap(), None);
+        let mut two = sources("past", MONO, 2);
+        assert_eq!(numbered(&mut two, &mut frames, last).unwrap(), Some(u32::MAX));
+        assert!(numbered(&mut two, &mut frames, past).unwrap_err().message.starts_with("frame 4294967296: "));
+    }
+}

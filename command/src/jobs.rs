@@ -4,7 +4,7 @@
 //! scorer to the gatherer, and back only once its scores are told: so many pairs as there are bound all that waits.
 
 use crate::format::Format;
-use crate::frames::{both, Frame, Source};
+use crate::frames::{numbered, Frame, Source};
 use crate::input::Stored;
 use crate::score::{FrameScores, Metrics, Refused, Scorer};
 use crate::stop::{Fault, Stop};
@@ -41,8 +41,11 @@ enum Outcome<T> {
     Ended(Result<(), Fault>),
 }
 
-/// A frame's number with something of it.
+/// A frame's number with something of it. An end may stand past the last that records can have.
 type Numbered<V> = (u64, V);
+
+/// A pair of frames to be scored, with the number that its records are to have.
+type Asked<T> = (u32, Pair<T>);
 
 /// Reads and scores every frame, and tells each outcome in order, until the files end or something is wrong.
 pub fn each<T: Stored>(
@@ -66,8 +69,10 @@ fn alone<T: Stored>(
 ) -> Result<(), Stop> {
     let format = sources[0].format;
     let (mut pair, mut scorer) = (pair::<T>(&format), Scorer::new(&format, metrics));
-    while both(&mut sources, &mut pair)? {
-        tell(scorer.frame(&pair[0], &pair[1]))?;
+    let mut index = 0;
+    while let Some(number) = numbered(&mut sources, &mut pair, index)? {
+        tell(scorer.frame(number, &pair[0], &pair[1]))?;
+        index += 1;
     }
     Ok(())
 }
@@ -107,8 +112,8 @@ struct Crew<T> {
     metrics: Metrics,
     started: usize,
     most: usize,
-    ask: Sender<Numbered<Pair<T>>>,
-    asked: Arc<Mutex<Receiver<Numbered<Pair<T>>>>>,
+    ask: Sender<Asked<T>>,
+    asked: Arc<Mutex<Receiver<Asked<T>>>>,
     hand: Sender<Numbered<Outcome<T>>>,
 }
 
@@ -120,25 +125,25 @@ impl<T: Stored> Crew<T> {
 
     /// Fills each pair that is lent, and ends with what ended the files.
     fn read(mut self, mut sources: [Source; 2], lent: &Receiver<Pair<T>>) {
-        for (number, pair) in (0..).zip(lent.iter()) {
-            let ended = match self.next(&mut sources, number, pair) {
+        for (index, pair) in (0..).zip(lent.iter()) {
+            let ended = match self.next(&mut sources, index, pair) {
                 Ok(true) => continue,
                 Ok(false) => Ok(()),
                 Err(fault) => Err(fault),
             };
-            let _ = self.hand.send((number, Outcome::Ended(ended)));
+            let _ = self.hand.send((index, Outcome::Ended(ended)));
             break;
         }
     }
 
     /// Reads a frame of each file and asks for its scores; there may be none.
-    fn next(&mut self, sources: &mut [Source; 2], number: u64, mut pair: Pair<T>) -> Result<bool, Fault> {
-        let more = both(sources, &mut pair)?;
-        if more {
+    fn next(&mut self, sources: &mut [Source; 2], index: u64, mut pair: Pair<T>) -> Result<bool, Fault> {
+        let number = numbered(sources, &mut pair, index)?;
+        if let Some(number) = number {
             self.grow()?;
             let _ = self.ask.send((number, pair));
         }
-        Ok(more)
+        Ok(number.is_some())
     }
 
     /// One thread more, until there are enough. Where no more can be had, fewer give the same report.
@@ -158,16 +163,12 @@ impl<T: Stored> Crew<T> {
 }
 
 /// A job: scores what is asked, until nothing more is or nobody wants it.
-fn score<T: Stored>(
-    asked: &Mutex<Receiver<Numbered<Pair<T>>>>,
-    hand: &Sender<Numbered<Outcome<T>>>,
-    mut scorer: Scorer,
-) {
+fn score<T: Stored>(asked: &Mutex<Receiver<Asked<T>>>, hand: &Sender<Numbered<Outcome<T>>>, mut scorer: Scorer) {
     let next = || asked.lock().ok().and_then(|asked| asked.recv().ok());
     while let Some((number, pair)) = next() {
         // a panic goes on where the frame is told, so that the command ends as with one job
-        let scored = catch_unwind(AssertUnwindSafe(|| scorer.frame(&pair[0], &pair[1])));
-        if hand.send((number, Outcome::Scored(Box::new(scored), pair))).is_err() {
+        let scored = catch_unwind(AssertUnwindSafe(|| scorer.frame(number, &pair[0], &pair[1])));
+        if hand.send((u64::from(number), Outcome::Scored(Box::new(scored), pair))).is_err() {
             break;
         }
     }
@@ -202,6 +203,80 @@ fn gather<T>(
 #[cfg(test)]
 mod tests {
     use super::*;
+    use crate::frames::tests::{sources, MONO};
+    use fuavelino::Record;
+
+    fn error() -> Metrics {
+        Metrics { ssim: false, scales: false, msssim: false, hvs: false, ..Metrics::ALL }
+    }
+
+    /// The record of a frame of one plane.
+    fn recorded(scored: Scored) -> Record {
+        scored.unwrap().planes[0].record.unwrap()
+    }
+
+    /// Frame i is off by i in one sample, which tells it apart from the others.
+    #[test]
+    fn each_frame_is_recorded_under_its_index_whatever_the_jobs() {
+        for jobs in [1, 2, 3, 8] {
+            // each run of a list begins anew
+            for _ in 0..3 {
+                let mut told = Vec::new();
+                let ended = each::<u8>(sources(&format!("each-{}", jobs), MONO, 200), error(), jobs, |scored| {
+                    told.push(recorded(scored));
+                    Ok(())
+                });
+                assert!(ended.is_ok() && told.len() == 200);
+                for (index, record) in (0..).zip(&told) {
+                    assert_eq!((record.frame, record.plane), (index, 0), "{} jobs", jobs);
+                    assert_eq!(record.sq_err, f64::from(index) * f64::from(index), "{} jobs", jobs);
+                }
+            }
+        }
+    }
+
+    /// What a job is asked for in another order than that of the frames keeps its number.
+    #[test]
+    fn a_job_numbers_by_frame_and_not_by_turn() {
+        let ((ask, asked), (hand, outcomes)) = (channel(), channel());
+        let numbers = [7, 3, u32::MAX, 0, 4];
+        for number in numbers {
+            let frame = |first: u8| Frame { planes: vec![vec![first, 0, 0, 0]] };
+            ask.send((number, [frame(0), frame(number as u8)])).unwrap();
+        }
+        drop(ask);
+        score(&Mutex::new(asked), &hand, Scorer::new(&MONO, error()));
+        drop(hand);
+        let told: Vec<(u64, Record)> = outcomes.iter().map(|(at, outcome)| (at, outcome_record(outcome))).collect();
+        assert_eq!(told.len(), numbers.len());
+        for ((at, record), number) in told.into_iter().zip(numbers) {
+            assert_eq!((at, record.frame), (u64::from(number), number));
+            assert_eq!(record.sq_err, f64::from(number as u8).powi(2));
+        }
+    }
+
+    fn outcome_record(outcome: Outcome<u8>) -> Record {
+        match outcome {
+            Outcome::Scored(scored, _) => recorded(scored.unwrap()),
+            Outcome::Ended(_) => panic!("no frame"),
+        }
+    }
+
+    /// The reader hands on no frame that has no number.
+    #[test]
+    fn the_reader_ends_where_numbers_do() {
+        let (hand, outcomes) = channel();
+        let mut crew = Crew::<u8>::new(MONO, error(), 1, hand);
+        let mut sources = sources("reader", MONO, 2);
+        let last = u64::from(u32::MAX);
+        assert!(crew.next(&mut sources, last, pair(&MONO)).unwrap());
+        let (at, outcome) = outcomes.recv().unwrap();
+        assert_eq!((at, outcome_record(outcome).frame), (last, u32::MAX));
+        let fault = crew.next(&mut sources, last + 1, pair(&MONO)).unwrap_err();
+        assert!(fault.message.contains("at most 4,294,967,296 frames"), "{}", fault.message);
+        drop(crew);
+        assert!(outcomes.recv().is_err());
+    }
 
     fn none() -> Pair<u8> {
         [Frame { planes: vec![] }, Frame { planes: vec![] }]

@@ -7,7 +7,7 @@ use crate::frames::Frame;
 use crate::input::Stored;
 use crate::stop::Fault;
 use fuavelino::video::ssim::product;
-use fuavelino::{Kernel, Pair, Plane, PlaneKind, PsnrMetrics, Refusal, Sample, Scratch, Shape};
+use fuavelino::{Kernel, Pair, Plane, PlaneKind, PsnrMetrics, Record, Refusal, Sample, Scratch, Shape};
 
 /// Which scores are asked for.
 #[derive(Clone, Copy, Debug, PartialEq, Eq)]
@@ -32,6 +32,8 @@ impl Metrics {
 /// The figures of a plane, or of all planes combined, of a frame or of the run. Each that was asked for is there.
 #[derive(Clone, Copy, Debug, Default)]
 pub struct Scores {
+    /// Of a plane of a frame alone: its error, with whose it is.
+    pub record: Option<Record>,
     pub error: Option<PsnrMetrics>,
     /// The library's. It is there wherever the error is, and decides.
     pub psnr: Option<fuavelino::Decibels>,
@@ -129,26 +131,38 @@ impl Scorer {
         Scorer { metrics, weight: format.chroma.get_chroma_weight(), shapes, kernels, scratch: Scratch::new() }
     }
 
-    pub fn frame<T: Stored>(&mut self, original: &Frame<T>, decoded: &Frame<T>) -> Result<FrameScores, Refused> {
+    /// The scores of the frame of this number.
+    pub fn frame<T: Stored>(
+        &mut self,
+        frame: u32,
+        original: &Frame<T>,
+        decoded: &Frame<T>,
+    ) -> Result<FrameScores, Refused> {
         let mut planes = Vec::with_capacity(self.shapes.len());
         for number in 0..self.shapes.len() {
             let stride = self.shapes[number].width;
             let a = Plane { data: &original.planes[number][..], stride };
             let b = Plane { data: &decoded.planes[number][..], stride };
-            let scores = self.plane(number, a, b);
+            let scores = self.plane((frame, number), a, b);
             planes.push(scores.map_err(|refused| refused.with_sample([a.data, b.data], self.shapes[number]))?);
         }
         let combined = combine(&planes, total(&planes)?, self.weight, 1.0)?;
         Ok(FrameScores { planes, combined })
     }
 
-    fn plane<T: Sample>(&mut self, number: usize, a: Plane<'_, T>, b: Plane<'_, T>) -> Result<Scores, Refused> {
+    fn plane<T: Sample>(
+        &mut self,
+        (frame, number): (u32, usize),
+        a: Plane<'_, T>,
+        b: Plane<'_, T>,
+    ) -> Result<Scores, Refused> {
         let (shape, name) = (self.shapes[number], PLANES[number]);
         let kind = [PlaneKind::Y, PlaneKind::U, PlaneKind::V][number];
         let mut scores = Scores::default();
         if self.metrics.error {
-            let record = fuavelino::squared_error(a, b, shape);
-            scores.error = Some(record.map_err(Refused::of(name, "squared error"))?);
+            let record = fuavelino::squared_error(a, b, shape, frame, kind.number());
+            scores.record = Some(record.map_err(Refused::of(name, "squared error"))?);
+            scores.error = scores.record.map(|record| record.metrics());
         }
         if self.metrics.ssim {
             let pair = fuavelino::ssim(a, b, shape, &self.kernels[number], &mut self.scratch);
@@ -171,10 +185,10 @@ impl Scorer {
     }
 }
 
-/// The squared error of all planes of a frame together, where each has its own. Three of the largest can come to more
+/// The squared error of all planes of a frame together, where each has its record. Three of the largest can come to more
 /// than a series gives.
 fn total(planes: &[Scores]) -> Result<Option<PsnrMetrics>, Refused> {
-    let records: Option<Vec<PsnrMetrics>> = planes.iter().map(|plane| plane.error).collect();
+    let records: Option<Vec<Record>> = planes.iter().map(|plane| plane.record).collect();
     records.map(|records| fuavelino::series(&records)).transpose().map_err(Refused::of(COMBINED, "squared error"))
 }
 
@@ -186,7 +200,7 @@ pub fn figures(sums: &Scores, best: f64, count: f64, plane: &'static str) -> Res
         Ok(Pair { ssim: over(sum.ssim, best, score)?, cs: over(sum.cs, best, score)? })
     };
     let told = |decibels: Option<Decibels>, score| decibels.ok_or_else(Refused::no_number(plane, score)).map(Some);
-    let mut scores = Scores { error: sums.error, ..Scores::default() };
+    let mut scores = Scores { record: sums.record, error: sums.error, ..Scores::default() };
     if let Some(record) = sums.error {
         scores.psnr = Some(record.hundredths().map_err(Refused::of(plane, "PSNR"))?);
         scores.psnr_db = decibels::psnr(record);
@@ -283,13 +297,14 @@ fn finite(value: f64) -> Result<f64, Refusal> {
 #[cfg(test)]
 mod tests {
     use super::*;
+    use crate::format::Chroma;
     use fuavelino::MOST_SAMPLES;
 
     /// Planes of 12 bits, as large as can be, of which every sample is as wrong as can be.
     fn worst(count: usize) -> Vec<Scores> {
         let sq_err = MOST_SAMPLES as f64 * 4_095.0 * 4_095.0;
-        let error = PsnrMetrics { sq_err, n_pixels: MOST_SAMPLES, sample_max: 4_095 };
-        vec![Scores { error: Some(error), ..Scores::default() }; count]
+        let record = |plane| Record { sq_err, n_pixels: MOST_SAMPLES, sample_max: 4_095, frame: 7, plane };
+        (0..count as u32).map(|plane| Scores { record: Some(record(plane)), ..Scores::default() }).collect()
     }
 
     #[test]
@@ -306,7 +321,42 @@ mod tests {
     #[test]
     fn what_was_not_asked_for_has_no_total() {
         let mut planes = worst(3);
-        planes[1].error = None;
+        planes[1].record = None;
         assert!(total(&planes).unwrap().is_none());
+    }
+
+    /// One after the other, and each under its own number, whatever came before.
+    #[test]
+    fn records_have_the_number_of_their_frame_and_plane() {
+        for (chroma, planes) in [(Chroma::Cs400, 1), (Chroma::Cs420, 3), (Chroma::Cs422, 3), (Chroma::Cs444, 3)] {
+            let format = Format { width: 16, height: 16, depth: 8, chroma };
+            let samples = |add: u8| {
+                let plane = |(number, shape): (usize, &Shape)| vec![add * number as u8; shape.width * shape.height];
+                Frame { planes: format.shapes().iter().enumerate().map(plane).collect() }
+            };
+            let mut scorer =
+                Scorer::new(&format, Metrics { ssim: false, scales: false, msssim: false, ..Metrics::ALL });
+            for frame in [0, 9, 3, 2_000_000_000, u32::MAX, 1] {
+                let scores = scorer.frame(frame, &samples(0), &samples(5)).unwrap();
+                assert_eq!(scores.planes.len(), planes);
+                for (number, plane) in scores.planes.iter().enumerate() {
+                    let record = plane.record.unwrap();
+                    assert_eq!((record.frame, record.plane), (frame, number as u32));
+                    // each plane is off by five times its number
+                    assert_eq!(record.sq_err, (25 * number * number) as f64 * record.n_pixels as f64);
+                    assert_eq!(plane.error, Some(record.metrics()));
+                }
+                assert!(scores.combined.record.is_none() && scores.combined.error.is_some());
+            }
+        }
+    }
+
+    #[test]
+    fn without_the_error_there_is_no_record() {
+        let format = Format { width: 8, height: 8, depth: 8, chroma: Chroma::Cs400 };
+        let mut scorer = Scorer::new(&format, Metrics { error: false, scales: false, msssim: false, ..Metrics::ALL });
+        let frame = Frame { planes: vec![vec![7u8; 64]] };
+        let scores = scorer.frame(7, &frame, &frame).unwrap();
+        assert!(scores.planes[0].record.is_none() && scores.planes[0].error.is_none());
     }
 }

@@ -27,12 +27,12 @@ const FORMATS: [(usize, usize, u32, &str); 12] = [
 fn figures<T: Sample>(a: &[T], b: &[T], shape: Shape, kind: PlaneKind) -> Vec<(String, f64)> {
     let [a, b] = [a, b].map(|data| fuavelino::Plane { data, stride: shape.width });
     let mut scratch = Scratch::new();
-    let record = fuavelino::squared_error(a, b, shape).unwrap();
+    let record = fuavelino::squared_error(a, b, shape, 0, kind.number()).unwrap();
     let kernel = Kernel::for_plane(shape.width, shape.height);
     let pair = fuavelino::ssim(a, b, shape, &kernel, &mut scratch).unwrap();
     let five = fuavelino::msssim(a, b, shape, &mut scratch).unwrap();
     let hvs = fuavelino::psnr_hvs(a, b, shape, kind).unwrap();
-    let mut list = error(&record);
+    let mut list = error(&record.metrics());
     list.extend(pairs(&pair, &five));
     list.push(("msssim".to_string(), product(&five)));
     list.push(("hvs".to_string(), hvs));
