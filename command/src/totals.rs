@@ -29,7 +29,7 @@ impl Total {
 
     /// Makes room for the record that begins the next series.
     fn end_series(&mut self, next: &Record) -> Result<(), Refusal> {
-        if !self.records.last().map_or(true, |last| rises(last, next)) {
+        if self.records.last().map_or(false, |last| !rises(last, next)) {
             return Err(Refusal::Record);
         }
         self.earlier = Some(self.so_far()?);

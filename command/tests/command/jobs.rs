@@ -115,6 +115,33 @@ fn a_pipe_and_as_many_jobs_as_cores() {
     assert_eq!(run_fed(&words!["compare", "-", &b, "--csv", "--jobs=3"], &bytes).passes(), one.passes());
 }
 
+/// Records are totalled by series of 65,536, which of three planes end within a frame: they rise there too, whichever job
+/// made them.
+#[test]
+fn a_run_longer_than_a_series() {
+    let room = Room::new("jobs-series");
+    let count = 22_000;
+    let error = |at: usize| (at * at % 251) as u8;
+    let a = room.file("a.yuv", &vec![0; 3 * count]);
+    let b = room.file("b.yuv", &(0..3 * count).map(error).collect::<Vec<u8>>());
+    let told = words!["--size=1x1", "--depth=8", "--chroma=444", "--metrics=error", "--csv"];
+    let with = |jobs: &str| run(&[&words!["compare", &a, &b, "--jobs", jobs][..], &told].concat());
+    let (one, three) = (with("1"), with("3"));
+    assert!(one.passes() == three.passes());
+    let total = |first: usize, step: usize| {
+        (first..3 * count).step_by(step).map(|at| u64::from(error(at)).pow(2)).sum::<u64>() as f64
+    };
+    for (plane, sq_err, n) in [
+        ("y", total(0, 3), count),
+        ("u", total(1, 3), count),
+        ("v", total(2, 3), count),
+        ("combined", total(0, 1), 3 * count),
+    ] {
+        let row = format!("\nrun,,{},{:?},{},255,false,", plane, sq_err, n);
+        assert!(one.out.contains(&row), "no {:?}", row);
+    }
+}
+
 /// Scoring is far slower than reading, and memory has no room for the files: what waits to be scored is bounded.
 #[test]
 fn memory_is_bounded_by_the_jobs() {
