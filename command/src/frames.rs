@@ -100,12 +100,9 @@ pub fn both<T: Stored>(sources: &mut [Source; 2], frames: &mut [Frame<T>; 2]) ->
     }
 }
 
-/// The same of the frame with this index, and the number that its records are to have; there may be no such frame.
-pub fn numbered<T: Stored>(
-    sources: &mut [Source; 2],
-    frames: &mut [Frame<T>; 2],
-    index: u64,
-) -> Result<Option<u32>, Fault> {
+/// The same, with the number that records of this frame are to have; there may be no such frame.
+pub fn numbered<T: Stored>(sources: &mut [Source; 2], frames: &mut [Frame<T>; 2]) -> Result<Option<u32>, Fault> {
+    let index = sources[0].read;
     both(sources, frames)?.then(|| recorded(index)).transpose()
 }
 
@@ -155,16 +152,22 @@ pub mod tests {
         }
     }
 
-    /// The last frame that has a number may be followed by the files' end, and by no other frame.
+    /// Two files of which so many frames are left, after all but one of those that have a number.
+    pub fn near_the_end(name: &str, left: u8) -> [Source; 2] {
+        let mut made = sources(name, MONO, left);
+        made.iter_mut().for_each(|source| source.read = u64::from(u32::MAX));
+        made
+    }
+
+    /// After the last frame that has a number the files may end, and have no other frame.
     #[test]
     fn a_run_may_end_after_the_last_number() {
         let mut frames = [Frame::<u8>::new(&MONO), Frame::new(&MONO)];
-        let (last, past) = (u64::from(u32::MAX), 1 << 32);
-        let mut one = sources("last", MONO, 1);
-        assert_eq!(numbered(&mut one, &mut frames, last).unwrap(), Some(u32::MAX));
-        assert_eq!(numbered(&mut one, &mut frames, past).unwrap(), None);
-        let mut two = sources("past", MONO, 2);
-        assert_eq!(numbered(&mut two, &mut frames, last).unwrap(), Some(u32::MAX));
-        assert!(numbered(&mut two, &mut frames, past).unwrap_err().message.starts_with("frame 4294967296: "));
+        let mut one = near_the_end("last", 1);
+        assert_eq!(numbered(&mut one, &mut frames).unwrap(), Some(u32::MAX));
+        assert_eq!(numbered(&mut one, &mut frames).unwrap(), None);
+        let mut two = near_the_end("past", 2);
+        assert_eq!(numbered(&mut two, &mut frames).unwrap(), Some(u32::MAX));
+        assert!(numbered(&mut two, &mut frames).unwrap_err().message.starts_with("frame 4294967296: "));
     }
 }

@@ -69,10 +69,8 @@ fn alone<T: Stored>(
 ) -> Result<(), Stop> {
     let format = sources[0].format;
     let (mut pair, mut scorer) = (pair::<T>(&format), Scorer::new(&format, metrics));
-    let mut index = 0;
-    while let Some(number) = numbered(&mut sources, &mut pair, index)? {
+    while let Some(number) = numbered(&mut sources, &mut pair)? {
         tell(scorer.frame(number, &pair[0], &pair[1]))?;
-        index += 1;
     }
     Ok(())
 }
@@ -125,20 +123,20 @@ impl<T: Stored> Crew<T> {
 
     /// Fills each pair that is lent, and ends with what ended the files.
     fn read(mut self, mut sources: [Source; 2], lent: &Receiver<Pair<T>>) {
-        for (index, pair) in (0..).zip(lent.iter()) {
-            let ended = match self.next(&mut sources, index, pair) {
+        for (number, pair) in (0..).zip(lent.iter()) {
+            let ended = match self.next(&mut sources, pair) {
                 Ok(true) => continue,
                 Ok(false) => Ok(()),
                 Err(fault) => Err(fault),
             };
-            let _ = self.hand.send((index, Outcome::Ended(ended)));
+            let _ = self.hand.send((number, Outcome::Ended(ended)));
             break;
         }
     }
 
     /// Reads a frame of each file and asks for its scores; there may be none.
-    fn next(&mut self, sources: &mut [Source; 2], index: u64, mut pair: Pair<T>) -> Result<bool, Fault> {
-        let number = numbered(sources, &mut pair, index)?;
+    fn next(&mut self, sources: &mut [Source; 2], mut pair: Pair<T>) -> Result<bool, Fault> {
+        let number = numbered(sources, &mut pair)?;
         if let Some(number) = number {
             self.grow()?;
             let _ = self.ask.send((number, pair));
@@ -203,7 +201,7 @@ fn gather<T>(
 #[cfg(test)]
 mod tests {
     use super::*;
-    use crate::frames::tests::{sources, MONO};
+    use crate::frames::tests::{near_the_end, sources, MONO};
     use fuavelino::Record;
 
     fn error() -> Metrics {
@@ -262,17 +260,27 @@ mod tests {
         }
     }
 
+    #[test]
+    fn one_job_ends_where_numbers_do() {
+        let mut told = Vec::new();
+        let ended = alone::<u8>(near_the_end("alone", 2), error(), |scored| {
+            told.push(recorded(scored).frame);
+            Ok(())
+        });
+        assert_eq!(told, [u32::MAX]);
+        assert!(ended.unwrap_err().message().contains("at most 4,294,967,296 frames"));
+    }
+
     /// The reader hands on no frame that has no number.
     #[test]
-    fn the_reader_ends_where_numbers_do() {
+    fn several_jobs_end_where_numbers_do() {
         let (hand, outcomes) = channel();
         let mut crew = Crew::<u8>::new(MONO, error(), 1, hand);
-        let mut sources = sources("reader", MONO, 2);
-        let last = u64::from(u32::MAX);
-        assert!(crew.next(&mut sources, last, pair(&MONO)).unwrap());
+        let mut sources = near_the_end("several", 2);
+        assert!(crew.next(&mut sources, pair(&MONO)).unwrap());
         let (at, outcome) = outcomes.recv().unwrap();
-        assert_eq!((at, outcome_record(outcome).frame), (last, u32::MAX));
-        let fault = crew.next(&mut sources, last + 1, pair(&MONO)).unwrap_err();
+        assert_eq!((at, outcome_record(outcome).frame), (u64::from(u32::MAX), u32::MAX));
+        let fault = crew.next(&mut sources, pair(&MONO)).unwrap_err();
         assert!(fault.message.contains("at most 4,294,967,296 frames"), "{}", fault.message);
         drop(crew);
         assert!(outcomes.recv().is_err());

@@ -53,6 +53,13 @@ fn every_field_is_documented() {
     names(&Json::read(&run(&words!["where", &a, &b, "--json", "--map", &map]).out));
 }
 
+/// In the table of memory.
+#[test]
+fn the_size_of_a_record_is_documented() {
+    let told = format!("| {} for a record, ", std::mem::size_of::<fuavelino::Record>());
+    assert!(DOCUMENT.contains(&told), "docs/COMMAND.md has no {:?}", told);
+}
+
 #[test]
 fn every_command_is_documented() {
     let help = run(&["--help"]);
