@@ -41,11 +41,11 @@ enum Outcome<T> {
     Ended(Result<(), Fault>),
 }
 
-/// A frame's number with something of it. An end may stand past the last that records can have.
+/// A frame's number with something of it.
 type Numbered<V> = (u64, V);
 
-/// A pair of frames to be scored, with the number that its records are to have.
-type Asked<T> = (u32, Pair<T>);
+/// A pair of frames to be scored, with the number as its records are to have it.
+type Asked<T> = Numbered<(u32, Pair<T>)>;
 
 /// Reads and scores every frame, and tells each outcome in order, until the files end or something is wrong.
 pub fn each<T: Stored>(
@@ -124,7 +124,7 @@ impl<T: Stored> Crew<T> {
     /// Fills each pair that is lent, and ends with what ended the files.
     fn read(mut self, mut sources: [Source; 2], lent: &Receiver<Pair<T>>) {
         for (number, pair) in (0..).zip(lent.iter()) {
-            let ended = match self.next(&mut sources, pair) {
+            let ended = match self.next(&mut sources, number, pair) {
                 Ok(true) => continue,
                 Ok(false) => Ok(()),
                 Err(fault) => Err(fault),
@@ -135,13 +135,13 @@ impl<T: Stored> Crew<T> {
     }
 
     /// Reads a frame of each file and asks for its scores; there may be none.
-    fn next(&mut self, sources: &mut [Source; 2], mut pair: Pair<T>) -> Result<bool, Fault> {
-        let number = numbered(sources, &mut pair)?;
-        if let Some(number) = number {
+    fn next(&mut self, sources: &mut [Source; 2], number: u64, mut pair: Pair<T>) -> Result<bool, Fault> {
+        let more = numbered(sources, &mut pair)?;
+        if let Some(recorded) = more {
             self.grow()?;
-            let _ = self.ask.send((number, pair));
+            let _ = self.ask.send((number, (recorded, pair)));
         }
-        Ok(number.is_some())
+        Ok(more.is_some())
     }
 
     /// One thread more, until there are enough. Where no more can be had, fewer give the same report.
@@ -163,10 +163,10 @@ impl<T: Stored> Crew<T> {
 /// A job: scores what is asked, until nothing more is or nobody wants it.
 fn score<T: Stored>(asked: &Mutex<Receiver<Asked<T>>>, hand: &Sender<Numbered<Outcome<T>>>, mut scorer: Scorer) {
     let next = || asked.lock().ok().and_then(|asked| asked.recv().ok());
-    while let Some((number, pair)) = next() {
+    while let Some((number, (recorded, pair))) = next() {
         // a panic goes on where the frame is told, so that the command ends as with one job
-        let scored = catch_unwind(AssertUnwindSafe(|| scorer.frame(number, &pair[0], &pair[1])));
-        if hand.send((u64::from(number), Outcome::Scored(Box::new(scored), pair))).is_err() {
+        let scored = catch_unwind(AssertUnwindSafe(|| scorer.frame(recorded, &pair[0], &pair[1])));
+        if hand.send((number, Outcome::Scored(Box::new(scored), pair))).is_err() {
             break;
         }
     }
@@ -240,7 +240,7 @@ mod tests {
         let numbers = [7, 3, u32::MAX, 0, 4];
         for number in numbers {
             let frame = |first: u8| Frame { planes: vec![vec![first, 0, 0, 0]] };
-            ask.send((number, [frame(0), frame(number as u8)])).unwrap();
+            ask.send((u64::from(number), (number, [frame(0), frame(number as u8)]))).unwrap();
         }
         drop(ask);
         score(&Mutex::new(asked), &hand, Scorer::new(&MONO, error()));
@@ -277,10 +277,10 @@ mod tests {
         let (hand, outcomes) = channel();
         let mut crew = Crew::<u8>::new(MONO, error(), 1, hand);
         let mut sources = near_the_end("several", 2);
-        assert!(crew.next(&mut sources, pair(&MONO)).unwrap());
+        assert!(crew.next(&mut sources, 5, pair(&MONO)).unwrap());
         let (at, outcome) = outcomes.recv().unwrap();
-        assert_eq!((at, outcome_record(outcome).frame), (u64::from(u32::MAX), u32::MAX));
-        let fault = crew.next(&mut sources, pair(&MONO)).unwrap_err();
+        assert_eq!((at, outcome_record(outcome).frame), (5, u32::MAX));
+        let fault = crew.next(&mut sources, 6, pair(&MONO)).unwrap_err();
         assert!(fault.message.contains("at most 4,294,967,296 frames"), "{}", fault.message);
         drop(crew);
         assert!(outcomes.recv().is_err());
