@@ -120,16 +120,15 @@ pub mod tests {
 
     pub const MONO: Format = Format { width: 2, height: 2, depth: 8, chroma: Chroma::Cs400 };
 
-    /// Two raw files of so many frames; frame i of the second is off by i in its first sample.
-    pub fn sources(name: &str, format: Format, frames: u8) -> [Source; 2] {
+    /// Two raw files of so many such frames; frame i of the second is off by i in its first sample.
+    pub fn sources(name: &str, frames: u8) -> [Source; 2] {
         let room = env::temp_dir().join(format!("fuavelino-{}-{}", name, process::id()));
         fs::create_dir_all(&room).unwrap();
-        let size: usize = format.shapes().iter().map(|shape| shape.width * shape.height).sum();
         let made = [0, 1].map(|which| {
-            let frame = |number: u8| [vec![number * which], vec![0; size - 1]].concat();
+            let frame = |number: u8| [number * which, 0, 0, 0];
             let path = room.join(which.to_string());
             fs::write(&path, (0..frames).flat_map(frame).collect::<Vec<u8>>()).unwrap();
-            Source::open(&path, Some(format)).unwrap()
+            Source::open(&path, Some(MONO)).unwrap()
         });
         // what is open stays readable
         fs::remove_dir_all(&room).unwrap();
@@ -154,7 +153,7 @@ pub mod tests {
 
     /// Two files of which so many frames are left, after all but one of those that have a number.
     pub fn near_the_end(name: &str, left: u8) -> [Source; 2] {
-        let mut made = sources(name, MONO, left);
+        let mut made = sources(name, left);
         made.iter_mut().for_each(|source| source.read = u64::from(u32::MAX));
         made
     }

@@ -220,7 +220,7 @@ mod tests {
             // each run of a list begins anew
             for _ in 0..3 {
                 let mut told = Vec::new();
-                let ended = each::<u8>(sources(&format!("each-{}", jobs), MONO, 200), error(), jobs, |scored| {
+                let ended = each::<u8>(sources(&format!("each-{}", jobs), 200), error(), jobs, |scored| {
                     told.push(recorded(scored));
                     Ok(())
                 });
