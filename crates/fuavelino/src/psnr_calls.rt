@@ -33,8 +33,8 @@ fn put_record(answer: SquaredError, sq_err: &mut f64, n: &mut u64, sample_max: &
     }
 }
 
-// The squared error of two planes of bytes, its count of samples and their sample_max, written to the three places. With the frame and the plane
-// that it is told they are the record.
+// The squared error of two planes of bytes, its count of samples and their sample_max, written to the three places: the record, with the
+// frame and the plane that are told.
 #[no_mangle]
 pub extern "C" fn fuavelino_squared_error8(
     a: &[u8],
@@ -50,7 +50,8 @@ pub extern "C" fn fuavelino_squared_error8(
     n: &mut u64,
     sample_max: &mut u32,
 ) -> u8
-    ensures { λ r. ⌜ r ≡ errorNumber (squaredErrorOf (called false (a .entry) (b .entry) width height «stride_a» «stride_b» depth) frame plane) ⌝ }
+    ensures { λ r. ⌜ r ≡ errorNumber
+        (squaredErrorOf (called false (a .entry) (b .entry) width height «stride_a» «stride_b» depth) frame plane) ⌝ }
     ensures { λ _. ⌜ record { «sq_err» = now («sq_err» .exit); n = now (n .exit); «sample_max» = now («sample_max» .exit) }
         ≡ errorWritten (squaredErrorOf (called false (a .entry) (b .entry) width height «stride_a» «stride_b» depth) frame plane)
         (record { «sq_err» = now («sq_err» .entry); n = now (n .entry); «sample_max» = now («sample_max» .entry) }) ⌝ }
@@ -75,7 +76,8 @@ pub extern "C" fn fuavelino_squared_error16(
     n: &mut u64,
     sample_max: &mut u32,
 ) -> u8
-    ensures { λ r. ⌜ r ≡ errorNumber (squaredErrorOf (called true (a .entry) (b .entry) width height «stride_a» «stride_b» depth) frame plane) ⌝ }
+    ensures { λ r. ⌜ r ≡ errorNumber
+        (squaredErrorOf (called true (a .entry) (b .entry) width height «stride_a» «stride_b» depth) frame plane) ⌝ }
     ensures { λ _. ⌜ record { «sq_err» = now («sq_err» .exit); n = now (n .exit); «sample_max» = now («sample_max» .exit) }
         ≡ errorWritten (squaredErrorOf (called true (a .entry) (b .entry) width height «stride_a» «stride_b» depth) frame plane)
         (record { «sq_err» = now («sq_err» .entry); n = now (n .entry); «sample_max» = now («sample_max» .entry) }) ⌝ }

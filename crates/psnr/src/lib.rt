@@ -49,8 +49,8 @@ pub enum Summed {
     Refused(u8),
 }
 
-// A series so far, in whole numbers: how many records, what they add up to, and the last one's frame and plane. An error above TOTAL_LIMIT is
-// kept as one above it.
+// A series so far, in whole numbers: how many records, what they add up to, and the last one's frame and plane. An error above
+// TOTAL_LIMIT is kept as one above it.
 pub struct Tally {
     pub records: u64,
     pub error: u64,
@@ -60,7 +60,7 @@ pub struct Tally {
     pub plane: u32,
 }
 
-// No record yet; sound ones only; or a bad one or one too many among them.
+// No record yet; sound ones only; or one among them that is bad, out of order or too many.
 pub enum Run {
     Empty,
     Sound(Tally),

@@ -34,7 +34,7 @@ tallyMore t r =
       plane = r .plane;
     }
 
--- ---- the run: a record that is bad, or one too many, spoils it
+-- ---- the run: a record that is bad, out of order or one too many spoils it
 
 -- the first record rises whatever its frame and plane; any other has to come after the last
 unfoldable pub rises : Tally → Record → Bool
