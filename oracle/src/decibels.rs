@@ -8,8 +8,9 @@ use crate::decibels_ways::{Met, SHARP, WAYS};
 use crate::family::{add, all_seen, also, number, run, Family, Run};
 use crate::limits::SAMPLES;
 use crate::random::Random;
-use crate::series::{model, show, show_record, smaller, smaller_record, MOST_ERROR};
-use fuavelino::{no_alloc, PsnrMetrics as Record, Refusal};
+use crate::records::{bits, of, show, show_figures, smaller, smaller_figures, Whose, LAST, MOST_ERROR};
+use crate::series_rule::model;
+use fuavelino::{no_alloc, PsnrMetrics as Figures, Record, Refusal};
 
 /// What is left at both places: the hundredths, and whether it is identical.
 type Left = (u32, u8);
@@ -74,15 +75,15 @@ impl Decibels {
         }
     }
 
-    /// What the rules say: the answer, and both places afterwards. And the numbers that it is about.
-    fn wanted(&self, lent: &Lent) -> (u8, Left, Record) {
+    /// What the rules say: the answer, and both places afterwards. And the figures that it is about.
+    fn wanted(&self, lent: &Lent) -> (u8, Left, Figures) {
         let (summed, first) = match lent {
-            Lent::Run(records) => (model(records), records.first().copied().unwrap_or_default()),
+            Lent::Run(records) => (model(records), records.first().map(Record::metrics).unwrap_or_default()),
             Lent::Total(total) => (lawful(total).ok_or(RECORD), *total),
         };
         match summed {
             Ok((bits, n_pixels, sample_max)) => {
-                let total = Record { sq_err: f64::from_bits(bits), n_pixels, sample_max };
+                let total = Figures { sq_err: f64::from_bits(bits), n_pixels, sample_max };
                 (0, self.owed(total.sq_err, n_pixels, sample_max), total)
             }
             Err(refused) => (refused, BEFORE, first),
@@ -112,7 +113,7 @@ impl Decibels {
         let above = self.rule.is_above(p, e, d)?;
         self.seen.cases += 1;
         self.seen.above += u64::from(above);
-        self.seen.records += u64::from(above && met.records == Some(1));
+        self.seen.records += u64::from(above && met.count() == Some(1));
         let sides = &mut self.seen.sides[d as usize % PLACES];
         sides[0] |= e < p && self.rule.hundredths(p, e + 1) + 1 == d;
         sides[1] |= e > 1 && self.rule.hundredths(p, e - 1) == d + 1;
@@ -144,8 +145,8 @@ impl Decibels {
 }
 
 /// The numbers of a total that some series adds up to.
-fn lawful(total: &Record) -> Option<(u64, u64, u32)> {
-    let Record { sq_err, n_pixels, sample_max } = *total;
+fn lawful(total: &Figures) -> Option<(u64, u64, u32)> {
+    let Figures { sq_err, n_pixels, sample_max } = *total;
     let count = (1..=MOST_TOTAL).contains(&n_pixels);
     let max = (1..=12).any(|depth| u64::from(sample_max) == (1 << depth) - 1);
     let whole = sq_err.is_sign_positive() && sq_err.is_finite() && sq_err.fract() == 0.0;
@@ -161,7 +162,7 @@ fn of_run(records: &[Record]) -> (u8, Left) {
     (answer, (hundredths, identical))
 }
 
-fn of_total(total: Record) -> (u8, Left) {
+fn of_total(total: Figures) -> (u8, Left) {
     let (mut hundredths, mut identical) = BEFORE;
     let answer = number(no_alloc::total_decibels(total, &mut hundredths, &mut identical));
     (answer, (hundredths, identical))
@@ -189,9 +190,11 @@ fn run_agrees(records: &[Record], wanted: (u8, Left)) -> Result<(), String> {
     let copies = records.to_vec();
     same("of a run", of_run(&copies), wanted)?;
     same("of a run, by the function above", above(fuavelino::decibels(&copies)), wanted)?;
-    let bits = |r: &Record| (r.sq_err.to_bits(), r.n_pixels, r.sample_max);
     if !copies.iter().map(bits).eq(records.iter().map(bits)) {
         return Err("a record was altered".to_string());
+    }
+    if let [record] = records {
+        same("of a record, by the method above", above(record.hundredths()), wanted)?;
     }
     match fuavelino::series(records) {
         Ok(total) => same("of its total", of_total(total), wanted),
@@ -199,12 +202,19 @@ fn run_agrees(records: &[Record], wanted: (u8, Left)) -> Result<(), String> {
     }
 }
 
-/// Of a total: the call, the method above it, and that a run of this one record has the same, if a record may be so large.
-fn total_agrees(total: Record, wanted: (u8, Left)) -> Result<(), String> {
+/// Planes that a record may be of.
+const WHOSE: [Whose; 4] = [(0, 0), (1, 1), (1 << 31, 2), LAST];
+
+/// Of a total: the call, the method above it, and that a run of one record of it has the same, whatever its plane, if a record may be so large; and
+/// that plane 3 has none.
+fn total_agrees(total: Figures, wanted: (u8, Left)) -> Result<(), String> {
     same("of a total", of_total(total), wanted)?;
     same("of a total, by the method above", above(total.hundredths()), wanted)?;
     let alone = if total.n_pixels > SAMPLES { (RECORD, BEFORE) } else { wanted };
-    same("of a run of it", of_run(&[total]), alone)
+    for whose in WHOSE {
+        same("of a run of it", of_run(&[of(total, whose)]), alone)?;
+    }
+    same("of a run of it as plane 3", of_run(&[of(total, (0, 3))]), (RECORD, BEFORE))
 }
 
 impl Family for Decibels {
@@ -222,14 +232,14 @@ impl Family for Decibels {
         let records = match &case.lent {
             Lent::Run(records) => {
                 run_agrees(records, (answer, left))?;
-                Some(records.len())
+                Some(&records[..])
             }
             Lent::Total(total) => {
                 total_agrees(*total, (answer, left))?;
                 None
             }
         };
-        let Record { sq_err, n_pixels: n, sample_max: max } = about;
+        let Figures { sq_err, n_pixels: n, sample_max: max } = about;
         let (hundredths, identical) = left;
         self.count(&Met { records, sq_err, n, max, answer, hundredths, identical }, case.exact)?;
         Ok(answer)
@@ -242,7 +252,7 @@ impl Family for Decibels {
                 smaller(records).into_iter().map(|next| Case { lent: Lent::Run(next), exact }).collect()
             }
             Lent::Total(total) => {
-                smaller_record(total).into_iter().map(|next| Case { lent: Lent::Total(next), exact }).collect()
+                smaller_figures(total).into_iter().map(|next| Case { lent: Lent::Total(next), exact }).collect()
             }
         }
     }
@@ -250,7 +260,7 @@ impl Family for Decibels {
     fn show(&self, case: &Case) -> String {
         match &case.lent {
             Lent::Run(records) => format!("PSNR of {}", show(records)),
-            Lent::Total(total) => format!("PSNR of the total {}", show_record(total)),
+            Lent::Total(total) => format!("PSNR of the total {}", show_figures(total)),
         }
     }
 

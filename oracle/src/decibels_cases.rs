@@ -3,8 +3,9 @@
 use crate::decibels_rule::{ten, Rule, PLACES, SCALE};
 use crate::limits::SAMPLES;
 use crate::random::Random;
-use crate::series::{near_the_limit, sound, spoilt, KINDS, MOST_ERROR, MOST_RECORDS};
-use fuavelino::PsnrMetrics as Record;
+use crate::records::*;
+use crate::series_cases::damaged;
+use fuavelino::{PsnrMetrics as Figures, Record};
 
 /// The most samples of a series.
 pub const MOST_TOTAL: u64 = MOST_RECORDS as u64 * SAMPLES;
@@ -12,7 +13,7 @@ pub const MOST_TOTAL: u64 = MOST_RECORDS as u64 * SAMPLES;
 #[derive(Clone)]
 pub enum Lent {
     Run(Vec<Record>),
-    Total(Record),
+    Total(Figures),
 }
 
 #[derive(Clone)]
@@ -22,8 +23,8 @@ pub struct Case {
     pub exact: bool,
 }
 
-fn record(e: u128, n: u64, max: u32) -> Record {
-    Record { sq_err: e as u64 as f64, n_pixels: n, sample_max: max }
+fn figures(e: u128, n: u64, max: u32) -> Figures {
+    Figures { sq_err: e as u64 as f64, n_pixels: n, sample_max: max }
 }
 
 fn p_of(n: u64, max: u32) -> u128 {
@@ -34,14 +35,14 @@ fn max_of(depth: usize) -> u32 {
     (1 << depth) - 1
 }
 
-/// As a total, and as a run of it alone.
-fn both(record: Record) -> [Case; 2] {
-    [Lent::Total(record), Lent::Run(vec![record])].map(|lent| Case { lent, exact: false })
+/// As a total, and as a run of a record of it alone.
+fn both(figures: Figures) -> [Case; 2] {
+    [Lent::Total(figures), Lent::Run(in_turn(&[figures]))].map(|lent| Case { lent, exact: false })
 }
 
 /// The case with its bounds seen to.
-fn exactly(record: Record) -> Case {
-    let lent = if record.n_pixels > SAMPLES { Lent::Total(record) } else { Lent::Run(vec![record]) };
+fn exactly(figures: Figures) -> Case {
+    let lent = if figures.n_pixels > SAMPLES { Lent::Total(figures) } else { Lent::Run(in_turn(&[figures])) };
     Case { lent, exact: true }
 }
 
@@ -79,15 +80,45 @@ pub fn stated() -> Vec<Case> {
     let errors = errors.into_iter().flat_map(|e| [(e, MOST_TOTAL, 4_095), (e, 3, 255), (e, SAMPLES, 4_095)]);
     let all = numbers.into_iter().chain(past).chain(maxima).chain(errors);
     let mut list: Vec<Case> =
-        all.flat_map(|(sq_err, n_pixels, sample_max)| both(Record { sq_err, n_pixels, sample_max })).collect();
-    list.extend(counted().map(|run| Case { lent: Lent::Run(run), exact: false }));
+        all.flat_map(|(sq_err, n_pixels, sample_max)| both(Figures { sq_err, n_pixels, sample_max })).collect();
+    let runs = counted().map(|run| in_turn(&run)).chain(told_numbers()).chain(misnumbered());
+    list.extend(runs.map(|run| Case { lent: Lent::Run(run), exact: false }));
     list
 }
 
+/// One record and two, under numbers at both sides of what is taken.
+fn told_numbers() -> impl Iterator<Item = Vec<Record>> {
+    let numbers: [&[Whose]; 12] = [
+        &[(0, 2)],
+        &[(0, 3)],
+        &[LAST],
+        &[(u32::MAX, 3)],
+        &[(7, u32::MAX)],
+        &[(0, 2), (1, 0)],
+        &[(1, 0), (0, 2)],
+        &[(5, 1), (5, 1)],
+        &[(5, 1), (5, 2)],
+        &[(5, 2), (5, 1)],
+        &[(0, 0), LAST],
+        &[LAST, (0, 0)],
+    ];
+    let of_all = |e: u128| numbers.map(|list| list.iter().map(|w| of(figures(e, 3, 255), *w)).collect());
+    [25, 0].into_iter().flat_map(of_all).collect::<Vec<_>>().into_iter()
+}
+
+/// Runs of little error, of none, and of more than 2^53, with bad numbers of every kind at both ends and between.
+fn misnumbered() -> impl Iterator<Item = Vec<Record>> {
+    let most = u128::from(SAMPLES) * 4_095 * 4_095;
+    let runs = [figures(25, 3, 255), figures(0, 3, 255), figures(most, SAMPLES, 4_095)];
+    let kinds =
+        |run: Vec<Record>| (0..MISNUMBERED).flat_map(move |kind| [0, 4, 8].map(|at| damaged(&run, at, KINDS + kind)));
+    runs.into_iter().flat_map(move |figures| kinds(in_turn(&[figures; 9])))
+}
+
 /// Runs at the ends of how many records there may be, and of what they may come to.
-fn counted() -> impl Iterator<Item = Vec<Record>> {
-    let plain = record(25, 3, 255);
-    let full = |e: u64| record(u128::from(e), SAMPLES, 4_095);
+fn counted() -> impl Iterator<Item = Vec<Figures>> {
+    let plain = figures(25, 3, 255);
+    let full = |e: u64| figures(u128::from(e), SAMPLES, 4_095);
     let most = SAMPLES * 4_095 * 4_095;
     let counts = [0, 1, 2, MOST_RECORDS - 1, MOST_RECORDS, MOST_RECORDS + 1];
     let runs =
@@ -107,11 +138,11 @@ pub fn edges(rule: &Rule, r: &mut Random) -> Vec<Case> {
         let d = (PLACES * q + k) as u32;
         let (n, max) = (SAMPLES - r.next() % (SAMPLES / 2), r.pick(&[1, 3, 7]));
         let edge = rule.edge(p_of(n, max), d);
-        list.extend([edge - 1, edge, edge + 1].map(|e| exactly(record(e, n, max))));
+        list.extend([edge - 1, edge, edge + 1].map(|e| exactly(figures(e, n, max))));
         for (n, max) in [(SAMPLES - r.next() % 1_000_000, max_of(r.within(8, 12))), large(r)] {
             let edge = rule.edge(p_of(n, max), d);
             if edge > 1 && edge < u128::from(MOST_ERROR) {
-                let cases = [edge, edge - 1, edge + 1].map(|e| exactly(record(e, n, max)));
+                let cases = [edge, edge - 1, edge + 1].map(|e| exactly(figures(e, n, max)));
                 let seen = k % 5 == turn;
                 list.extend(cases.into_iter().enumerate().map(|(i, case)| Case { exact: seen && i == 0, ..case }));
             }
@@ -132,7 +163,7 @@ pub fn true_edges(rule: &Rule, r: &mut Random, count: usize) -> Vec<Case> {
         let (n, max) = (SAMPLES - r.next() % 1_000_000, max_of(r.within(10, 12)));
         let d = r.within(1, 1_500) as u32;
         let edge = rule.true_edge(p_of(n, max), d);
-        list.extend([edge, edge + 1].map(|e| exactly(record(e, n, max))));
+        list.extend([edge, edge + 1].map(|e| exactly(figures(e, n, max))));
     }
     list
 }
@@ -142,7 +173,7 @@ pub fn whole(rule: &Rule, r: &mut Random) -> Vec<Case> {
     let mut list = Vec::new();
     let mut about = |e: u128, n: u64, max: u32| {
         let lawful = |e: &u128| (1..=p_of(n, max).min(u128::from(MOST_ERROR))).contains(e);
-        list.extend([e - 1, e, e + 1].into_iter().filter(lawful).flat_map(|e| both(record(e, n, max))));
+        list.extend([e - 1, e, e + 1].into_iter().filter(lawful).flat_map(|e| both(figures(e, n, max))));
     };
     for (q, depth) in (0..=13).flat_map(|q| (1..=12).map(move |depth| (q, depth))) {
         let (m, max) = (1 + r.next() % (MOST_TOTAL / ten(q) as u64), max_of(depth));
@@ -171,14 +202,19 @@ pub fn whole(rule: &Rule, r: &mut Random) -> Vec<Case> {
 pub fn any(rule: &Rule, r: &mut Random) -> Case {
     let depth = r.within(1, 12);
     let lent = match r.below(12) {
-        0 => Lent::Run(vec![sound(r, depth as u32)]),
-        1 => Lent::Run(near_the_limit(r)),
+        0 => {
+            let figures = sound(r, depth as u32);
+            Lent::Run(numbered(r, &[figures]))
+        }
+        1 => {
+            let list = near_the_limit(r);
+            Lent::Run(numbered(r, &list))
+        }
         2 => Lent::Total(spoilt_total(rule, r)),
         3 => {
-            let mut run = any_run(rule, r, depth);
-            let at = r.below(run.len());
-            run[at] = spoilt(&run[at], r.below(KINDS));
-            Lent::Run(run)
+            let run = any_run(rule, r, depth);
+            let (at, kind) = (r.below(run.len()), r.below(KINDS + MISNUMBERED));
+            Lent::Run(damaged(&run, at, kind))
         }
         4..=7 => Lent::Run(any_run(rule, r, depth)),
         _ => Lent::Total(any_total(rule, r, depth)),
@@ -186,9 +222,9 @@ pub fn any(rule: &Rule, r: &mut Random) -> Case {
     Case { lent, exact: r.once_in(1_000) }
 }
 
-fn any_total(rule: &Rule, r: &mut Random, depth: usize) -> Record {
+fn any_total(rule: &Rule, r: &mut Random, depth: usize) -> Figures {
     let (n, max) = (1 + r.bits(44), max_of(depth));
-    record(error(rule, r, n, max), n, max)
+    figures(error(rule, r, n, max), n, max)
 }
 
 fn any_run(rule: &Rule, r: &mut Random, depth: usize) -> Vec<Record> {
@@ -201,7 +237,8 @@ fn any_run(rule: &Rule, r: &mut Random, depth: usize) -> Vec<Record> {
     let counts: Vec<u64> = (0..count).map(|_| 1 + r.bits(28)).collect();
     let max = max_of(depth);
     let e = error(rule, r, counts.iter().sum(), max);
-    shared(r, e, &counts, max)
+    let list = shared(r, e, &counts, max);
+    numbered(r, &list)
 }
 
 /// An error of so many samples: 1 and seldom 0, small, large, any, or where the ratio is a power of ten, a true power or an edge of the chart; or one
@@ -224,25 +261,25 @@ fn error(rule: &Rule, r: &mut Random, n: u64, max: u32) -> u128 {
 }
 
 /// The error shared among planes of so many samples each, as far as each has room for it.
-fn shared(r: &mut Random, mut e: u128, counts: &[u64], max: u32) -> Vec<Record> {
+fn shared(r: &mut Random, mut e: u128, counts: &[u64], max: u32) -> Vec<Figures> {
     let mut room: u128 = counts.iter().map(|n| p_of(*n, max)).sum();
     let mut share = |n: &u64| {
         room -= p_of(*n, max);
         let (least, most) = (e.saturating_sub(room), p_of(*n, max).min(e));
         let part = least + u128::from(r.next()) % (most - least + 1);
         e -= part;
-        record(part, *n, max)
+        figures(part, *n, max)
     };
     counts.iter().map(&mut share).collect()
 }
 
-fn spoilt_total(rule: &Rule, r: &mut Random) -> Record {
+fn spoilt_total(rule: &Rule, r: &mut Random) -> Figures {
     let depth = r.within(1, 12);
     let total = any_total(rule, r, depth);
     match r.below(KINDS + 3) {
-        0 => Record { n_pixels: MOST_TOTAL + 1 + r.bits(20), ..total },
-        1 => Record { n_pixels: MOST_TOTAL, sq_err: (MOST_ERROR + 2 + r.bits(20)) as f64, ..total },
-        2 => Record { n_pixels: r.next(), ..total },
+        0 => Figures { n_pixels: MOST_TOTAL + 1 + r.bits(20), ..total },
+        1 => Figures { n_pixels: MOST_TOTAL, sq_err: (MOST_ERROR + 2 + r.bits(20)) as f64, ..total },
+        2 => Figures { n_pixels: r.next(), ..total },
         kind => spoilt(&total, kind - 3),
     }
 }

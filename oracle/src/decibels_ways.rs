@@ -2,11 +2,14 @@
 //! rule, or if one of the sharp cases was not among its own.
 
 use crate::decibels_rule::{ten, tens, Rule, PLACES, SCALE};
+use crate::records::{whose, Whose, LAST};
+use crate::series_rule::summed;
+use fuavelino::Record;
 
 /// A call with its numbers, of a run of records those of its total, and what became of it.
-pub struct Met {
-    /// How many records were lent; none where it was a total.
-    pub records: Option<usize>,
+pub struct Met<'a> {
+    /// The records that were lent; none where it was a total.
+    pub records: Option<&'a [Record]>,
     pub sq_err: f64,
     pub n: u64,
     pub max: u32,
@@ -16,7 +19,12 @@ pub struct Met {
     pub identical: u8,
 }
 
-impl Met {
+impl Met<'_> {
+    /// How many records were lent.
+    pub fn count(&self) -> Option<usize> {
+        self.records.map(<[Record]>::len)
+    }
+
     pub fn e(&self) -> u128 {
         self.sq_err as u128
     }
@@ -45,11 +53,25 @@ impl Met {
     }
 
     fn total(&self, answer: u8) -> bool {
-        (self.answer, self.records) == (answer, None)
+        (self.answer, self.count()) == (answer, None)
     }
 
     fn run(&self, answer: u8, records: usize) -> bool {
-        (self.answer, self.records) == (answer, Some(records))
+        (self.answer, self.count()) == (answer, Some(records))
+    }
+
+    /// Whether records of these planes, which were sound but for that, had this answer.
+    fn of(&self, answer: u8, numbers: &[Whose]) -> bool {
+        let records = self.records.unwrap_or_default();
+        self.run(answer, numbers.len())
+            && summed(records).is_ok()
+            && records.iter().map(whose).eq(numbers.iter().copied())
+    }
+
+    /// Whether it was refused for its numbers where it would come to so much otherwise.
+    fn misnumbered(&self, otherwise: u8) -> bool {
+        let told = |records: &[Record]| summed(records).map_or_else(|refused| refused, |_| 0);
+        self.answer == 10 && self.records.map_or(false, |records| told(records) == otherwise)
     }
 }
 
@@ -146,7 +168,7 @@ const PLANE: u64 = 1 << 28;
 const LONGEST: u64 = 1 << 44;
 const MOST: f64 = 9_007_199_254_740_992.0;
 
-pub const SHARP: [Sharp; 34] = [
+pub const SHARP: [Sharp; 43] = [
     ("25 3 255, which is 3,892", |met| met.gave((25.0, 3, 255), Some(3_892))),
     ("E = P, which is 0", |met| met.e() == met.p() && met.answer == 0 && met.hundredths == 0 && met.identical == 0),
     ("P / E = 10, which is 1,000", |met| met.gave((1.0, 10, 1), Some(1_000))),
@@ -181,4 +203,15 @@ pub const SHARP: [Sharp; 34] = [
     ("65,536 records", |met| met.run(0, 65_536)),
     ("65,537 records", |met| met.run(10, 65_537)),
     ("a series above 2^53", |met| met.answer == 11),
+    ("a record of plane 2", |met| met.of(0, &[(0, 2)])),
+    ("a record of plane 3", |met| met.of(10, &[(0, 3)])),
+    ("the last plane of all", |met| met.of(0, &[LAST])),
+    ("a later frame after an earlier one", |met| met.of(0, &[(0, 2), (1, 0)])),
+    ("an earlier frame after a later one", |met| met.of(10, &[(1, 0), (0, 2)])),
+    ("one plane twice", |met| met.of(10, &[(5, 1), (5, 1)])),
+    ("an earlier plane after a later one", |met| met.of(10, &[(5, 2), (5, 1)])),
+    ("identical, but for numbers that fall", |met| {
+        met.misnumbered(0) && met.records.unwrap_or_default().iter().all(Record::is_identical)
+    }),
+    ("above 2^53, but for numbers that fall", |met| met.misnumbered(11)),
 ];

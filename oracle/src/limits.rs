@@ -7,3 +7,5 @@ pub const SIDE: usize = 16_384;
 pub const STRIDE: usize = 32_768;
 /// The most samples of a record.
 pub const SAMPLES: u64 = 268_435_456;
+/// The largest number of a plane in its frame.
+pub const PLANE: u32 = 2;

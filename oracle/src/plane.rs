@@ -1,7 +1,7 @@
 //! What a plane may be: the check of both widths, against the model.
 
 use crate::family::{also, number, run, Family, Run};
-use crate::limits::{SAMPLES, SIDE, STRIDE};
+use crate::limits::{PLANE, SAMPLES, SIDE, STRIDE};
 use crate::mapped::Mapped;
 use crate::model::{Check, Plane};
 use crate::random::Random;
@@ -19,8 +19,8 @@ pub fn compare(ask: Run) -> bool {
 
 /// The limits that the bindings name are those that every family expects.
 fn named() -> Result<(), String> {
-    let named = (fuavelino::MOST_SIDE, fuavelino::MOST_STRIDE, fuavelino::MOST_SAMPLES);
-    if named == (SIDE, STRIDE, SAMPLES) {
+    let named = (fuavelino::MOST_SIDE, fuavelino::MOST_STRIDE, fuavelino::MOST_SAMPLES, fuavelino::MOST_PLANE);
+    if named == (SIDE, STRIDE, SAMPLES, PLANE) {
         return Ok(());
     }
     Err(format!("{:?}", named))

@@ -8,7 +8,7 @@ mod plain;
 #[allow(dead_code)]
 mod random;
 
-use fuavelino::{no_alloc, Pair, Place, PlaneKind, PsnrMetrics, Sample, Shape, Tiles};
+use fuavelino::{no_alloc, Pair, Place, PlaneKind, PsnrMetrics, Record, Sample, Shape, Tiles};
 use published::plane::Plane;
 use published::video::pixel::Pixel;
 use published::video::{psnr, psnr_hvs, ssim};
@@ -109,19 +109,21 @@ fn decibels() {
     let mut any = || {
         let (n_pixels, sample_max) = (1 + r.bits(28), (1 << r.within(1, 12)) - 1);
         let most = n_pixels * u64::from(sample_max) * u64::from(sample_max);
-        PsnrMetrics { sq_err: (1 + r.bits(53) % most) as f64, n_pixels, sample_max }
+        Record { sq_err: (1 + r.bits(53) % most) as f64, n_pixels, sample_max, frame: 0, plane: 0 }
     };
-    let list: Vec<PsnrMetrics> = (0..20_000).map(|_| any()).collect();
+    let list: Vec<Record> = (0..20_000).map(|frame| Record { frame, ..any() }).collect();
     let other = || {
         for record in &list {
-            let PsnrMetrics { sq_err, n_pixels, sample_max } = black_box(*record);
+            let PsnrMetrics { sq_err, n_pixels, sample_max } = black_box(*record).metrics();
             black_box(psnr::probe_decibels((sq_err, n_pixels as usize, sample_max as usize)));
         }
     };
-    type Call = fn(PsnrMetrics, &mut u32, &mut u8) -> Result<(), fuavelino::Refusal>;
+    type Call = fn(Record, &mut u32, &mut u8) -> Result<(), fuavelino::Refusal>;
     let calls: [(&str, Call); 2] = [
         ("one record", |record, hundredths, identical| no_alloc::decibels(&[record], hundredths, identical)),
-        ("one total", no_alloc::total_decibels),
+        ("one total", |record, hundredths, identical| {
+            no_alloc::total_decibels(record.metrics(), hundredths, identical)
+        }),
     ];
     for (what, call) in calls {
         let product = || {
@@ -230,8 +232,8 @@ fn squared<T: Sample + Pixel>(scene: &Scene<T>) {
 fn run_squared<T: Sample + Pixel>(scene: &Scene<T>) -> impl FnMut() + '_ {
     let [x, y] = scene.lent();
     move || {
-        let mut record = PsnrMetrics::default();
-        assert_eq!(no_alloc::squared_error(x, y, black_box(scene.shape), &mut record), Ok(()));
+        let mut record = Record::default();
+        assert_eq!(no_alloc::squared_error(x, y, black_box(scene.shape), 0, 0, &mut record), Ok(()));
         black_box(record);
     }
 }

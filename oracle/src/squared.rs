@@ -1,100 +1,164 @@
 //! Squared error of both widths: the published record of the unpadded copies, and the model's refusals.
 
-use crate::family::{also, number, run, Family, Run};
+use crate::family::{add, all_seen, also, number, run, Family, Run};
 use crate::limits::{SAMPLES, SIDE, STRIDE};
 use crate::mapped::Mapped;
-use crate::plane;
+use crate::plane::{any, less};
 use crate::random::Random;
+use crate::records::{bits, Whose, LAST};
 use crate::samples::{sound, sound_of, Pair};
-use fuavelino::{no_alloc, PsnrMetrics, Sample};
+use crate::squared_ways::{Met, SHARP, WAYS};
+use fuavelino::{no_alloc, Record, Sample};
 use published::plane::Plane;
 use published::video::pixel::Pixel;
 use published::video::psnr;
 
-/// What is left at the three places: the error's bits, n, sample_max.
-type Left = (u64, u64, u32);
+/// What is left of a record: the error's bits, n, sample_max, frame, plane.
+type Left = (u64, u64, u32, u32, u32);
 
-/// What they hold before a call, and must hold after a refusal.
-const BEFORE: Left = (0x7FF4_DEAD_BEEF_0001, 0x0123_4567_89AB_CDEF, 0xFEED_F00D);
+/// What it holds before a call, and must hold after a refusal.
+const BEFORE: Left = (0x7FF4_DEAD_BEEF_0001, 0x0123_4567_89AB_CDEF, 0xFEED_F00D, 0xDEAD_0005, 0xBEEF_0006);
 
 /// 16,384² × 4,095², the largest error of one plane: below 2^53.
 const LARGEST: u64 = 4_501_400_872_550_400;
 
 pub fn compare(ask: Run) -> bool {
     let cases = if ask.full { 1_000_000 } else { 200_000 };
-    run("squared", &mut Errors { listed: listed() }, cases, ask)
+    let mut family = Errors { listed: listed(), ways: [0; WAYS.len()], sharp: [0; SHARP.len()] };
+    run("squared", &mut family, cases, ask)
+        && also("squared: every way told from the rule, every sharp case met", || family.enough())
         && also("squared: 16,384 by 16,384 at depth 12, with the largest error", largest)
         && (!ask.full || also("squared: the published record of such planes", largest_published))
 }
 
+/// Two planes, and whose they are said to be.
+#[derive(Clone)]
+struct Case {
+    pair: Pair,
+    whose: Whose,
+}
+
+impl Case {
+    /// The lowest of 1 to 6 that applies; 10 where none does and the plane is not 0, 1 or 2; or 0.
+    fn refusal(&self) -> u8 {
+        match self.pair.refusal(0) {
+            0 if ![0, 1, 2].contains(&self.whose.1) => 10,
+            refused => refused,
+        }
+    }
+}
+
 struct Errors {
-    listed: Vec<Pair>,
+    listed: Vec<Case>,
+    /// How many cases told each way from the rule, and were each of the sharp ones.
+    ways: [u64; WAYS.len()],
+    sharp: [u64; SHARP.len()],
+}
+
+impl Errors {
+    fn enough(&self) -> Result<(), String> {
+        all_seen(WAYS.iter().map(|way| way.0).collect(), &self.ways, "tells the rule from")?;
+        all_seen(SHARP.iter().map(|sharp| sharp.0).collect(), &self.sharp, "is")
+    }
 }
 
 impl Family for Errors {
-    type Case = Pair;
+    type Case = Case;
 
-    fn case(&self, number: u64, r: &mut Random) -> Pair {
-        match self.listed.get(number as usize) {
-            Some(pair) => pair.clone(),
-            None if r.once_in(4) => Pair::of(&plane::any(r, 0)),
-            None => {
-                let (width, height) = sides(r);
-                sound(r, width, height)
-            }
+    fn case(&self, number: u64, r: &mut Random) -> Case {
+        if let Some(case) = self.listed.get(number as usize) {
+            return case.clone();
         }
+        let pair = if r.once_in(4) {
+            Pair::of(&any(r, 0))
+        } else {
+            let (width, height) = sides(r);
+            sound(r, width, height)
+        };
+        Case { pair, whose: whose(r) }
     }
 
-    fn judge(&mut self, p: &Pair) -> Result<u8, String> {
-        let (answer, left) =
-            if p.wide { p.lend(|s| s, |a, b| asked(p, a, b))? } else { p.lend(|s| s as u8, |a, b| asked(p, a, b))? };
-        let wanted = match p.refusal(0) {
-            0 if p.wide => (0, record(&p.unpadded(|s| s), p.depth)),
-            0 => (0, record(&p.unpadded(|s| s as u8), p.depth)),
+    fn judge(&mut self, c: &Case) -> Result<u8, String> {
+        let p = &c.pair;
+        let (said, above) =
+            if p.wide { p.lend(|s| s, |a, b| asked(c, a, b))? } else { p.lend(|s| s as u8, |a, b| asked(c, a, b))? };
+        let wanted = match c.refusal() {
+            0 if p.wide => (0, record(&p.unpadded(|s| s), p.depth, c.whose)),
+            0 => (0, record(&p.unpadded(|s| s as u8), p.depth, c.whose)),
             refused => (refused, BEFORE),
         };
-        if (answer, left) == wanted {
-            return Ok(answer);
-        }
-        let error = |bits: u64| f64::from_bits(bits);
-        let (now, then) = (left, wanted.1);
-        Err(format!(
-            "answered {} and left {} ({:#018X}) {} {}, not {} and {} ({:#018X}) {} {}",
-            answer,
-            error(now.0),
-            now.0,
-            now.1,
-            now.2,
-            wanted.0,
-            error(then.0),
-            then.0,
-            then.1,
-            then.2
-        ))
+        same("answered", said, wanted)?;
+        same("the function above answered", above.unwrap_or(wanted), wanted)?;
+        let met = Met { planes: p.refusal(0), whose: c.whose, answer: said.0 };
+        add(&mut self.ways, WAYS.iter().map(|way| way.1(&met) != said.0));
+        add(&mut self.sharp, SHARP.iter().map(|sharp| sharp.1(&met)));
+        Ok(said.0)
     }
 
-    fn smaller(&self, p: &Pair) -> Vec<Pair> {
-        p.smaller()
+    fn smaller(&self, c: &Case) -> Vec<Case> {
+        let (frame, plane) = c.whose;
+        let frames = less(frame as usize).into_iter().map(|frame| (frame as u32, plane));
+        let planes = less(plane as usize).into_iter().map(|plane| (frame, plane as u32));
+        let mut list: Vec<Case> = frames.chain(planes).map(|whose| Case { whose, ..c.clone() }).collect();
+        list.extend(c.pair.smaller().into_iter().map(|pair| Case { pair, ..*c }));
+        list
     }
 
-    fn show(&self, p: &Pair) -> String {
-        p.show()
+    fn show(&self, c: &Case) -> String {
+        format!("{}\n    as those of frame {}, plane {}", c.pair.show(), c.whose.0, c.whose.1)
     }
 
     fn answers(&self) -> Vec<u8> {
-        vec![0, 1, 2, 4, 5, 6]
+        vec![0, 1, 2, 4, 5, 6, 10]
     }
 }
 
-fn asked<T: Sample>(p: &Pair, a: &[T], b: &[T]) -> (u8, Left) {
-    let mut out = PsnrMetrics { sq_err: f64::from_bits(BEFORE.0), n_pixels: BEFORE.1, sample_max: BEFORE.2 };
-    let answer = number(no_alloc::squared_error(p.plane(0, a), p.plane(1, b), p.shape(), &mut out));
-    (answer, (out.sq_err.to_bits(), out.n_pixels, out.sample_max))
+/// Frames at the ends and any; planes that there are, and now and then others, that a narrower or a signed number would take.
+fn whose(r: &mut Random) -> Whose {
+    let (frame, plane) = (r.next() as u32, r.next() as u32);
+    let frame = r.pick(&[0, 1, u32::MAX, frame, frame]);
+    let known = r.below(3) as u32;
+    let odd = [3, 3, 4, 1 << 31 | known, u32::MAX, 256 | known, 1 << 16 | known, plane];
+    (frame, if r.once_in(6) { r.pick(&odd) } else { known })
 }
 
-fn record<T: Pixel>(planes: &[Plane<T>; 2], depth: u32) -> Left {
+type Answer = (u8, Left);
+
+/// The answer, and what is left of the record; and where there are few samples, what the function above says.
+fn asked<T: Sample>(c: &Case, a: &[T], b: &[T]) -> (Answer, Option<Answer>) {
+    let (a, b, shape, (frame, plane)) = (c.pair.plane(0, a), c.pair.plane(1, b), c.pair.shape(), c.whose);
+    let mut out = before();
+    let answer = number(no_alloc::squared_error(a, b, shape, frame, plane, &mut out));
+    let above = || match fuavelino::squared_error(a, b, shape, frame, plane) {
+        Ok(record) => (0, bits(&record)),
+        Err(refusal) => (refusal.number(), BEFORE),
+    };
+    ((answer, bits(&out)), (a.data.len().max(b.data.len()) < 1_000).then(above))
+}
+
+fn before() -> Record {
+    let (error, n_pixels, sample_max, frame, plane) = BEFORE;
+    Record { sq_err: f64::from_bits(error), n_pixels, sample_max, frame, plane }
+}
+
+fn same(what: &str, said: Answer, wanted: Answer) -> Result<(), String> {
+    if said == wanted {
+        return Ok(());
+    }
+    let show = |(answer, left): Answer| match left {
+        BEFORE => format!("{} and left all as it was", answer),
+        (error, n, max, frame, plane) => {
+            let error = format!("{} ({:#018X})", f64::from_bits(error), error);
+            format!("{} and left {} {} {} of frame {}, plane {}", answer, error, n, max, frame, plane)
+        }
+    };
+    Err(format!("{} {}, not {}", what, show(said), show(wanted)))
+}
+
+/// The published record, said to be of this plane of this frame.
+fn record<T: Pixel>(planes: &[Plane<T>; 2], depth: u32, (frame, plane): Whose) -> Left {
     let (error, n, max) = psnr::probe_record(&planes[0], &planes[1], depth as usize);
-    (error.to_bits(), n as u64, max as u32)
+    (error.to_bits(), n as u64, max as u32, frame, plane)
 }
 
 fn sides(r: &mut Random) -> (usize, usize) {
@@ -109,9 +173,44 @@ fn sides(r: &mut Random) -> (usize, usize) {
     }
 }
 
+/// The pairs of planes, each as plane 2 of the last frame, as plane 3, or as any; and planes with one thing wrong, as each of some planes.
+fn listed() -> Vec<Case> {
+    let mut r = Random::of(0, "squared error, numbers", 0);
+    let mut list: Vec<Case> = Vec::new();
+    for pair in pairs() {
+        let any = whose(&mut r);
+        let whose = r.pick(&[LAST, (0, 3), any]);
+        list.push(Case { pair, whose });
+    }
+    let numbers = [(0, 0), (0, 1), (0, 2), (0, 3), (7, 3), (u32::MAX, 3), LAST, (0, 1 << 31), (0, u32::MAX), (1, 256)];
+    let of_all = |pair: Pair| numbers.map(|whose| Case { pair: pair.clone(), whose });
+    list.extend(wrong().into_iter().flat_map(of_all));
+    list
+}
+
+/// Planes of either width that are sound, and that 1, 2, 4, 5 or 6 alone is about, of either plane.
+fn wrong() -> Vec<Pair> {
+    let mut list = Vec::new();
+    for depth in [7, 10] {
+        let sound = Pair::plain(depth, 3, [vec![1; 6], vec![2; 6]]);
+        list.push(sound.clone());
+        list.push(Pair { depth: 0, ..sound.clone() });
+        list.push(Pair { width: 0, ..sound.clone() });
+        list.push(Pair { height: SIDE + 1, ..sound.clone() });
+        for i in 0..2 {
+            let mut odd = [(); 3].map(|()| sound.clone());
+            odd[0].strides[i] = 2;
+            odd[1].samples[i].pop();
+            odd[2].samples[i][5] = 1 << depth;
+            list.extend(odd);
+        }
+    }
+    list
+}
+
 /// Sides and strides at their limits and one past them, and about the limits that were, at every depth; the largest
 /// error of each.
-fn listed() -> Vec<Pair> {
+fn pairs() -> Vec<Pair> {
     let mut r = Random::of(0, "squared error, listed", 0);
     let mut list = Vec::new();
     for depth in 1..=12u32 {
@@ -175,21 +274,14 @@ fn at_width(depth: u32, width: usize) -> Vec<Pair> {
 /// The largest planes of the largest error that there is, either way round, at the least and at the largest stride:
 /// accepted and exact. The padding would be refused if it were read. The zeros are pages that nobody writes.
 fn largest() -> Result<(), String> {
-    let wanted = (0, ((LARGEST as f64).to_bits(), SAMPLES, 4_095));
+    let wanted = (0, ((LARGEST as f64).to_bits(), SAMPLES, 4_095, u32::MAX, 2));
     for stride in [SIDE, STRIDE] {
         let len = stride * (SIDE - 1) + SIDE;
         let row = [vec![4_095; SIDE], vec![u16::MAX; stride - SIDE]].concat();
         let bright = Mapped::new(&row, &row, SIDE).map_err(|e| format!("nothing mapped: {}", e))?;
         let (bright, zeros) = (&bright[..len], &vec![0u16; len][..]);
         for (a, b) in [(bright, zeros), (zeros, bright)] {
-            let (answer, left) = asked(&widest(stride), a, b);
-            if (answer, left) != wanted {
-                let error = f64::from_bits(left.0);
-                return Err(format!(
-                    "at stride {} answered {} and left {} {} {}",
-                    stride, answer, error, left.1, left.2
-                ));
-            }
+            same(&format!("at stride {}", stride), asked(&widest(stride), a, b).0, wanted)?;
         }
     }
     Ok(())
@@ -198,15 +290,13 @@ fn largest() -> Result<(), String> {
 /// The published record of planes of the largest error, which has no padding and is all in memory.
 fn largest_published() -> Result<(), String> {
     let planes = [4_095u16, 0].map(|sample| Plane::new(vec![sample; SIDE * SIDE], SIDE, SIDE));
-    let (error, n, max) = record(&planes, 12);
-    let error = f64::from_bits(error);
-    if (error, n, max) == (LARGEST as f64, SAMPLES, 4_095) {
-        return Ok(());
-    }
-    Err(format!("the published record is {} {} {}", error, n, max))
+    let wanted = (0, ((LARGEST as f64).to_bits(), SAMPLES, 4_095, 0, 0));
+    same("the published record:", (0, record(&planes, 12, (0, 0))), wanted)
 }
 
 /// Planes of the largest sides, whose samples stand elsewhere.
-fn widest(stride: usize) -> Pair {
-    Pair { wide: true, depth: 12, width: SIDE, height: SIDE, strides: [stride; 2], samples: [vec![], vec![]] }
+fn widest(stride: usize) -> Case {
+    let samples = [vec![], vec![]];
+    let pair = Pair { wide: true, depth: 12, width: SIDE, height: SIDE, strides: [stride; 2], samples };
+    Case { pair, whose: LAST }
 }

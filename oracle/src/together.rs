@@ -15,7 +15,7 @@ use fuavelino::video::psnr::calculate_frame_psnr;
 use fuavelino::video::psnr_hvs::calculate_frame_psnr_hvs;
 use fuavelino::video::ssim::{calculate_frame_msssim_with, calculate_frame_ssim_with, product};
 use fuavelino::video::{self, ChromaSampling, Field, MetricsError, PlanarMetrics};
-use fuavelino::{Kernel, PlaneKind, PsnrMetrics, Refusal, Sample, Scratch};
+use fuavelino::{Kernel, PlaneKind, Record, Refusal, Sample, Scratch};
 use published::frame::Frame;
 use published::plane::Plane;
 use published::prelude::ChromaSampling as Published;
@@ -93,9 +93,10 @@ fn of_height(height: usize) -> Result<usize, String> {
     Ok(most)
 }
 
-/// Two frames: one pair of planes, or three, all of one depth.
+/// Two frames of one number: one pair of planes, or three, all of one depth.
 #[derive(Clone)]
 struct Case {
+    frame: u32,
     sampling: usize,
     planes: Vec<Pair>,
 }
@@ -119,7 +120,8 @@ impl Family for Frames {
             ChromaSampling::Cs400 => vec![],
         };
         let all = [(width, height)].into_iter().chain(chroma);
-        Case { sampling, planes: all.map(|(w, h)| sound_of(r, depth, w, h)).collect() }
+        let planes = all.map(|(w, h)| sound_of(r, depth, w, h)).collect();
+        Case { frame: number as u32, sampling, planes }
     }
 
     fn judge(&mut self, c: &Case) -> Result<u8, String> {
@@ -133,7 +135,7 @@ impl Family for Frames {
     fn smaller(&self, c: &Case) -> Vec<Case> {
         let mut list = Vec::new();
         if c.planes.len() > 1 {
-            list.extend(c.planes.iter().map(|pair| Case { sampling: 3, planes: vec![pair.clone()] }));
+            list.extend(c.planes.iter().map(|pair| Case { sampling: 3, planes: vec![pair.clone()], ..*c }));
         }
         let sound = |next: &Pair| next.depth == c.planes[0].depth && next.refusal(0) == 0;
         for i in 0..c.planes.len() {
@@ -148,7 +150,7 @@ impl Family for Frames {
 
     fn show(&self, c: &Case) -> String {
         let planes: Vec<String> = c.planes.iter().map(Pair::show).collect();
-        format!("{:?} of\n  {}", SAMPLINGS[c.sampling].0, planes.join("\n  "))
+        format!("frame {}, {:?} of\n  {}", c.frame, SAMPLINGS[c.sampling].0, planes.join("\n  "))
     }
 
     /// 0 where there is nothing to settle; else the last of what was met.
@@ -196,7 +198,7 @@ type Figures = Result<[u64; 4], MetricsError>;
 
 /// The published scores of the planes, with which the product's agree.
 struct Scores {
-    records: Vec<PsnrMetrics>,
+    records: Vec<Record>,
     ssim: Vec<f64>,
     /// None where a side is below the least.
     products: Vec<Option<f64>>,
@@ -215,7 +217,7 @@ fn planes<T: Sample + Pixel + PartialEq>(
         let said = p.lend(narrow, |a, b| {
             let (a, b, shape) = (p.plane(0, a), p.plane(1, b), p.shape());
             same("check", fuavelino::check(a, b, shape, 0), Ok(()))?;
-            let record = fuavelino::squared_error(a, b, shape);
+            let record = fuavelino::squared_error(a, b, shape, c.frame, KINDS[i].number());
             let pair =
                 fuavelino::ssim(a, b, shape, &kernel, scratch).map(|pair| [pair.ssim, pair.cs].map(f64::to_bits));
             let five = fuavelino::msssim(a, b, shape, scratch).map(|five| bits(product(&five)));
@@ -223,7 +225,7 @@ fn planes<T: Sample + Pixel + PartialEq>(
             Ok((record, pair, five, score))
         })?;
         let (record, pair, five, score) = said.map_err(|why: String| format!("plane {}: {}", i, why))?;
-        scores.records.push(published_record(p, &copies));
+        scores.records.push(Record { frame: c.frame, plane: i as u32, ..published_record(p, &copies) });
         same("squared error", record, Ok(scores.records[i]))?;
         let taps: Vec<i64> = kernel.taps().iter().map(|t| i64::from(*t)).collect();
         same("kernel", &taps, &ssim::probe_kernel(p.height as f64 * 1.5 / 256.0, p.width.min(p.height), 256))?;
@@ -259,9 +261,10 @@ pub fn same<T: PartialEq + std::fmt::Debug>(what: &str, ours: T, theirs: T) -> R
     }
 }
 
-fn published_record<T: Pixel>(p: &Pair, copies: &[Plane<T>; 2]) -> PsnrMetrics {
+/// The published record, which does not say whose it is.
+fn published_record<T: Pixel>(p: &Pair, copies: &[Plane<T>; 2]) -> Record {
     let (sq_err, n, max) = psnr::probe_record(&copies[0], &copies[1], p.depth as usize);
-    PsnrMetrics { sq_err, n_pixels: n as u64, sample_max: max as u32 }
+    Record { sq_err, n_pixels: n as u64, sample_max: max as u32, ..Record::default() }
 }
 
 /// Three scores as they are combined: what is not there weighs nothing.
