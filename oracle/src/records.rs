@@ -204,7 +204,7 @@ fn disorder(records: &mut [Record], at: usize, kind: usize) {
 pub fn smaller(records: &[Record]) -> Vec<Vec<Record>> {
     let count = records.len();
     let mut list: Vec<_> =
-        less(count).into_iter().flat_map(|n| [records[..n].to_vec(), records[count - n..].to_vec()]).collect();
+        lower(count).into_iter().flat_map(|n| [records[..n].to_vec(), records[count - n..].to_vec()]).collect();
     let plain = Figures { sq_err: 0.0, n_pixels: 1, sample_max: 1 };
     let all = [records.iter().map(|r| of(plain, whose(r))).collect(), closer(records)];
     list.extend(all.into_iter().filter(|next: &Vec<Record>| !next.iter().map(bits).eq(records.iter().map(bits))));
@@ -232,8 +232,22 @@ fn closer(records: &[Record]) -> Vec<Record> {
 fn smaller_record(record: &Record) -> Vec<Record> {
     let mut list: Vec<Record> =
         smaller_figures(&record.metrics()).into_iter().map(|figures| of(figures, whose(record))).collect();
-    list.extend(less(record.frame as usize).into_iter().map(|frame| Record { frame: frame as u32, ..*record }));
-    list.extend(less(record.plane as usize).into_iter().map(|plane| Record { plane: plane as u32, ..*record }));
+    list.extend(smaller_whose(whose(record)).into_iter().map(|whose| of(record.metrics(), whose)));
+    list
+}
+
+pub fn smaller_whose((frame, plane): Whose) -> Vec<Whose> {
+    let frames = lower(frame as usize).into_iter().map(|frame| (frame as u32, plane));
+    let planes = lower(plane as usize).into_iter().map(|plane| (frame, plane as u32));
+    frames.chain(planes).collect()
+}
+
+/// Smaller numbers, ever nearer to this one: a limit far from 0 and from its half is soon come to by them.
+fn lower(n: usize) -> Vec<usize> {
+    let mut list = vec![0, 1];
+    list.extend((1..32).map(|by| n - (n >> by)).chain(n.checked_sub(1)));
+    list.retain(|m| *m < n);
+    list.dedup();
     list
 }
 

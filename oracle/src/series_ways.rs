@@ -48,7 +48,7 @@ impl Met<'_> {
         }
     }
 
-    /// Whether all of these, and no others, are refused for their numbers alone.
+    /// Whether it is refused for its numbers alone, and this is found in them.
     fn misnumbered(&self, found: impl Fn(&[Record]) -> bool) -> bool {
         self.answer == 10 && self.summed.is_ok() && found(self.records)
     }

@@ -3,9 +3,9 @@
 use crate::family::{add, all_seen, also, number, run, Family, Run};
 use crate::limits::{SAMPLES, SIDE, STRIDE};
 use crate::mapped::Mapped;
-use crate::plane::{any, less};
+use crate::plane::any;
 use crate::random::Random;
-use crate::records::{bits, Whose, LAST};
+use crate::records::{bits, smaller_whose, Whose, LAST};
 use crate::samples::{sound, sound_of, Pair};
 use crate::squared_ways::{Met, SHARP, WAYS};
 use fuavelino::{no_alloc, Record, Sample};
@@ -96,10 +96,7 @@ impl Family for Errors {
     }
 
     fn smaller(&self, c: &Case) -> Vec<Case> {
-        let (frame, plane) = c.whose;
-        let frames = less(frame as usize).into_iter().map(|frame| (frame as u32, plane));
-        let planes = less(plane as usize).into_iter().map(|plane| (frame, plane as u32));
-        let mut list: Vec<Case> = frames.chain(planes).map(|whose| Case { whose, ..c.clone() }).collect();
+        let mut list: Vec<Case> = smaller_whose(c.whose).into_iter().map(|whose| Case { whose, ..c.clone() }).collect();
         list.extend(c.pair.smaller().into_iter().map(|pair| Case { pair, ..*c }));
         list
     }
