@@ -1,7 +1,7 @@
 //! What a series comes to by SCOPE, "When the desk says no" and "Squared error", in wide whole numbers. Records are judged by their figures and,
 //! apart from these, by their numbers.
 
-use crate::limits::SAMPLES;
+use crate::limits::{PLANE, SAMPLES};
 use crate::records::{whose, Whose, MOST_ERROR, MOST_RECORDS};
 use fuavelino::Record;
 
@@ -61,7 +61,7 @@ pub fn rises(records: &[Record]) -> bool {
     if numbers.len() <= FEW {
         assert_eq!(rising, every_pair(&numbers), "the rule of order and its pairs do not agree");
     }
-    rising && numbers.iter().all(|(_, plane)| [0, 1, 2].contains(plane))
+    rising && numbers.iter().all(|(_, plane)| (0..=PLANE).contains(plane))
 }
 
 /// No two are of one frame and plane, and none stands before one that is of an earlier frame, or of an earlier plane of its frame.

@@ -1,7 +1,7 @@
 //! Squared error of both widths: the published record of the unpadded copies, and the model's refusals.
 
 use crate::family::{add, all_seen, also, number, run, Family, Run};
-use crate::limits::{SAMPLES, SIDE, STRIDE};
+use crate::limits::{PLANE, SAMPLES, SIDE, STRIDE};
 use crate::mapped::Mapped;
 use crate::plane::any;
 use crate::random::Random;
@@ -42,7 +42,7 @@ impl Case {
     /// The lowest of 1 to 6 that applies; 10 where none does and the plane is not 0, 1 or 2; or 0.
     fn refusal(&self) -> u8 {
         match self.pair.refusal(0) {
-            0 if ![0, 1, 2].contains(&self.whose.1) => 10,
+            0 if !(0..=PLANE).contains(&self.whose.1) => 10,
             refused => refused,
         }
     }
