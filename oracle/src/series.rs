@@ -19,7 +19,7 @@ pub fn compare(ask: Run) -> bool {
         && also("series: every way told from the rule, every sharp case met", || family.enough())
         && also("series: 1, 2, 3 and more records of the largest error, and 65,536 of none", stated)
         && also("series: a run bad in one record, at every place", || laws::every_place(ask))
-        && also("series: renumbered, cut, thinned out, turned round, two exchanged", || laws::hold(ask))
+        && also("series: renumbered, cut, thinned out, turned round, two exchanged, one twice", || laws::hold(ask))
 }
 
 /// The error and the count of a series, or its refusal.

@@ -81,6 +81,9 @@ fn law_of(r: &mut Random, records: &[Record]) -> Result<(), Broken> {
     let mut next = records.to_vec();
     next.swap(r.below(at), at);
     told(&next, Err(10)).map_err(|why| ("two exchanged", why))?;
+    let mut next = records.to_vec();
+    next.insert(r.within(at, records.len()), records[at - 1]);
+    told(&next, Err(10)).map_err(|why| ("one twice", why))?;
     // the figures may change places, if the numbers do not
     let turned: Vec<Record> = records.iter().rev().zip(records).map(|(r, at)| of(r.metrics(), whose(at))).collect();
     same(asked(&turned), (answer, left)).map_err(|why| ("figures turned round", shown(why)))
