@@ -6,10 +6,9 @@ use mathlib.Core.List.{List, [], _∷_, map}
 use Prim.Native.Nat.{ℕ, zero, suc, _+_, _*_, _≤_}
 use native.Mathlib.Nat.{add-zero, le-trans, le-of-lt}
 use native.Mathlib.Omega.{arith}
-use borrow.Author.Tests.{le-leb, leb-true, eq-eqb}
+use borrow.Author.Tests.{le-leb, eq-eqb}
 use lib.Dec.{leb}
 use Rattle.refusal.specs.First.{byRefusal}
-use Rattle.refusal.proofs.Chain.{and-left, and-right}
 use Rattle.number.specs.Steps.{double}
 use Rattle.psnr.specs.declared.Record.{Record}
 use Rattle.psnr.specs.declared.Total.{Total}

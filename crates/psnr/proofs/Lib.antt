@@ -9,7 +9,7 @@ pub mod Fold
 pub mod Laws
 pub mod Room
 pub mod Totals
-pub mod Cut
+pub mod Taken
 pub mod Given
 pub mod Numbers
 pub mod Said

@@ -1,10 +1,9 @@
--- What it means that records rise: each comes before all that are later (`rising-says`), and so no frame and plane occur twice (`no-two-alike`).
--- Assumes nothing.
-use mathlib.Core.Path.{_≡_, refl, sym, _∙_}
+-- What it means that records rise: of any two the one that stands first comes before the other (`rising-says`). Assumes nothing.
+use mathlib.Core.Path.{_≡_, refl, _∙_}
 use mathlib.Core.Bool.{Bool, true, false, _&&_, _||_, or-true}
 use mathlib.Core.List.{List, [], _∷_}
 use mathlib.Core.Logic.{_⊎_, inl, inr}
-use Prim.Native.Nat.{ℕ, zero, suc, _≤_, _<_}
+use Prim.Native.Nat.{ℕ, zero, suc, _<_}
 use native.Mathlib.Nat.{not-suc-le-zero}
 use native.Mathlib.Omega.{arith}
 use borrow.Author.Tests.{ltb-true, eqb-true, lt-ltb, eq-eqb}
@@ -24,7 +23,7 @@ pub next-plane : (f p q : ℕ) → p < q → earlier f p f q ≡ true
 unfolding earlier
 next-plane f p q l = rw (eq-eqb f f refl, lt-ltb p q l) (or-true (ltb f f))
 
-earlier-says : (f p g q : ℕ) → earlier f p g q ≡ true → (f < g) ⊎ ((f ≡ g) × (p < q))
+pub earlier-says : (f p g q : ℕ) → earlier f p g q ≡ true → (f < g) ⊎ ((f ≡ g) × (p < q))
 unfolding earlier
 earlier-says f p g q e = go (ltb f g) refl e
   where
@@ -62,13 +61,3 @@ rising-says none [] e i j l m = absurd (not-suc-le-zero m)
 rising-says none (r ∷ rs) e i zero l m = absurd (not-suc-le-zero l)
 rising-says none (r ∷ rs) e zero (suc j) l m = before-all none r rs e j (omega arith)
 rising-says none (r ∷ rs) e (suc i) (suc j) l m = rising-says none rs (rising-rest r rs e) i j (omega arith) (omega arith)
-
--- so no two have the same frame and plane
-pub no-two-alike : (none : Record) (rs : List Record) → rising rs ≡ true → (i j : ℕ) → i < j → j < length rs
-    → getD rs i none .frame ≡ getD rs j none .frame → getD rs i none .plane ≡ getD rs j none .plane → ⊥
-no-two-alike none rs e i j l m f p = go (earlier-says _ _ _ _ (rising-says none rs e i j l m))
-  where
-    go : (getD rs i none .frame < getD rs j none .frame)
-        ⊎ ((getD rs i none .frame ≡ getD rs j none .frame) × (getD rs i none .plane < getD rs j none .plane)) → ⊥
-    go (inl k) = omega (arith, f, k)
-    go (inr k) = omega (arith, p, k .1)

@@ -7,14 +7,13 @@ use mathlib.Core.List.{List, [], _∷_}
 use Prim.Native.Nat.{ℕ, _+_, _-_, _*_, _≤_, _<_}
 use native.Mathlib.Nat.{le-trans, le-refl, le-of-lt, mul-le-mul, add-mul}
 use native.Mathlib.Omega.{arith}
-use borrow.Author.Tests.{le-leb, lt-leb, leb-true, eq-eqb, eqb-true}
+use borrow.Author.Tests.{le-leb, lt-leb, eq-eqb, eqb-true}
 use lib.Dec.{leb, lit≤, lit<}
 use lib.ListN.{length}
 use Rattle.refusal.specs.Numbers.{totalNo}
 use Rattle.refusal.proofs.Chain.{and-left, and-right}
 use Rattle.plane.specs.Limits.{mostDepth}
 use Rattle.plane.specs.Plane.{Planes, maxOf, sampleLimit}
-use Rattle.plane.specs.Inner.Lawful.{AcceptedPair}
 use Rattle.plane.proofs.Depth.{max-grows}
 use Rattle.number.specs.Steps.{double}
 use Rattle.psnr.specs.declared.Record.{Record}

@@ -1,22 +1,45 @@
--- A series that is taken may be cut anywhere: both parts are taken (`parts-taken`), and their sums add up to its own (Fold, `error-cut`, `count-cut`).
--- Assumes nothing.
+-- What a series that is taken may be counted on for: no frame and plane occur twice in it (`no-two-alike`), and it may be cut anywhere: both parts are
+-- taken (`parts-taken`), and their sums add up to its own (Fold, `error-cut`, `count-cut`). Assumes nothing.
 use mathlib.Core.Path.{_≡_, refl}
-use mathlib.Core.Bool.{Bool, true, false, _&&_}
+use mathlib.Core.Bool.{true, _&&_}
 use mathlib.Core.List.{List, [], _∷_, _++_}
-use Prim.Native.Nat.{ℕ, _+_, _≤_}
+use mathlib.Core.Logic.{_⊎_, inl, inr}
+use Prim.Native.Nat.{ℕ, _+_, _≤_, _<_}
 use native.Mathlib.Omega.{arith}
 use borrow.Author.Tests.{leb-true, le-leb, eqb-true}
 use lib.Dec.{leb}
-use lib.ListN.{length, length-append}
+use lib.ListN.{length, getD, length-append}
 use Rattle.refusal.proofs.Chain.{and-left, and-right, passed}
 use Rattle.psnr.specs.declared.Record.{Record}
 use Rattle.psnr.specs.Limits.{recordLimit, totalLimit}
 use Rattle.psnr.specs.Record.{recordSuits, joins, before}
 use Rattle.psnr.specs.Series.{firstMax, allJoin, rising, runSuits, errorTotal, seriesTests, seriesRefusal}
-use Rattle.psnr.proofs.Rising.{rising-rest}
+use Rattle.psnr.proofs.Rising.{earlier-says, rising-rest, rising-says}
 use Rattle.psnr.proofs.Fold.{error-cut}
 use Rattle.psnr.proofs.Totals.{series-named}
 
+-- ---- no frame and plane occur twice
+series-rises : (rs : List Record) → seriesRefusal rs ≡ 0 → rising rs ≡ true
+unfolding runSuits
+series-rises rs e =
+    let tests = passed (seriesTests rs) (series-named rs) e in
+    and-right (leb 1 (length rs) && leb (length rs) recordLimit && allJoin (firstMax rs) rs) (rising rs) (tests .0)
+
+module _ (none : Record) (rs : List Record) (e : seriesRefusal rs ≡ 0) (i j : ℕ) (l : i < j) (m : j < length rs) where
+  abbrev one : Record
+  one = getD rs i none
+
+  abbrev other : Record
+  other = getD rs j none
+
+  pub no-two-alike : one .frame ≡ other .frame → one .plane ≡ other .plane → ⊥
+  no-two-alike f p = go (earlier-says _ _ _ _ (rising-says none rs (series-rises rs e) i j l m))
+    where
+      go : (one .frame < other .frame) ⊎ ((one .frame ≡ other .frame) × (one .plane < other .plane)) → ⊥
+      go (inl k) = omega (arith, f, k)
+      go (inr k) = omega (arith, p, k .1)
+
+-- ---- a part of it
 join-cut : (max : ℕ) (xs ys : List Record) → allJoin max (xs ++ ys) ≡ true → (allJoin max xs ≡ true) × (allJoin max ys ≡ true)
 unfolding allJoin
 join-cut max [] ys e = (refl, e)
