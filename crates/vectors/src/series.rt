@@ -126,15 +126,18 @@ fn spoiled() {
     tell::held(b"spoiled series: ", &list);
 }
 
-// Whether two records of these frames and planes are taken, and else refused with 10.
+// Records of two frames, each with its plane.
+fn of_two(f: u32, p: u32, g: u32, q: u32) -> Run {
+    psnr::step(psnr::step(psnr::start(), numbered(f, p)), numbered(g, q))
+}
+
+// Whether they are taken, and whether they are refused with 10.
 fn rises(f: u32, p: u32, g: u32, q: u32) -> bool {
-    let s = psnr::step(psnr::step(psnr::start(), numbered(f, p)), numbered(g, q));
-    sums_to(s, 0, 18.0, 4, 255)
+    sums_to(of_two(f, p, g, q), 0, 18.0, 4, 255)
 }
 
 fn falls(f: u32, p: u32, g: u32, q: u32) -> bool {
-    let s = psnr::step(psnr::step(psnr::start(), numbered(f, p)), numbered(g, q));
-    sums_to(s, refusal::RECORD, 0.0, 0, 0)
+    sums_to(of_two(f, p, g, q), refusal::RECORD, 0.0, 0, 0)
 }
 
 // Frames and planes that rise, that do not, and a plane that no frame has.
