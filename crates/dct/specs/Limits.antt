@@ -8,10 +8,10 @@ blockSide = 8
 abbrev pub blockSize : ℕ
 blockSize = 64
 
--- forward takes -4,095 to 4,095
+-- forward takes -8,191 to 8,191
 abbrev pub forwardLimit : ℕ
-forwardLimit = 4095
+forwardLimit = 8191
 
--- inverse takes -1,048,575 to 1,048,575
+-- inverse takes -2,097,151 to 2,097,151
 abbrev pub inverseLimit : ℕ
-inverseLimit = 1048575
+inverseLimit = 2097151

@@ -19,9 +19,9 @@ pub const BLOCK_SIDE: usize = 8;
 
 pub const BLOCK_SIZE: usize = 64;
 
-pub const FORWARD_LIMIT: i32 = 4095;
+pub const FORWARD_LIMIT: i32 = 8191;
 
-pub const INVERSE_LIMIT: i32 = 1048575;
+pub const INVERSE_LIMIT: i32 = 2097151;
 
 fn within(v: i32, limit: i32) -> bool
     requires { ⌜ T (nonNeg limit) ⌝ }

@@ -3,4 +3,4 @@ use Prim.Native.Nat.{ℕ}
 
 -- for what forward takes, no coefficient's size is above this (proofs/Bound.antt, `coefficient-bound`)
 abbrev pub coefficientLimit : ℕ
-coefficientLimit = 32767
+coefficientLimit = 65537
