@@ -2,22 +2,24 @@
 use mathlib.Core.Path.{_≡_, refl, ap, _∙_}
 use mathlib.Core.Bool.{true, false}
 use mathlib.Core.List.{List}
-use Prim.Native.Nat.{ℕ, suc, _+_, _*_, _<_, _^_}
-use native.Mathlib.Nat.{mul-le-mul, lt-of-le-of-lt}
+use Prim.Native.Nat.{ℕ, suc, _+_, _*_, _≤_, _<_, _^_}
+use native.Mathlib.Nat.{mul-le-mul, le-trans, lt-of-le-of-lt}
 use native.Mathlib.Omega.{arith}
 use borrow.Author.Tests.{ltb-true}
-use lib.Dec.{T, ltb, ltb→lt, lit<}
+use lib.Dec.{T, ltb, ltb→lt, lt→ltb, le→leb, lit≤, lit<}
 use lib.IntN.{ℤ, pos, negsuc, natAbs, _-ℤ_, _*ℤ_}
 use lib.ListN.{getD}
+use lib.Ieee.{binary64, inFloat}
 use lib.Signed.{ltZ}
-use mir.Syntax.{w32}
+use mir.Syntax.{w32, w64}
 use mir.Val.{SFits}
+use Rattle.number.specs.Limits.{exactLimit}
 use Rattle.dct.specs.Inner.Coefficients.{coefficientLimit}
 use Rattle.lifting.specs.Inner.Within.{Within, AllWithin}
 use Rattle.lifting.specs.Inner.Operation.{read32}
 use Rattle.hvs_block.specs.Inner.Levels.{Sample}
 use Rattle.hvs_block.proofs.Numbers.{sample-small}
-use Rattle.lifting.proofs.Size.{fits, size-mul, size-diff, whole}
+use Rattle.lifting.proofs.Size.{fits, fits64, size-mul, size-diff, whole}
 use Rattle.dct.proofs.Blocks.{small-at}
 
 -- ---- a place of a block, as it is read
@@ -33,19 +35,24 @@ sample-read h = rw (read-sample h) h
 pub read-coefficient : (b : List ℤ) → AllWithin coefficientLimit b → (k : ℕ) → read32 (getD b k (pos 0)) ≡ getD b k (pos 0)
 read-coefficient b h k = same tt (small-at coefficientLimit b h k)
 
--- ---- its square
-module _ (d : List ℤ) (h : AllWithin coefficientLimit d) (k : ℕ) where
-  square-small : natAbs (getD d k (pos 0) *ℤ getD d k (pos 0)) < 2 ^ 31
-  square-small =
-      let a = getD d k (pos 0) in
-      let w = small-at coefficientLimit d h k .le in
-      rw (size-mul a a) (lt-of-le-of-lt (mul-le-mul w w) (lit< tt))
+-- ---- its square, which 64 bits hold, and so does a double
+exact : (z : ℤ) → natAbs z ≤ exactLimit → T (inFloat binary64 z)
+unfolding inFloat
+exact (pos n) h = le→leb n exactLimit h
+exact (negsuc n) h = lt→ltb n exactLimit h
 
-  pub square-fits : SFits w32 (read32 (getD d k (pos 0)) *ℤ read32 (getD d k (pos 0)))
-  square-fits = rw (read-coefficient d h k) (fits _ square-small)
+module _ {a : ℤ} (h : Within coefficientLimit a) where
+  square-small : natAbs (a *ℤ a) ≤ exactLimit
+  square-small = rw (size-mul a a) (le-trans (mul-le-mul (h .le) (h .le)) (lit≤ tt))
 
-  pub square-is : read32 (read32 (getD d k (pos 0)) *ℤ read32 (getD d k (pos 0))) ≡ getD d k (pos 0) *ℤ getD d k (pos 0)
-  square-is = rw (read-coefficient d h k) (whole (fits (getD d k (pos 0) *ℤ getD d k (pos 0)) square-small .sfits))
+  pub wide-fits : SFits w64 a
+  wide-fits = fits64 a (lt-of-le-of-lt (h .le) (lit< tt))
+
+  pub square-fits : SFits w64 (a *ℤ a)
+  square-fits = fits64 (a *ℤ a) (lt-of-le-of-lt square-small (lit< tt))
+
+  pub square-exact : T (inFloat binary64 (a *ℤ a))
+  square-exact = exact (a *ℤ a) square-small
 
 -- ---- the size of a number by its sign
 size-minus : (z : ℤ) → ltZ z (pos 0) ≡ true → pos 0 -ℤ z ≡ pos (natAbs z)

@@ -4,12 +4,22 @@ use dct::BLOCK_SIDE;
 use dct::BLOCK_SIZE;
 use number::Rooted;
 ghost use mathlib.Core.Path.{_≡_};
+ghost use lib.IntN.{_*ℤ_};
 ghost use lib.ListN.{length};
 ghost use Rattle.dct.specs.Limits.{blockSize};
 ghost use Rattle.dct.specs.Inner.Coefficients.{coefficientLimit};
 ghost use Rattle.lifting.specs.Inner.Within.{Within, AllWithin};
 ghost use Rattle.hvs_block.specs.Block as Block;
 ghost use Rattle.hvs_block.specs.Inner.Levels.{Samples};
+
+// The square of a coefficient; the largest need more than 32 bits.
+fn square(v: i32) -> f64
+    requires { ⌜ Within coefficientLimit v ⌝ }
+    ensures { λ r. ⌜ r ≡ Block.signed (v *ℤ v) ⌝ }
+{
+    let w = v as i64;
+    (w * w) as f64
+}
 
 // The squares of the coefficients of two blocks, weighed: one sum for each.
 struct EnergyPair {
@@ -27,11 +37,9 @@ fn energies(d1: &[i32], d2: &[i32], mask: &[[f64; BLOCK_SIDE]; BLOCK_SIDE]) -> E
     let mut s = 0.0;
     let mut t = 0.0;
     for k in 1..BLOCK_SIZE {
-        let v = d1[k];
-        let w = d2[k];
         let m = mask[k / BLOCK_SIDE][k % BLOCK_SIDE];
-        s = s + ((v * v) as f64) * m;
-        t = t + ((w * w) as f64) * m;
+        s = s + square(d1[k]) * m;
+        t = t + square(d2[k]) * m;
     }
     EnergyPair { one: s, other: t }
 }

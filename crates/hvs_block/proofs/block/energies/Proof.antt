@@ -4,9 +4,12 @@ use mathlib.Core.Path.{_≡_, sym, _∙_}
 use Prim.Native.Nat.{_-_, _≤_}
 use native.Mathlib.Omega.{arith}
 use Rattle.number.specs.Literals.{zeroD}
+use Rattle.dct.specs.Inner.Coefficients.{coefficientLimit}
+use Rattle.lifting.proofs.Size.{read}
+use Rattle.dct.proofs.Blocks.{small-at}
 use Rattle.hvs_block.specs.Block.{addEnergy, energy}
 use Rattle.hvs_block.proofs.Folds.{flat8, by-eights}
-use Rattle.hvs_block.proofs.Sizes.{square-fits, square-is}
+use Rattle.hvs_block.proofs.Sizes.{read-coefficient}
 use Rattle.hvs_block.proofs.Walks.{energy-first, energy-more}
 use Rattle.hvs_block.proofs.block.energies.Statement.{statement}
 use Rattle.hvs_block.proofs.block.energies.Tie as tie
@@ -17,24 +20,8 @@ Inv-loop d1 d2 mask s₀ t₀ k₀ s t k = (1 ≤ k) × (k ≤ 64) × (s ≡ fla
 abbrev μ-loop : tie.MeasureT-loop
 μ-loop d1 d2 mask s₀ t₀ k₀ s t k = 64 - k
 
--- the loop's head, from where both coefficients and the mask are read
-abbrev head : tie.After-m Inv-loop μ-loop → tie.At-loop Inv-loop μ-loop
-head c = c .before .before .before .before
-
 loop-holds : tie.Need-loop-holds Inv-loop μ-loop
 loop-holds c = (search needs, search needs, sym (energy-first (c .args .d1 .now) (c .args .mask .now) _), sym (energy-first (c .args .d2 .now) (c .args .mask .now) _))
-
-mul-v : tie.Need-mul-v Inv-loop μ-loop
-mul-v c = search needs
-
-shared-slice-copy-out-v : tie.Need-shared-slice-copy-out-v Inv-loop μ-loop
-shared-slice-copy-out-v c = search needs
-
-mul-w : tie.Need-mul-w Inv-loop μ-loop
-mul-w c = search needs
-
-shared-slice-copy-out-w : tie.Need-shared-slice-copy-out-w Inv-loop μ-loop
-shared-slice-copy-out-w c = search needs
 
 mul-m : tie.Need-mul-m Inv-loop μ-loop
 mul-m c = search needs
@@ -48,19 +35,25 @@ index-1-m c = search needs
 index-2-m : tie.Need-index-2-m Inv-loop μ-loop
 index-2-m c = search needs
 
-mul-s : tie.Need-mul-s Inv-loop μ-loop
-mul-s c =
-    let s = head c .before in square-fits (s .args .d1 .now) (s .pre .1 .0) (head c .loop .k)
+mul-square : tie.Need-mul-square Inv-loop μ-loop
+mul-square c = search needs
 
-int-to-float-s : tie.Need-int-to-float-s Inv-loop μ-loop
-int-to-float-s c = search needs
+shared-slice-copy-out-square : tie.Need-shared-slice-copy-out-square Inv-loop μ-loop
+shared-slice-copy-out-square c = search needs
 
-mul-t : tie.Need-mul-t Inv-loop μ-loop
-mul-t c =
-    let s = head (c .before) .before in square-fits (s .args .d2 .now) (s .pre .1 .1) (head (c .before) .loop .k)
+square-requires : tie.Need-square-requires Inv-loop μ-loop
+square-requires c κs =
+    let s = c .before .before .before .before in read (small-at coefficientLimit (s .args .d1 .now) (s .pre .1 .0) _)
 
-int-to-float-t : tie.Need-int-to-float-t Inv-loop μ-loop
-int-to-float-t c = search needs
+mul-square-2 : tie.Need-mul-square-2 Inv-loop μ-loop
+mul-square-2 c = search needs
+
+shared-slice-copy-out-square-2 : tie.Need-shared-slice-copy-out-square-2 Inv-loop μ-loop
+shared-slice-copy-out-square-2 c = search needs
+
+square-requires-2 : tie.Need-square-requires-2 Inv-loop μ-loop
+square-requires-2 c κs =
+    let s = c .before .before .before .before .before .before in read (small-at coefficientLimit (s .args .d2 .now) (s .pre .1 .1) _)
 
 add-k : tie.Need-add-k Inv-loop μ-loop
 add-k c = search needs
@@ -70,16 +63,25 @@ loop-less c = search needs
 
 loop-again : tie.Need-loop-again Inv-loop μ-loop
 loop-again c =
-    let masked = c .before .before in
-    let loop-head = masked .before .before .before .before in
+    let loop-head = c .before .before .before .before .before .before in
     let s = loop-head .before in
     let l = loop-head .loop in
     let one = s .args .d1 .now in
     let two = s .args .d2 .now in (
       search needs,
       search needs,
-      rw (energy-more one (s .args .mask .now) zeroD (l .k) (l .inv .0), square-is one (s .pre .1 .0) (l .k), l .inv .2),
-      rw (energy-more two (s .args .mask .now) zeroD (l .k) (l .inv .0), square-is two (s .pre .1 .1) (l .k), l .inv .3),
+      rw (
+        energy-more one (s .args .mask .now) zeroD (l .k) (l .inv .0),
+        c .before .before .square .ensures,
+        read-coefficient one (s .pre .1 .0) (l .k),
+        l .inv .2,
+      ),
+      rw (
+        energy-more two (s .args .mask .now) zeroD (l .k) (l .inv .0),
+        c .square2 .ensures,
+        read-coefficient two (s .pre .1 .1) (l .k),
+        l .inv .3,
+      ),
     )
 
 returns : tie.Need-returns Inv-loop μ-loop
@@ -95,18 +97,16 @@ energies-spec =
     Inv-loop
     μ-loop
     loop-holds
-    mul-v
-    shared-slice-copy-out-v
-    mul-w
-    shared-slice-copy-out-w
     mul-m
     mul-m-2
     index-1-m
     index-2-m
-    mul-s
-    int-to-float-s
-    mul-t
-    int-to-float-t
+    mul-square
+    shared-slice-copy-out-square
+    square-requires
+    mul-square-2
+    shared-slice-copy-out-square-2
+    square-requires-2
     add-k
     loop-less
     loop-again
