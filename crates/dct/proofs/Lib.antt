@@ -3,3 +3,4 @@ pub mod Round
 pub mod Bound
 mod Range
 pub mod Calls
+pub mod Residues
