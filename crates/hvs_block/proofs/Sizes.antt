@@ -1,4 +1,4 @@
--- Numbers of 32 bits: what is read of a block is what stands there, and squares and differences of coefficients fit. Assumes nothing.
+-- What is read of a block is what stands there; differences of coefficients fit into 32 bits, and squares into 64. Assumes nothing.
 use mathlib.Core.Path.{_≡_, refl, ap, _∙_}
 use mathlib.Core.Bool.{true, false}
 use mathlib.Core.List.{List}
@@ -12,7 +12,8 @@ use lib.ListN.{getD}
 use lib.Ieee.{binary64, inFloat}
 use lib.Signed.{ltZ}
 use mir.Syntax.{w32, w64}
-use mir.Val.{SFits}
+use mir.Val.{SFits, toZ, ofZ}
+use mir.Facts.{toZ-ofZ}
 use Rattle.number.specs.Limits.{exactLimit}
 use Rattle.dct.specs.Inner.Coefficients.{coefficientLimit}
 use Rattle.lifting.specs.Inner.Within.{Within, AllWithin}
@@ -35,24 +36,40 @@ sample-read h = rw (read-sample h) h
 pub read-coefficient : (b : List ℤ) → AllWithin coefficientLimit b → (k : ℕ) → read32 (getD b k (pos 0)) ≡ getD b k (pos 0)
 read-coefficient b h k = same tt (small-at coefficientLimit b h k)
 
--- ---- its square, which 64 bits hold, and so does a double
+-- ---- its square, formed in 64 bits, which a double holds too
 exact : (z : ℤ) → natAbs z ≤ exactLimit → T (inFloat binary64 z)
 unfolding inFloat
 exact (pos n) h = le→leb n exactLimit h
 exact (negsuc n) h = lt→ltb n exactLimit h
 
+-- what is read back from 64 bits of a number that was read from 32
+abbrev widened : ℤ → ℤ
+widened a = toZ w64 (ofZ w64 (read32 a))
+
 module _ {a : ℤ} (h : Within coefficientLimit a) where
+  wide : SFits w64 a
+  wide = fits64 a (lt-of-le-of-lt (h .le) (lit< tt))
+
+  widened-is : widened a ≡ a
+  widened-is = ap (λ (z : ℤ). toZ w64 (ofZ w64 z)) (same tt h) ∙ toZ-ofZ wide
+
   square-small : natAbs (a *ℤ a) ≤ exactLimit
   square-small = rw (size-mul a a) (le-trans (mul-le-mul (h .le) (h .le)) (lit≤ tt))
 
-  pub wide-fits : SFits w64 a
-  wide-fits = fits64 a (lt-of-le-of-lt (h .le) (lit< tt))
+  fits-wide : SFits w64 (a *ℤ a)
+  fits-wide = fits64 (a *ℤ a) (lt-of-le-of-lt square-small (lit< tt))
 
-  pub square-fits : SFits w64 (a *ℤ a)
-  square-fits = fits64 (a *ℤ a) (lt-of-le-of-lt square-small (lit< tt))
+  pub wide-fits : SFits w64 (read32 a)
+  wide-fits = rw (same tt h) wide
 
-  pub square-exact : T (inFloat binary64 (a *ℤ a))
-  square-exact = exact (a *ℤ a) square-small
+  pub square-fits : SFits w64 (widened a *ℤ widened a)
+  square-fits = rw widened-is fits-wide
+
+  pub square-is : toZ w64 (ofZ w64 (widened a *ℤ widened a)) ≡ a *ℤ a
+  square-is = rw widened-is (toZ-ofZ fits-wide)
+
+  pub square-exact : T (inFloat binary64 (toZ w64 (ofZ w64 (widened a *ℤ widened a))))
+  square-exact = rw square-is (exact (a *ℤ a) square-small)
 
 -- ---- the size of a number by its sign
 size-minus : (z : ℤ) → ltZ z (pos 0) ≡ true → pos 0 -ℤ z ≡ pos (natAbs z)
