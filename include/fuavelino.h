@@ -29,12 +29,14 @@ extern "C" {
 #define FUAVELINO_VERSION (10000 * FUAVELINO_VERSION_MAJOR + 100 * FUAVELINO_VERSION_MINOR + FUAVELINO_VERSION_PATCH)
 uint32_t fuavelino_version(void);
 
-/* The limits: of width and of height (above it 2), of a stride (4), of the samples that a record counts (10), and of a plane's number in its
- * frame (10): 0 is luma, 1 and 2 are chroma. */
+/* The limits: of width and of height (above it 2), of a stride (4), of the samples that a record counts (10), of a plane's number in its frame
+ * (10), where 0 is luma, 1 and 2 are chroma, and of a number's size that forward takes, and inverse (12). */
 #define FUAVELINO_MOST_SIDE 16384
 #define FUAVELINO_MOST_STRIDE 32768
 #define FUAVELINO_MOST_SAMPLES 268435456
 #define FUAVELINO_MOST_PLANE 2
+#define FUAVELINO_MOST_FORWARD 8191
+#define FUAVELINO_MOST_INVERSE 2097151
 
 /* What the calls answer. */
 enum fuavelino_refusal {
@@ -212,8 +214,13 @@ uint8_t fuavelino_psnr_hvs_v16(const uint16_t *a, size_t a_len, const uint16_t *
 uint8_t fuavelino_combine_ssim(double c, double y, double u, double v, double *sum, double *weight);
 uint8_t fuavelino_combine_hvs(double c, double y, double u, double v, double *score);
 
-/* The transform of a block of 8 by 8 numbers from -4095 to 4095; and the one block whose transform is these coefficients, each from
- * -1048575 to 1048575. 12: not 64 places in and out, or a value out of range. */
+/* The transform of a block of 8 by 8 numbers from -8191 to 8191 (FUAVELINO_MOST_FORWARD); and the one block whose transform is these coefficients,
+ * each from -2097151 to 2097151 (FUAVELINO_MOST_INVERSE). So forward takes samples, residues, which are differences of samples, and differences
+ * of residues, and inverse gives them back:
+ *     for (i = 0; i < 64; i++) block[i] = (original[i] - prediction[i]) - residue_before[i];
+ *     no = fuavelino_forward(block, 64, coefs, 64);
+ *     no = fuavelino_inverse(coefs, 64, block, 64);
+ * Of other coefficients inverse may give what forward refuses. 12: not 64 places in and out, or a value out of range. */
 uint8_t fuavelino_forward(const int32_t *block, size_t block_len, int32_t *out, size_t out_len);
 uint8_t fuavelino_inverse(const int32_t *coefs, size_t coefs_len, int32_t *out, size_t out_len);
 

@@ -9,3 +9,7 @@ pub const STRIDE: usize = 32_768;
 pub const SAMPLES: u64 = 268_435_456;
 /// The largest number of a plane in its frame.
 pub const PLANE: u32 = 2;
+/// The largest size of what forward takes.
+pub const FORWARD: i32 = 8_191;
+/// The largest size of what the inverse takes.
+pub const INVERSE: i32 = 2_097_151;

@@ -52,7 +52,8 @@ pub use kernel::{build_gaussian_kernel, Kernel};
 pub use kernel_fault::KernelFault;
 pub use locate::{error_map, first_difference, ErrorMap, Place, Tile, Tiles, TILE_SIDE};
 pub use plane::{
-    Pair, Plane, PlaneKind, PsnrMetrics, Record, Sample, Shape, MOST_PLANE, MOST_SAMPLES, MOST_SIDE, MOST_STRIDE,
+    Pair, Plane, PlaneKind, PsnrMetrics, Record, Sample, Shape, MOST_FORWARD, MOST_INVERSE, MOST_PLANE, MOST_SAMPLES,
+    MOST_SIDE, MOST_STRIDE,
 };
 pub use refusal::Refusal;
 pub use scores::{

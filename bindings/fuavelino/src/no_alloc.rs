@@ -200,13 +200,55 @@ pub fn combine_hvs(c: f64, y: f64, u: f64, v: f64, score: &mut f64) -> Result<()
     outcome(exports::combine_hvs(c, y, u, v, score))
 }
 
-/// The transform of a block of 64 numbers from −4,095 to 4,095 into 64 places. Refuses 12.
+/// The transform of a block of 64 numbers from −8,191 to 8,191 ([`MOST_FORWARD`](crate::MOST_FORWARD)) into 64 places. Refuses 12.
+///
+/// So it takes samples, residues, which are differences of samples, and differences of residues. [`inverse`] gives each of them back:
+///
+/// ```
+/// use fuavelino::{forward, inverse, Refusal, MOST_FORWARD};
+///
+/// fn less(a: [i32; 64], b: [i32; 64]) -> [i32; 64] {
+///     std::array::from_fn(|i| a[i] - b[i])
+/// }
+///
+/// // samples of 12 bits; each predicts the other, at one moment and at the next
+/// let stripes: [i32; 64] = std::array::from_fn(|i| if i % 2 == 0 { 4_095 } else { 0 });
+/// let negative = stripes.map(|sample| 4_095 - sample);
+/// let residues = [less(stripes, negative), less(negative, stripes)];
+/// let block = less(residues[1], residues[0]);
+/// assert_eq!(block[..2], [-8_190, 8_190]);
+///
+/// let (mut coefs, mut back) = ([0; 64], [0; 64]);
+/// forward(&block, &mut coefs)?;
+/// inverse(&coefs, &mut back)?;
+/// assert_eq!(back, block);
+///
+/// // one past the range: said, and nothing is written
+/// assert_eq!(forward(&[MOST_FORWARD + 1; 64], &mut back), Err(Refusal::Value));
+/// assert_eq!(back, block);
+/// # Ok::<(), Refusal>(())
+/// ```
 #[inline]
 pub fn forward(block: &[i32], out: &mut [i32]) -> Result<(), Refusal> {
     outcome(exports::forward(block, out))
 }
 
-/// The one block whose transform is these 64 coefficients, each from −1,048,575 to 1,048,575. Refuses 12.
+/// The one block whose transform is these 64 coefficients, each from −2,097,151 to 2,097,151 ([`MOST_INVERSE`](crate::MOST_INVERSE)). Refuses 12.
+///
+/// What [`forward`] gave goes back to its block. Of other coefficients the block may be outside what forward takes:
+///
+/// ```
+/// use fuavelino::{forward, inverse, Refusal, MOST_INVERSE};
+///
+/// let (mut block, mut coefs) = ([0; 64], [0; 64]);
+/// coefs[0] = 65;
+/// inverse(&coefs, &mut block)?;
+/// assert_eq!(block, [8; 64]);
+/// coefs[0] = MOST_INVERSE;
+/// inverse(&coefs, &mut block)?;
+/// assert_eq!(forward(&block, &mut coefs), Err(Refusal::Value));
+/// # Ok::<(), Refusal>(())
+/// ```
 #[inline]
 pub fn inverse(coefs: &[i32], out: &mut [i32]) -> Result<(), Refusal> {
     outcome(exports::inverse(coefs, out))

@@ -14,6 +14,14 @@ pub const MOST_SAMPLES: u64 = 268_435_456;
 /// The largest number of a plane in its frame: 0 is luma, 1 and 2 are chroma. Above it a record is refused with 10.
 pub const MOST_PLANE: u32 = 2;
 
+/// The largest size of a number that [`forward`](crate::forward) takes, with either sign: every difference of differences of samples is within it.
+/// Above it forward refuses with 12.
+pub const MOST_FORWARD: i32 = 8_191;
+
+/// The largest size of a coefficient that [`inverse`](crate::inverse) takes, with either sign: all that forward gives are within it. Above it inverse
+/// refuses with 12.
+pub const MOST_INVERSE: i32 = 2_097_151;
+
 /// A sample: a byte (depths 1 to 8) or a 16-bit word (depths 9 to 12). No other type can be one.
 pub trait Sample: exports::Width {}
 

@@ -29,7 +29,8 @@ pub enum Refusal {
     Record = 10,
     /// 11: a series whose exact total is above 2^53.
     Total = 11,
-    /// 12: a root of what is not +0 or positive and finite; a transform of other than 64 places, or of a value out of range.
+    /// 12: a root of what is not +0 or positive and finite; a transform of other than 64 places, or of a number larger in size than
+    /// [`MOST_FORWARD`](crate::MOST_FORWARD), back than [`MOST_INVERSE`](crate::MOST_INVERSE).
     Value = 12,
     /// 13: combining with a weight outside 0 to 1, or of a number that is not finite.
     Weight = 13,
