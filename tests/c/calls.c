@@ -793,21 +793,164 @@ static void combining(void) {
     EXPECT(CALL(fuavelino_combine_hvs, (1, high, 0, 0, &score)) == 0 && score == high / 3);
 }
 
+enum { BLOCK = 64, BRIGHT = 4095 };
+
+/* Either call by its number, forward 0 and inverse 1; and the largest size that it takes. */
+static uint8_t carry(int back, const int32_t *in, size_t in_len, int32_t *out, size_t out_len) {
+    if (back) return CALL(fuavelino_inverse, (in, in_len, out, out_len));
+    return CALL(fuavelino_forward, (in, in_len, out, out_len));
+}
+
+static int32_t most_of(int back) {
+    return back ? FUAVELINO_MOST_INVERSE : FUAVELINO_MOST_FORWARD;
+}
+
+/* Lent places, and more behind them, no two alike. */
+static int32_t lent[2 * BLOCK];
+
+static void soil_lent(void) {
+    size_t i;
+    for (i = 0; i < COUNT(lent); i++) lent[i] = INT32_C(1500000000) + (int32_t)i;
+}
+
+/* Whether they are as soiled from this place on. */
+static int lent_from(size_t i) {
+    while (i < COUNT(lent) && lent[i] == INT32_C(1500000000) + (int32_t)i) i++;
+    return i == COUNT(lent);
+}
+
+/* Taken: the answer stands in the first 64 of the lent places, and nothing in the others. */
+static int carried(int back, const int32_t *in) {
+    soil_lent();
+    return carry(back, in, BLOCK, lent, BLOCK) == 0 && lent_from(BLOCK);
+}
+
+/* Refused with 12, and every place is as it was. */
+static int stopped(int back, const int32_t *in, size_t in_len, size_t out_len) {
+    soil_lent();
+    return carry(back, in, in_len, lent, out_len) == FUAVELINO_VALUE && lent_from(0);
+}
+
+/* Whether both calls take it, this one first, and the second gives it back. */
+static int returns(int back, const int32_t *in) {
+    int32_t between[BLOCK];
+    if (!carried(back, in)) return 0;
+    memcpy(between, lent, sizeof between);
+    return carried(!back, between) && memcmp(lent, in, sizeof between) == 0;
+}
+
+/* Whether inverse takes these coefficients, and forward refuses their block. */
+static int strays(const int32_t *coefs) {
+    int32_t block[BLOCK];
+    if (!carried(1, coefs)) return 0;
+    memcpy(block, lent, sizeof block);
+    return stopped(0, block, BLOCK, BLOCK);
+}
+
+static void fill(int32_t *list, size_t count, int32_t value) {
+    size_t i;
+    for (i = 0; i < count; i++) list[i] = value;
+}
+
 static void transform(void) {
-    int32_t block[64], coefs[64], back[65];
+    int32_t block[BLOCK];
     size_t i;
     int zeros = 1;
-    for (i = 0; i < 64; i++) block[i] = 8, coefs[i] = back[i] = 5;
-    EXPECT(CALL(fuavelino_forward, (block, 63, coefs, 64)) == FUAVELINO_VALUE && coefs[0] == 5);
-    EXPECT(CALL(fuavelino_inverse, (block, 64, back, 65)) == FUAVELINO_VALUE && back[0] == 5);
-    EXPECT(CALL(fuavelino_forward, (block, 64, coefs, 64)) == 0);
-    for (i = 1; i < 64; i++) zeros = zeros && coefs[i] == 0;
-    EXPECT(coefs[0] == 65 && zeros);
-    EXPECT(CALL(fuavelino_inverse, (coefs, 64, back, 64)) == 0 && memcmp(block, back, sizeof block) == 0);
-    block[63] = 4096;
-    EXPECT(CALL(fuavelino_forward, (block, 64, coefs, 64)) == FUAVELINO_VALUE && coefs[0] == 65);
-    coefs[63] = -1048576;
-    EXPECT(CALL(fuavelino_inverse, (coefs, 64, back, 64)) == FUAVELINO_VALUE && back[63] == 8);
+    fill(block, BLOCK, 8);
+    EXPECT(carried(0, block));
+    for (i = 1; i < BLOCK; i++) zeros = zeros && lent[i] == 0;
+    EXPECT(lent[0] == 65 && zeros && returns(0, block));
+}
+
+/* 64 places in and out, and no other counts. */
+static void block_counts(void) {
+    static const size_t counts[] = {0, 1, 63, 64, 65, 128};
+    int32_t in[2 * BLOCK];
+    size_t i, j;
+    int back;
+    fill(in, COUNT(in), 8);
+    for (back = 0; back < 2; back++) {
+        for (i = 0; i < COUNT(counts); i++) {
+            for (j = 0; j < COUNT(counts); j++) {
+                if (counts[i] != BLOCK || counts[j] != BLOCK) EXPECT(stopped(back, in, counts[i], counts[j]));
+            }
+        }
+    }
+}
+
+/* Both ends of both ranges at every place, and past them, among values of 0 and among values at either end. */
+static void ends(void) {
+    int32_t in[BLOCK];
+    size_t at, i;
+    int back, rest;
+    for (back = 0; back < 2; back++) {
+        const int32_t most = most_of(back), past[] = {most + 1, -most - 1, INT32_MAX, INT32_MIN, INT32_MIN + 1};
+        for (rest = -1; rest < 2; rest++) {
+            fill(in, BLOCK, rest * most);
+            for (at = 0; at < BLOCK; at++) {
+                in[at] = most;
+                EXPECT(carried(back, in));
+                in[at] = -most;
+                EXPECT(carried(back, in));
+                for (i = 0; i < COUNT(past); i++) {
+                    in[at] = past[i];
+                    EXPECT(stopped(back, in, BLOCK, BLOCK));
+                }
+                in[at] = rest * most;
+            }
+        }
+    }
+}
+
+/* Blocks at the ends of what forward takes come back; coefficients do where their block is in range. */
+static void there_and_back(void) {
+    int32_t in[BLOCK];
+    size_t i, pattern;
+    int sign;
+    for (sign = -1; sign < 2; sign += 2) {
+        for (pattern = 0; pattern < BLOCK; pattern++) {
+            for (i = 0; i < BLOCK; i++) in[i] = (i ^ pattern) % 3 ? sign * FUAVELINO_MOST_FORWARD : -sign * FUAVELINO_MOST_FORWARD;
+            EXPECT(returns(0, in));
+            /* refused when forward took -4095 to 4095, and inverse -1048575 to 1048575 */
+            fill(in, BLOCK, 0), in[pattern] = sign * (BRIGHT + 1);
+            EXPECT(returns(0, in) && returns(1, in));
+            in[pattern] = sign * 1048576;
+            EXPECT(strays(in));
+            in[pattern] = sign * FUAVELINO_MOST_INVERSE;
+            EXPECT(strays(in));
+        }
+        /* the last flat block that forward takes, and the next */
+        fill(in, BLOCK, 0), in[0] = sign * 65529;
+        EXPECT(returns(1, in) && carried(1, in) && lent[0] == sign * FUAVELINO_MOST_FORWARD);
+        in[0] = sign * 65530;
+        EXPECT(strays(in) && carried(1, in) && lent[0] == sign * (FUAVELINO_MOST_FORWARD + 1));
+        fill(in, BLOCK, sign * FUAVELINO_MOST_INVERSE);
+        EXPECT(carried(1, in) && lent[0] == sign * 14636811 && lent[63] == sign * 13063);
+    }
+}
+
+/* What an encoder sends of a block: how its residue differs from the residue before. */
+static void residues(void) {
+    int32_t original[2][BLOCK], prediction[2][BLOCK], block[BLOCK], coefs[BLOCK], got[BLOCK];
+    size_t i, shift;
+    for (shift = 0; shift < 16; shift++) {
+        /* samples of 12 bits, dark and bright in all sixteen ways */
+        for (i = 0; i < BLOCK; i++) {
+            const size_t way = (i * (2 * (i / 16) + 1) + shift) % 16;
+            original[0][i] = way & 8 ? BRIGHT : 0, prediction[0][i] = way & 4 ? BRIGHT : 0;
+            original[1][i] = way & 2 ? BRIGHT : 0, prediction[1][i] = way & 1 ? BRIGHT : 0;
+        }
+        for (i = 0; i < BLOCK; i++) block[i] = (original[1][i] - prediction[1][i]) - (original[0][i] - prediction[0][i]);
+        EXPECT(CALL(fuavelino_forward, (block, BLOCK, coefs, BLOCK)) == 0);
+        EXPECT(CALL(fuavelino_inverse, (coefs, BLOCK, got, BLOCK)) == 0);
+        for (i = 0; i < BLOCK; i++) got[i] += original[0][i] - prediction[0][i] + prediction[1][i];
+        EXPECT(memcmp(got, original[1], sizeof got) == 0);
+    }
+    /* the largest, and what is larger than any */
+    fill(block, BLOCK, (BRIGHT - 0) - (0 - BRIGHT));
+    EXPECT(returns(0, block));
+    block[63] = FUAVELINO_MOST_FORWARD + 1;
+    EXPECT(stopped(0, block, BLOCK, BLOCK));
 }
 
 /* tools/refusals compares the words with those of the Rust package. */
@@ -846,6 +989,10 @@ int main(void) {
     psnr_hvs();
     combining();
     transform();
+    block_counts();
+    ends();
+    there_and_back();
+    residues();
     for (i = 0; i < tallied; i++) {
         printf("%s accepted %u refused %u\n", tallies[i].name, tallies[i].accepted, tallies[i].refused);
         EXPECT(tallies[i].accepted > 0 && tallies[i].refused > 0);
