@@ -56,6 +56,7 @@ pub use plane::{
     MOST_SIDE, MOST_STRIDE,
 };
 pub use refusal::Refusal;
+#[doc(inline)]
 pub use scores::{
     check, combine_hvs, combine_ssim, forward, inverse, msssim, psnr_hvs, root, series, squared_error, ssim, version,
 };

@@ -204,13 +204,12 @@ fn residues_of_residues_return() {
     }
 }
 
-/// The largest of them leaves room in what forward takes, and each pattern of its two signs comes back.
+/// The largest of them, from one end of a residue to the other, comes back in every pattern of signs.
 #[test]
 fn the_largest_residues_return() {
     let [bright, dark] = [[BRIGHT; 64], [0; 64]];
     let most = residue_of_residues(&[bright, dark, dark, bright]);
     assert_eq!(most, [2 * BRIGHT; 64]);
-    assert!(2 * BRIGHT < MOST_FORWARD);
     for pattern in signs() {
         let block: Block = from_fn(|i| pattern[i] * most[i]);
         there_and_back(&block);
