@@ -793,7 +793,8 @@ static void combining(void) {
     EXPECT(CALL(fuavelino_combine_hvs, (1, high, 0, 0, &score)) == 0 && score == high / 3);
 }
 
-enum { BLOCK = 64, BRIGHT = 4095 };
+/* A block's places; the largest sample of 12 bits; what the first lent place holds before a call. */
+enum { BLOCK = 64, BRIGHT = 4095, SOIL = 1500000000 };
 
 /* Either call by its number, forward 0 and inverse 1; and the largest size that it takes. */
 static uint8_t carry(int back, const int32_t *in, size_t in_len, int32_t *out, size_t out_len) {
@@ -805,21 +806,21 @@ static int32_t most_of(int back) {
     return back ? FUAVELINO_MOST_INVERSE : FUAVELINO_MOST_FORWARD;
 }
 
-/* Lent places, and more behind them, no two alike. */
+/* Places to lend, and more behind those, no two alike. */
 static int32_t lent[2 * BLOCK];
 
 static void soil_lent(void) {
     size_t i;
-    for (i = 0; i < COUNT(lent); i++) lent[i] = INT32_C(1500000000) + (int32_t)i;
+    for (i = 0; i < COUNT(lent); i++) lent[i] = SOIL + (int32_t)i;
 }
 
 /* Whether they are as soiled from this place on. */
 static int lent_from(size_t i) {
-    while (i < COUNT(lent) && lent[i] == INT32_C(1500000000) + (int32_t)i) i++;
+    while (i < COUNT(lent) && lent[i] == SOIL + (int32_t)i) i++;
     return i == COUNT(lent);
 }
 
-/* Taken: the answer stands in the first 64 of the lent places, and nothing in the others. */
+/* Taken: the answer stands in the 64 that are lent, and the others are as they were. */
 static int carried(int back, const int32_t *in) {
     soil_lent();
     return carry(back, in, BLOCK, lent, BLOCK) == 0 && lent_from(BLOCK);
@@ -902,7 +903,7 @@ static void ends(void) {
     }
 }
 
-/* Blocks at the ends of what forward takes come back; coefficients do where their block is in range. */
+/* Blocks at the ends of what forward takes come back, with signs in many patterns; coefficients do where their block is in range. */
 static void there_and_back(void) {
     int32_t in[BLOCK];
     size_t i, pattern;

@@ -35,17 +35,19 @@ fn seeded(seed: u64) -> impl FnMut(i32) -> i32 {
     }
 }
 
+/// What a call writes; the places behind those that it was lent stay as they were.
 fn taken(call: Call, values: &Block) -> Block {
-    let mut out = before(64);
-    assert_eq!(call(values, &mut out), Ok(()), "{:?}", values);
+    let mut out = before(128);
+    assert_eq!(call(values, &mut out[..64]), Ok(()), "{:?}", values);
+    assert_eq!(out[64..], before(128)[64..]);
     from_fn(|i| out[i])
 }
 
 /// Refused with 12, and every place is as it was.
 fn refused(call: Call, values: &[i32], places: usize, why: &str) {
-    let mut out = before(places);
-    assert_eq!(call(values, &mut out), Err(Refusal::Value), "{}", why);
-    assert_eq!(out, before(places), "{}", why);
+    let mut out = before(places + 64);
+    assert_eq!(call(values, &mut out[..places]), Err(Refusal::Value), "{}", why);
+    assert_eq!(out, before(places + 64), "{}", why);
 }
 
 fn there_and_back(block: &Block) {
