@@ -43,6 +43,8 @@ mod ssim_ways;
 mod start;
 mod together;
 mod transform;
+mod transform_cases;
+mod transform_ways;
 
 use family::Run;
 use std::process::exit;

@@ -5,7 +5,7 @@ use Step::{From, Less, Plus};
 
 /// What a step takes from the place that it reads.
 #[derive(Clone, Copy)]
-enum Part {
+pub enum Part {
     Whole,
     Half,
     Times(i64, u32),
@@ -56,7 +56,7 @@ const STEPS: [Step; 31] = [
 /// The place that takes x0, x1 and so on.
 const TAKES: [usize; 8] = [0, 4, 2, 6, 7, 3, 5, 1];
 
-fn of(part: Part, t: i64) -> i64 {
+pub fn of(part: Part, t: i64) -> i64 {
     match part {
         Whole => t,
         Half => t / 2,
@@ -64,7 +64,7 @@ fn of(part: Part, t: i64) -> i64 {
     }
 }
 
-fn done(t: &mut [i64; 8], step: Step) {
+fn done(t: &mut [i64; 8], step: Step, of: impl Fn(Part, i64) -> i64) {
     match step {
         Plus(i, j, f) => t[i] += of(f, t[j]),
         Less(i, j, f) => t[i] -= of(f, t[j]),
@@ -72,7 +72,7 @@ fn done(t: &mut [i64; 8], step: Step) {
     }
 }
 
-fn undone(t: &mut [i64; 8], step: Step) {
+fn undone(t: &mut [i64; 8], step: Step, of: impl Fn(Part, i64) -> i64) {
     match step {
         Plus(i, j, f) => t[i] -= of(f, t[j]),
         Less(i, j, f) => t[i] += of(f, t[j]),
@@ -81,26 +81,26 @@ fn undone(t: &mut [i64; 8], step: Step) {
 }
 
 /// Column i through the pass to row i.
-fn turn(block: &[i64]) -> Vec<i64> {
+fn turn(block: &[i64], of: impl Fn(Part, i64) -> i64) -> Vec<i64> {
     let mut out = Vec::new();
     for i in 0..8 {
         let mut t = [0; 8];
         for k in 0..8 {
             t[TAKES[k]] = block[8 * k + i];
         }
-        STEPS.iter().for_each(|step| done(&mut t, *step));
+        STEPS.iter().for_each(|step| done(&mut t, *step, &of));
         out.extend_from_slice(&t);
     }
     out
 }
 
 /// Row i through the pass undone to column i.
-fn unturn(block: &[i64]) -> Vec<i64> {
+fn unturn(block: &[i64], of: impl Fn(Part, i64) -> i64) -> Vec<i64> {
     let mut out = vec![0; 64];
     for i in 0..8 {
         let mut t = [0; 8];
         t.copy_from_slice(&block[8 * i..8 * i + 8]);
-        STEPS.iter().rev().for_each(|step| undone(&mut t, *step));
+        STEPS.iter().rev().for_each(|step| undone(&mut t, *step, &of));
         for k in 0..8 {
             out[8 * k + i] = t[TAKES[k]];
         }
@@ -113,13 +113,22 @@ fn wide(block: &[i32]) -> Vec<i64> {
 }
 
 fn narrow(block: Vec<i64>) -> Vec<i32> {
-    block.iter().map(|v| *v as i32).collect()
+    block.iter().map(|v| i32::try_from(*v).expect("a place is wide enough")).collect()
 }
 
 pub fn forward(block: &[i32]) -> Vec<i32> {
-    narrow(turn(&turn(&wide(block))))
+    narrow(forward_by(block, of))
 }
 
 pub fn inverse(coefs: &[i32]) -> Vec<i32> {
-    narrow(unturn(&unturn(&wide(coefs))))
+    narrow(inverse_by(coefs, of))
+}
+
+/// The steps with parts had in some other way.
+pub fn forward_by(block: &[i32], of: impl Fn(Part, i64) -> i64) -> Vec<i64> {
+    turn(&turn(&wide(block), &of), &of)
+}
+
+pub fn inverse_by(coefs: &[i32], of: impl Fn(Part, i64) -> i64) -> Vec<i64> {
+    unturn(&unturn(&wide(coefs), &of), &of)
 }

@@ -1,7 +1,7 @@
 //! What a plane may be: the check of both widths, against the model.
 
 use crate::family::{also, number, run, Family, Run};
-use crate::limits::{PLANE, SAMPLES, SIDE, STRIDE};
+use crate::limits::{FORWARD, INVERSE, PLANE, SAMPLES, SIDE, STRIDE};
 use crate::mapped::Mapped;
 use crate::model::{Check, Plane};
 use crate::random::Random;
@@ -19,11 +19,12 @@ pub fn compare(ask: Run) -> bool {
 
 /// The limits that the bindings name are those that every family expects.
 fn named() -> Result<(), String> {
-    let named = (fuavelino::MOST_SIDE, fuavelino::MOST_STRIDE, fuavelino::MOST_SAMPLES, fuavelino::MOST_PLANE);
-    if named == (SIDE, STRIDE, SAMPLES, PLANE) {
+    let of_planes = (fuavelino::MOST_SIDE, fuavelino::MOST_STRIDE, fuavelino::MOST_SAMPLES, fuavelino::MOST_PLANE);
+    let of_numbers = (fuavelino::MOST_FORWARD, fuavelino::MOST_INVERSE);
+    if (of_planes, of_numbers) == ((SIDE, STRIDE, SAMPLES, PLANE), (FORWARD, INVERSE)) {
         return Ok(());
     }
-    Err(format!("{:?}", named))
+    Err(format!("{:?}, {:?}", of_planes, of_numbers))
 }
 
 struct Checks {

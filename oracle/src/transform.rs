@@ -1,32 +1,64 @@
-//! The transform against the published one, and its inverse against the steps undone; both ways there and back.
+//! The transform against the published one, and its inverse against the steps undone; both ways there and back. The cases are in `transform_cases.rs`.
 
-use crate::family::{number, run, Family, Run};
+use crate::family::{all_seen, also, number, run, Family, Run};
 use crate::lifting;
+use crate::limits::{FORWARD, INVERSE};
 use crate::model::VALUE;
 use crate::random::Random;
+use crate::transform_cases::{any, listed, signs, Block, Case};
+use crate::transform_ways::{Met, LIMITS, SHARP, STEPS};
 use fuavelino::no_alloc;
 use published::video::psnr_hvs;
 
-const FORWARD_LIMIT: i32 = 4_095;
-const INVERSE_LIMIT: i32 = 1_048_575;
-/// What `out` holds before a call, and must hold after a refusal.
+/// No coefficient of what forward takes is larger in size. The crate `dct` proves it.
+const COEFFICIENT: u32 = 65_537;
+/// What each place holds before a call, and must hold after a refusal; those that stand about the lent ones, always.
 const BEFORE: i32 = 0x5EED_0BAD;
 
 pub fn compare(ask: Run) -> bool {
     let cases = if ask.full { 4_000_000 } else { 400_000 };
-    run("transform", &mut Transforms { listed: listed() }, cases, ask)
-}
-
-/// What is asked: the inverse where `back`, of `values`, into so many places.
-#[derive(Clone)]
-struct Case {
-    back: bool,
-    values: Vec<i32>,
-    places: usize,
+    let mut family = Transforms::new();
+    run("transform", &mut family, cases, ask)
+        && also("transform: every way told from the rule, every sharp case met", || family.enough())
 }
 
 struct Transforms {
     listed: Vec<Case>,
+    /// Of each coefficient the block that makes it largest, from which random ones are made too.
+    signs: Vec<Block>,
+    /// Whether a case told each way from the rule, and was each of the sharp ones.
+    limits: [u64; LIMITS.len()],
+    steps: [u64; STEPS.len()],
+    sharp: [u64; SHARP.len()],
+}
+
+impl Transforms {
+    fn new() -> Transforms {
+        let signs = signs();
+        let listed = listed(&signs);
+        Transforms { listed, signs, limits: [0; LIMITS.len()], steps: [0; STEPS.len()], sharp: [0; SHARP.len()] }
+    }
+
+    fn meet(&mut self, met: &Met) {
+        seek(&mut self.limits, |i| LIMITS[i].1(met) != (met.answer == 0));
+        seek(&mut self.sharp, |i| SHARP[i].1(met));
+        if met.answer == 0 {
+            seek(&mut self.steps, |i| STEPS[i].1(met) != met.left);
+        }
+    }
+
+    fn enough(&self) -> Result<(), String> {
+        all_seen(LIMITS.iter().map(|way| way.0).collect(), &self.limits, "tells the rule from")?;
+        all_seen(STEPS.iter().map(|way| way.0).collect(), &self.steps, "tells the steps from")?;
+        all_seen(SHARP.iter().map(|sharp| sharp.0).collect(), &self.sharp, "is")
+    }
+}
+
+/// Looks for those that were not seen yet: a way takes longer than the case.
+fn seek(counts: &mut [u64], seen: impl Fn(usize) -> bool) {
+    for (i, count) in counts.iter_mut().enumerate().filter(|(_, count)| **count == 0) {
+        *count = u64::from(seen(i));
+    }
 }
 
 impl Family for Transforms {
@@ -35,30 +67,25 @@ impl Family for Transforms {
     fn case(&self, number: u64, random: &mut Random) -> Case {
         match self.listed.get(number as usize) {
             Some(case) => case.clone(),
-            None => any(random),
+            None => any(random, &self.signs),
         }
     }
 
     fn judge(&mut self, c: &Case) -> Result<u8, String> {
-        let (answer, out) = asked(c.back, &c.values, c.places);
-        let lawful =
-            c.values.len() == 64 && c.places == 64 && c.values.iter().all(|v| v.unsigned_abs() <= limit(c.back) as u32);
-        let wanted = if !lawful {
-            vec![BEFORE; c.places]
-        } else if c.back {
-            lifting::inverse(&c.values)
-        } else {
-            published_forward(&c.values)
-        };
-        if answer != if lawful { 0 } else { VALUE } {
-            Err(format!("answered {}", answer))
-        } else if out != wanted {
-            Err(format!("left {:?}, not {:?}", out, wanted))
-        } else if lawful {
-            there_and_back(c, &out).map(|_| 0)
-        } else {
-            Ok(answer)
+        let (answer, left) = asked(c.back, &c.values, c.places)?;
+        let (wanted, places) = ruled(c);
+        if answer != wanted {
+            return Err(format!("answered {}, not {}", answer, wanted));
         }
+        if left != places {
+            return Err(format!("left {:?}, not {:?}", left, places));
+        }
+        if !c.back && wanted == 0 && left.iter().any(|v| v.unsigned_abs() > COEFFICIENT) {
+            return Err(format!("a coefficient is above {}: {:?}", COEFFICIENT, left));
+        }
+        let again = if answer == 0 { Some(there_and_back(c, &left)?) } else { None };
+        self.meet(&Met { back: c.back, values: &c.values, places: c.places, answer, left: &left, again });
+        Ok(answer)
     }
 
     fn smaller(&self, c: &Case) -> Vec<Case> {
@@ -83,18 +110,42 @@ impl Family for Transforms {
     }
 }
 
-fn limit(back: bool) -> i32 {
+/// What a call takes, from minus this to this.
+pub fn limit(back: bool) -> i32 {
     if back {
-        INVERSE_LIMIT
+        INVERSE
     } else {
-        FORWARD_LIMIT
+        FORWARD
     }
 }
 
-fn asked(back: bool, values: &[i32], places: usize) -> (u8, Vec<i32>) {
-    let mut out = vec![BEFORE; places];
+fn takes(back: bool, values: &[i32]) -> bool {
+    values.len() == 64 && values.iter().all(|v| v.unsigned_abs() <= limit(back) as u32)
+}
+
+/// The answer, and what is left, by the rule.
+fn ruled(c: &Case) -> (u8, Vec<i32>) {
+    if c.places != 64 || !takes(c.back, &c.values) {
+        (VALUE, vec![BEFORE; c.places])
+    } else if c.back {
+        (0, lifting::inverse(&c.values))
+    } else {
+        (0, published_forward(&c.values))
+    }
+}
+
+/// The answer, and what is left of the places; what was lent to be read, and the places about the others, must be as they were.
+fn asked(back: bool, values: &[i32], places: usize) -> Result<(u8, Vec<i32>), String> {
+    let (lent, mut out) = (values.to_vec(), vec![BEFORE; places + 2]);
     let call = if back { no_alloc::inverse } else { no_alloc::forward };
-    (number(call(values, &mut out)), out)
+    let answer = number(call(&lent, &mut out[1..=places]));
+    if lent != values {
+        return Err(format!("left {:?} of what was lent to be read", lent));
+    }
+    if (out.pop(), out.remove(0)) != (Some(BEFORE), BEFORE) {
+        return Err("wrote beside the places".to_string());
+    }
+    Ok((answer, out))
 }
 
 fn published_forward(values: &[i32]) -> Vec<i32> {
@@ -103,59 +154,16 @@ fn published_forward(values: &[i32]) -> Vec<i32> {
     block
 }
 
-/// What was answered goes back to what was asked: by the steps, and by the calls where they take it.
-fn there_and_back(c: &Case, out: &[i32]) -> Result<(), String> {
+/// What was answered goes back to what was asked: by the steps, and by the calls where they take it. What the other call said to it.
+fn there_and_back(c: &Case, out: &[i32]) -> Result<u8, String> {
     let steps = if c.back { lifting::forward(out) } else { lifting::inverse(out) };
     if steps != c.values {
         return Err(format!("the steps carry the answer to {:?}", steps));
     }
-    let takes = out.iter().all(|v| v.unsigned_abs() <= limit(!c.back) as u32);
-    let (answer, again) = asked(!c.back, out, 64);
-    match (takes, answer) {
-        (true, 0) if again == c.values => Ok(()),
-        (false, VALUE) if c.back => Ok(()),
+    let (answer, again) = asked(!c.back, out, 64)?;
+    match (takes(!c.back, out), answer) {
+        (true, 0) if again == c.values => Ok(0),
+        (false, VALUE) if c.back && again == [BEFORE; 64] => Ok(VALUE),
         _ => Err(format!("the way back answered {} and left {:?}", answer, again)),
     }
-}
-
-/// All corners of plus and minus the limit in rows and columns, and single spikes.
-fn listed() -> Vec<Case> {
-    let mut list = Vec::new();
-    for back in [false, true] {
-        let most = limit(back);
-        for signs in 0..1 << 15 {
-            let sign = |bit: usize| if signs >> bit & 1 == 1 { -1 } else { 1 };
-            let corner = |i: usize| most * sign(i / 8) * if i % 8 == 0 { 1 } else { sign(7 + i % 8) };
-            list.push(Case { back, values: (0..64).map(corner).collect(), places: 64 });
-        }
-        for at in 0..64 {
-            for value in [1, -1, 2, -3, most, -most, most + 1, -most - 1, i32::MAX, i32::MIN] {
-                let mut values = vec![0; 64];
-                values[at] = value;
-                list.push(Case { back, values, places: 64 });
-            }
-        }
-    }
-    list
-}
-
-fn any(r: &mut Random) -> Case {
-    let back = r.once_in(2);
-    let most = match r.below(4) {
-        0 => limit(back),
-        1 => r.within(1, 16) as i32,
-        2 => r.bits(if back { 20 } else { 12 }) as i32,
-        _ => limit(back).min(4_095),
-    };
-    let count = if r.once_in(64) { r.pick(&[0, 1, 63, 65, 128]) } else { 64 };
-    let places = if r.once_in(64) { r.pick(&[0, 1, 63, 65, 128]) } else { 64 };
-    let ends = r.once_in(4);
-    let mut values: Vec<i32> = (0..count)
-        .map(|_| if ends { r.pick(&[most, -most]) } else { r.within(0, 2 * most as usize) as i32 - most })
-        .collect();
-    if count > 0 && r.once_in(64) {
-        let at = r.below(count);
-        values[at] = r.pick(&[limit(back) + 1, -limit(back) - 1, i32::MAX, i32::MIN]);
-    }
-    Case { back, values, places }
 }
