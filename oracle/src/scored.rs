@@ -1,6 +1,7 @@
 //! The stored answers that the published Rust gives: transforms, squared errors and scores; refusals are the model's.
 
 use crate::lifting;
+use crate::limits::{FORWARD, INVERSE};
 use crate::model::{Lent, VALUE};
 use crate::random::Random;
 use published::plane::Plane;
@@ -265,20 +266,33 @@ fn hvs(samples: &Samples, ask: &Ask, kind: usize) -> f64 {
 /// Rows of 130: the inverse (1) or forward (0), the answer, 64 numbers, and what they become: 64 zeros where they are refused.
 pub fn transforms(seed: u64) -> Vec<i32> {
     let mut r = Random::of(seed, "transforms", 0);
-    let mut spike = [0; 64];
-    spike[9] = -4_095;
-    let any = [(); 64].map(|_| r.within(0, 8_190) as i32 - 4_095);
+    let any = [(); 64].map(|_| r.within(0, 2 * FORWARD as usize) as i32 - FORWARD);
     let mut list = Vec::new();
-    for block in [[8; 64], spike, any] {
+    for block in [[8; 64], spike(-FORWARD), any, board()] {
         transform_row(&mut list, 0, 0, &block, &forward(&block));
     }
     let coefs = forward(&any);
     let back = lifting::inverse(&coefs);
     assert_eq!(back, any);
     transform_row(&mut list, 1, 0, &coefs, &back);
-    spike[9] = 4_096;
-    transform_row(&mut list, 0, VALUE, &spike, &[0; 64]);
+    transform_row(&mut list, 1, 0, &spike(-INVERSE), &lifting::inverse(&spike(-INVERSE)));
+    transform_row(&mut list, 0, VALUE, &spike(FORWARD + 1), &[0; 64]);
+    transform_row(&mut list, 1, VALUE, &spike(INVERSE + 1), &[0; 64]);
     list
+}
+
+/// One value among zeros.
+fn spike(value: i32) -> [i32; 64] {
+    let mut block = [0; 64];
+    block[9] = value;
+    block
+}
+
+/// Both ends of what forward takes in turn, in rows and columns.
+fn board() -> [i32; 64] {
+    let mut block = [FORWARD; 64];
+    (0..64).filter(|i| (i / 8 + i % 8) % 2 == 0).for_each(|i| block[i] = -FORWARD);
+    block
 }
 
 fn transform_row(list: &mut Vec<i32>, back: i32, answer: u8, from: &[i32], to: &[i32]) {
