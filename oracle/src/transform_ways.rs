@@ -4,6 +4,7 @@
 use crate::lifting::{forward, forward_by, inverse, inverse_by, of, Part};
 use crate::limits::{FORWARD, INVERSE};
 use crate::model::VALUE;
+use crate::transform::limit;
 
 /// A call, and what became of it.
 pub struct Met<'a> {
@@ -38,25 +39,38 @@ impl Met<'_> {
 
     /// The same if this were the size of a value.
     fn sized(&self, back: bool, size: fn(i32) -> i32) -> bool {
-        let most = if back { INVERSE } else { FORWARD };
-        self.asking(back, |values| values.iter().all(|v| size(*v) <= most))
+        self.asking(back, |values| values.iter().all(|v| size(*v) <= limit(back)))
     }
 
     /// Whether it would be accepted with such lengths, if its values are.
     fn room(&self, held: fn(usize, usize) -> bool) -> bool {
-        let most = if self.back { INVERSE } else { FORWARD };
+        let most = limit(self.back);
         held(self.values.len(), self.places) && within(self.values, -most, most)
     }
 
-    /// The steps with parts had in some other way.
-    fn by(&self, of: impl Fn(Part, i64) -> i64) -> Vec<i32> {
-        let wide = if self.back { inverse_by(self.values, of) } else { forward_by(self.values, of) };
+    /// What would be left if the steps had such parts; the other of the two calls is as it is.
+    fn by(&self, back: bool, part: fn(Part, i64) -> i64) -> Vec<i32> {
+        let wide = match self.back {
+            call if call != back => return self.left.to_vec(),
+            true => inverse_by(self.values, part),
+            false => forward_by(self.values, part),
+        };
         wide.iter().map(|v| *v as i32).collect()
     }
 
-    /// What is left if this becomes of each number of the call back or forward at last.
+    /// The same if this became of each number at last.
     fn ending(&self, back: bool, becomes: fn(i32) -> i32) -> Vec<i32> {
         self.left.iter().map(|v| if self.back == back { becomes(*v) } else { *v }).collect()
+    }
+
+    /// The same if rows were gone through before columns.
+    fn rows_first(&self, back: bool) -> Vec<i32> {
+        let turned = |block: &[i32]| (0..64).map(|i| block[8 * (i % 8) + i / 8]).collect::<Vec<i32>>();
+        match self.back {
+            call if call != back => self.left.to_vec(),
+            true => turned(&inverse(&turned(self.values))),
+            false => turned(&forward(&turned(self.values))),
+        }
     }
 
     /// Whether it was accepted, and has this among its values.
@@ -66,8 +80,7 @@ impl Met<'_> {
 
     /// Whether it was refused for this value at this place alone.
     fn past(&self, back: bool, at: usize, value: i32) -> bool {
-        let most = if back { INVERSE } else { FORWARD };
-        let outside = |i: &usize| !(-most..=most).contains(&self.values[*i]);
+        let outside = |i: &usize| !within(&self.values[*i..=*i], -limit(back), limit(back));
         (self.back, self.answer, self.lengths()) == (back, VALUE, (64, 64))
             && self.values[at] == value
             && (0..64).filter(outside).eq([at])
@@ -148,42 +161,64 @@ fn few(values: &[i32]) -> bool {
 /// A way to transform, and what an accepted call would then leave.
 pub type Step = (&'static str, fn(&Met) -> Vec<i32>);
 
-pub const STEPS: [Step; 14] = [
+pub const STEPS: [Step; 21] = [
     ("coefficients of 16 bits", |met| met.ending(false, |v| i32::from(v as i16))),
     ("coefficients held to 16 bits", |met| met.ending(false, |v| v.clamp(-32_768, 32_767))),
     ("coefficients held to 8 × 8,191", |met| met.ending(false, |v| v.clamp(-8 * FORWARD, 8 * FORWARD))),
     ("an inverse of 24 bits", |met| met.ending(true, |v| v << 8 >> 8)),
     ("an inverse held to what it takes", |met| met.ending(true, |v| v.clamp(-INVERSE, INVERSE))),
     ("an inverse held to what forward takes", |met| met.ending(true, |v| v.clamp(-FORWARD, FORWARD))),
-    ("rows before columns", rows_first),
-    ("products of 32 bits", |met| met.by(times(|product, shift| (i64::from(product as i32) + half(shift)) >> shift))),
-    ("products of single floats", |met| met.by(times(|product, shift| (product as f32 as i64 + half(shift)) >> shift))),
-    ("products rounded down", |met| met.by(times(|product, shift| product >> shift))),
-    ("products cut toward 0", |met| met.by(times(|product, shift| (product + half(shift)) / (1 << shift)))),
-    ("products rounded by less than a half", |met| {
-        met.by(times(|product, shift| (product + half(shift) - 1) >> shift))
-    }),
-    ("halves rounded down", |met| met.by(|part, t| if let Part::Half = part { t >> 1 } else { of(part, t) })),
-    ("halves rounded up", |met| met.by(|part, t| if let Part::Half = part { (t + 1) >> 1 } else { of(part, t) })),
+    ("forward with rows before columns", |met| met.rows_first(false)),
+    ("inverse with rows before columns", |met| met.rows_first(true)),
+    ("inverse with products of 32 bits", |met| met.by(true, of_32_bits)),
+    ("forward with products of single floats", |met| met.by(false, of_floats)),
+    ("inverse with products of single floats", |met| met.by(true, of_floats)),
+    ("forward with products rounded down", |met| met.by(false, rounded_down)),
+    ("inverse with products rounded down", |met| met.by(true, rounded_down)),
+    ("forward with products cut toward 0", |met| met.by(false, cut)),
+    ("inverse with products cut toward 0", |met| met.by(true, cut)),
+    ("forward with halves of products rounded down", |met| met.by(false, halves_down)),
+    ("inverse with halves of products rounded down", |met| met.by(true, halves_down)),
+    ("forward with halves rounded down", |met| met.by(false, |part, t| halved(part, t, t >> 1))),
+    ("inverse with halves rounded down", |met| met.by(true, |part, t| halved(part, t, t >> 1))),
+    ("forward with halves rounded up", |met| met.by(false, |part, t| halved(part, t, (t + 1) >> 1))),
+    ("inverse with halves rounded up", |met| met.by(true, |part, t| halved(part, t, (t + 1) >> 1))),
 ];
 
-/// What a product so much to the right is rounded by.
-fn half(shift: u32) -> i64 {
-    1 << (shift - 1)
+fn of_32_bits(part: Part, t: i64) -> i64 {
+    product(part, t, |product, half, shift| (i64::from(product as i32) + half) >> shift)
 }
 
-/// Parts of which this becomes of products.
-fn times(rounded: fn(i64, u32) -> i64) -> impl Fn(Part, i64) -> i64 {
-    move |part, t| match part {
-        Part::Times(factor, shift) => rounded(t * factor, shift),
+fn of_floats(part: Part, t: i64) -> i64 {
+    product(part, t, |product, half, shift| (product as f32 as i64 + half) >> shift)
+}
+
+fn rounded_down(part: Part, t: i64) -> i64 {
+    product(part, t, |product, _, shift| product >> shift)
+}
+
+fn cut(part: Part, t: i64) -> i64 {
+    product(part, t, |product, half, shift| (product + half) / (1 << shift))
+}
+
+fn halves_down(part: Part, t: i64) -> i64 {
+    product(part, t, |product, half, shift| (product + half - 1) >> shift)
+}
+
+/// A part, of which this is made where it is a product: of that, half of what it is divided by, and how far it is shifted.
+fn product(part: Part, t: i64, rounded: fn(i64, i64, u32) -> i64) -> i64 {
+    match part {
+        Part::Times(factor, shift) => rounded(t * factor, 1 << (shift - 1), shift),
         other => of(other, t),
     }
 }
 
-fn rows_first(met: &Met) -> Vec<i32> {
-    let turned = |block: &[i32]| (0..64).map(|i| block[8 * (i % 8) + i / 8]).collect::<Vec<i32>>();
-    let values = turned(met.values);
-    turned(&if met.back { inverse(&values) } else { forward(&values) })
+/// A part, which is this where it is a half.
+fn halved(part: Part, t: i64, half: i64) -> i64 {
+    match part {
+        Part::Half => half,
+        other => of(other, t),
+    }
 }
 
 /// A case that a run must have met.
