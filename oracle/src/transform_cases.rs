@@ -1,5 +1,5 @@
-//! Cases of the transform: blocks at the ends of what forward takes, coefficients at those of what its inverse takes, and coefficients whose inverse lies
-//! at the ends of what forward takes.
+//! Cases of the transform: blocks at the ends of what forward takes, coefficients at the ends of what the inverse takes, and coefficients whose inverse
+//! has an end of what forward takes, or one past it.
 
 use crate::lifting;
 use crate::limits::FORWARD;
@@ -16,24 +16,20 @@ pub struct Case {
     pub places: usize,
 }
 
-fn forth(block: Block) -> Case {
+fn forward_of(block: Block) -> Case {
     Case { back: false, values: block.to_vec(), places: 64 }
 }
 
-fn back(coefs: &[i32]) -> Case {
-    Case { back: true, values: coefs.to_vec(), places: 64 }
+/// The inverse of what a block comes to by the steps.
+fn inverse_to(block: Block) -> Case {
+    Case { back: true, values: lifting::forward(&block), places: 64 }
 }
 
-/// The coefficients of a block by the steps, to be carried back.
-fn coefs(block: &Block) -> Case {
-    back(&lifting::forward(block))
-}
-
-/// The ends, one past them, and the same of the ends that were.
+/// The ends of what forward takes, and one past them.
 const ENDS: [i32; 4] = [FORWARD, -FORWARD, FORWARD + 1, -FORWARD - 1];
-const OLD: [i32; 4] = [4_095, -4_095, 4_096, -4_096];
-const OLD_INVERSE: [i32; 4] = [1_048_575, -1_048_575, 1_048_576, -1_048_576];
-/// What a narrower number would take for 0, or for its own negative.
+/// The ends that were, of either call, and one past them.
+const OLD: [i32; 8] = [4_095, -4_095, 4_096, -4_096, 1_048_575, -1_048_575, 1_048_576, -1_048_576];
+/// What a narrower number would show as 0 or -1, and what has no size of its own width.
 const NARROW: [i32; 6] = [1 << 16, -(1 << 16), 1 << 22, 1 << 24, i32::MAX, i32::MIN];
 
 /// Of each coefficient the block of ends whose signs are those of what each place adds to it.
@@ -59,7 +55,7 @@ pub fn listed(signs: &[Block]) -> Vec<Case> {
     let mut list = lengths();
     for block in signs {
         let turned = block.map(|v| -v);
-        list.extend([forth(*block), forth(turned), coefs(block), coefs(&turned)]);
+        list.extend([forward_of(*block), forward_of(turned), inverse_to(*block), inverse_to(turned)]);
     }
     for at in 0..64 {
         list.extend([false, true].into_iter().flat_map(|back| spikes(back, at)));
@@ -96,7 +92,7 @@ fn corners(back: bool) -> impl Iterator<Item = Case> {
 fn spikes(back: bool, at: usize) -> Vec<Case> {
     let most = limit(back);
     let mut values = vec![1, -1, 2, -3, most, -most, most + 1, -most - 1];
-    values.extend(OLD.iter().chain(&OLD_INVERSE).chain(&NARROW));
+    values.extend(OLD.iter().chain(&NARROW));
     let of = |value: &i32| Case { back, values: spike([0; 64], at, *value).to_vec(), places: 64 };
     values.iter().map(of).collect()
 }
@@ -120,7 +116,7 @@ fn ended(r: &mut Random, at: usize, end: i32) -> Vec<Case> {
     let blocks = [[0; 64], spread(r, FORWARD, true), spread(r, FORWARD, false), distances(r)];
     let mut list = Vec::new();
     for block in blocks {
-        let case = coefs(&spike(block, at, end));
+        let case = inverse_to(spike(block, at, end));
         list.extend([near(r, &case), near(r, &case)]);
         list.push(case);
     }
@@ -166,7 +162,7 @@ fn at_ends(r: &mut Random) -> Case {
     for _ in 0..r.pick(&[1, 1, 2, 8]) {
         block[r.below(64)] = r.pick(&ENDS);
     }
-    let case = coefs(&block);
+    let case = inverse_to(block);
     if r.once_in(2) {
         near(r, &case)
     } else {
@@ -185,9 +181,9 @@ fn large(r: &mut Random, signs: &[Block]) -> Case {
         *v -= v.signum() * r.pick(&[1, 1, 2, 3, 2 * FORWARD]);
     }
     if r.once_in(4) {
-        coefs(&block)
+        inverse_to(block)
     } else {
-        forth(block)
+        forward_of(block)
     }
 }
 
