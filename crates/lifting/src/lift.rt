@@ -55,7 +55,7 @@ pub fn down(x: i32, y: i32, b: i32, h: i32, s: u32) -> i32
     sub(x, scaled(y, b, h, s))
 }
 
-// The same three for the inverse, whose products need 37 bits.
+// The same three for the inverse, whose products need 38 bits.
 pub fn scaled_wide(a: i32, b: i32, h: i32, s: u32) -> i32
     requires { ⌜ natAbs a < 2 ^ 31 ⌝ }
     requires { ⌜ Factor b h s ⌝ }
