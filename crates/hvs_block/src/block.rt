@@ -12,7 +12,7 @@ ghost use Rattle.lifting.specs.Inner.Within.{Within, AllWithin};
 ghost use Rattle.hvs_block.specs.Block as Block;
 ghost use Rattle.hvs_block.specs.Inner.Levels.{Samples};
 
-// The square of a coefficient; the largest need more than 32 bits.
+// The square of a coefficient. By what the transform promises of its size, 32 bits may not hold it.
 fn square(v: i32) -> f64
     requires { ⌜ Within coefficientLimit v ⌝ }
     ensures { λ r. ⌜ r ≡ Block.signed (v *ℤ v) ⌝ }
