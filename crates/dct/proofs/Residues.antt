@@ -1,5 +1,5 @@
--- Residues, which are differences of samples, and the differences of two of these: forward takes them, and inverse gives them back, as long
--- as no sample is above half of what forward takes. Assumes nothing.
+-- Residues, which are differences of samples, and differences of two residues: forward takes what is in its range, whatever the signs, and
+-- inverse gives it back. Assumes nothing.
 use mathlib.Core.Path.{_≡_, refl, sym, ap, _∙_}
 use mathlib.Core.List.{List, [], _∷_, map}
 use Prim.Native.Nat.{ℕ, zero, suc, _+_, _-_, _≤_}
@@ -76,15 +76,24 @@ minus-small n m (x ∷ a) (y ∷ b) h k = (record { le = omega (arith, size-diff
 
 -- ---- there and back
 
-pub differences-return : (n : ℕ) → n + n ≤ forwardLimit → (p q r s : List ℕ) → Samples n p → Samples n q → Samples n r → Samples n s
-    → (out out₂ : List ℤ) → length out ≡ blockSize → length out₂ ≡ blockSize
-    → (let b = difference p q r s in
+-- forward takes the block, inverse takes what forward leaves, and leaves the block
+abbrev pub Returns : List ℤ → List ℤ → List ℤ → Type 0
+Returns b out out₂ =
     let z = outAfter forwardLimit fdct8x8 b out in
-    (transformRefusal forwardLimit b out ≡ 0) × (transformRefusal inverseLimit z out₂ ≡ 0) × (outAfter inverseLimit idct8x8 z out₂ ≡ b))
-differences-return n twice p q r s hp hq hr hs out out₂ o o₂ =
-    let one = residue p q in
-    let two = residue r s in
-    let e = length-residue p q (hp .count) (hq .count) in
-    let f = length-residue r s (hr .count) (hs .count) in
-    let small = minus-small n n one two (residue-small n p q (hp .most) (hq .most)) (residue-small n r s (hr .most) (hs .most)) in
-    forward-then-inverse (minus one two) out out₂ (length-minus one two (e ∙ sym f) ∙ e) o o₂ (small-mono twice (minus one two) small)
+    (transformRefusal forwardLimit b out ≡ 0) × (transformRefusal inverseLimit z out₂ ≡ 0) × (outAfter inverseLimit idct8x8 z out₂ ≡ b)
+
+module _ (n : ℕ) (out out₂ : List ℤ) (o : length out ≡ blockSize) (o₂ : length out₂ ≡ blockSize) where
+  pub residue-returns : n ≤ forwardLimit → (p q : List ℕ) → Samples n p → Samples n q → Returns (residue p q) out out₂
+  residue-returns l p q hp hq =
+      forward-then-inverse (residue p q) out out₂ (length-residue p q (hp .count) (hq .count)) o o₂
+      (small-mono l (residue p q) (residue-small n p q (hp .most) (hq .most)))
+
+  pub difference-returns : n + n ≤ forwardLimit → (p q r s : List ℕ) → Samples n p → Samples n q → Samples n r → Samples n s
+      → Returns (difference p q r s) out out₂
+  difference-returns l p q r s hp hq hr hs =
+      let one = residue p q in
+      let two = residue r s in
+      let e = length-residue p q (hp .count) (hq .count) in
+      let f = length-residue r s (hr .count) (hs .count) in
+      let small = minus-small n n one two (residue-small n p q (hp .most) (hq .most)) (residue-small n r s (hr .most) (hs .most)) in
+      forward-then-inverse (minus one two) out out₂ (length-minus one two (e ∙ sym f) ∙ e) o o₂ (small-mono l (minus one two) small)
