@@ -76,7 +76,7 @@ fn sample32(p: &[u32], stride: usize, r: usize, c: usize) -> u64
 }
 
 // One tap more over a pair of samples.
-fn tapped(t: FiveSums, tap: u16, a: u64, b: u64) -> FiveSums
+pub fn tapped(t: FiveSums, tap: u16, a: u64, b: u64) -> FiveSums
     requires { ⌜ Room t tap (λ (m : ℕ). quantOf m a b) ⌝ }
     ensures { λ r. ⌜ r ≡ tappedOf t tap (λ (m : ℕ). quantOf m a b) ⌝ }
 {
@@ -249,7 +249,7 @@ fn column(
 }
 
 // Five sums into scratch from `at` on.
-fn put(at: usize, t: FiveSums, cols: &mut [i64])
+pub fn put(at: usize, t: FiveSums, cols: &mut [i64])
     requires { ⌜ at + 5 ≤ length (now cols) ⌝ }
     requires { ⌜ Fits t ⌝ }
     ensures { λ _. ⌜ now (cols .exit) ≡ set (set (set (set (set (now (cols .entry)) at (pos (t .mux))) (at + 1) (pos (t .muy)))

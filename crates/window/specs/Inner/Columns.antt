@@ -106,6 +106,12 @@ HoldsRow s n ker p y = Holds s n ker (p .height) (sampleAt (p .a)) (sampleAt (p 
 abbrev pub columnsOf : List ℕ → ℕ → ℕ
 columnsOf ker width = width + 2 * (length ker / 2)
 
+-- `new` has g 0 to g (n - 1) from place `from` on, and is `old` before and after
+pub record Put (old new : List ℤ) (from n : ℕ) (g : ℕ → ℕ) : Type 0 where
+  pub there : (i : ℕ) → i < n → atZ new (from + i) ≡ pos (g i)
+  pub before : (i : ℕ) → i < from → atZ new i ≡ atZ old i
+  pub after : (i : ℕ) → from + n ≤ i → atZ new i ≡ atZ old i
+
 -- the margins are zero
 pub record Margins (s : List ℤ) (ker : List ℕ) (width : ℕ) : Type 0 where
   pub left : (j : ℕ) → j < 5 * (length ker / 2) → atZ s j ≡ pos 0
