@@ -1,15 +1,17 @@
 -- The five sums down one column of two views, tap by tap: none yet, one tap more, and all. One law for every sample width. Assumes nothing.
-use mathlib.Core.Path.{_≡_, sym, _∙_}
+use mathlib.Core.Path.{_≡_, refl, sym, ap, _∙_}
 use mathlib.Core.List.{List}
-use Prim.Native.Nat.{ℕ, _+_, _-_, _/_, _≤_, _<_}
+use Prim.Native.Nat.{ℕ, _+_, _-_, _*_, _/_, _≤_, _<_}
 use native.Mathlib.Omega.{arith}
 use lib.ListN.{length}
+use Rattle.plane.proofs.Sums.{sum-ext}
 use Rattle.kernel.specs.Kernel.{tap}
 use Rattle.window.specs.Moments.{mostSample}
-use Rattle.window.specs.Inner.Parts.{Kernel, quantOf, fiveSumsOf, tappedOf, Room}
+use Rattle.window.specs.Inner.Parts.{Kernel, partOf, partsOf, quantOf, fiveSumsOf, tappedOf, Room}
 use Rattle.window.specs.Inner.Columns.{columnTo, Fits}
 use Rattle.window.specs.declared.FiveSums.{FiveSums}
-use Rattle.window.proofs.Sums.Five.{quant-le, quant-small, parts-more, parts-first, parts-last, parts-room, parts-low}
+use Rattle.window.proofs.Sums.Windows.{clipped-both}
+use Rattle.window.proofs.Sums.Five.{five-ext, quant-le, quant-small, parts-more, parts-first, parts-last, parts-room, parts-low}
 
 module _ (ker : List ℕ) (height : ℕ) (a b : ℕ → ℕ → ℕ) (x y k : ℕ) where
   -- no tap before the first inside counts
@@ -46,3 +48,14 @@ unfolding columnTo
 column-fits ker height a b x y t e kernel small-a small-b =
     parts-low ker height (λ (m r : ℕ). quantOf m (a r x) (b r x)) y t e kernel
     (λ m k _ f g. quant-le m _ _ (small-a _ (omega arith)) (small-b _ (omega arith)))
+
+-- views that show the same in a column have the same sums there
+pub column-ext : (ker : List ℕ) (height : ℕ) (a b a′ b′ : ℕ → ℕ → ℕ) (x y n : ℕ) → ((r : ℕ) → r < height → a r x ≡ a′ r x)
+    → ((r : ℕ) → r < height → b r x ≡ b′ r x) → columnTo ker height a b x y n ≡ columnTo ker height a′ b′ x y n
+unfolding columnTo partsOf partOf
+column-ext ker height a b a′ b′ x y n same-a same-b =
+    five-ext _ _ (λ m.
+    sum-ext _ _ n (λ k l.
+    ap (λ (u : ℕ). tap ker k * u)
+    (clipped-both (λ (p q : ℕ). p ≡ q) (length ker / 2) height (λ (r : ℕ). quantOf m (a r x) (b r x)) (λ (r : ℕ). quantOf m (a′ r x) (b′ r x)) (y + k) refl
+    (λ f g. rw (same-a (y + k - length ker / 2) (omega arith), same-b (y + k - length ker / 2) (omega arith))))))

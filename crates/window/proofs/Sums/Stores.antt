@@ -28,6 +28,10 @@ put-more old l from n g v p e h =
       after = λ i m. getD-set-other l (from + n) i v (pos 0) (λ q. absurd (omega arith)) ∙ p .after i (omega arith);
     }
 
+pub put-next : (old l l′ : List ℤ) (from n : ℕ) (g : ℕ → ℕ) (v : ℕ) → Put old l from n g → l′ ≡ set l (from + n) (pos v) → v ≡ g n
+    → from + n < length l → Put old l′ from (n + 1) g
+put-next old l l′ from n g v p e f h = rw e (put-more old l from n g (pos v) p (ap pos f) h)
+
 -- at any name of the place
 put-at : (old l : List ℤ) (from n m at : ℕ) (g : ℕ → ℕ) (v : ℕ) → Put old l from n g → at ≡ from + n → m ≡ n + 1 → v ≡ g n → from + n < length l
     → Put old (set l at (pos v)) from m g
