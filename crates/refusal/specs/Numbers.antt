@@ -56,3 +56,7 @@ weightNo = 13
 -- the chart has no kernel for this height
 abbrev pub heightNo : ℕ
 heightNo = 14
+
+-- rows as they arrive: a state that no begin and feeds could give, rows past the height, or finishing early
+abbrev pub stateNo : ℕ
+stateNo = 15

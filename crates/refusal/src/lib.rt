@@ -29,3 +29,5 @@ pub const VALUE: u8 = 12;
 pub const WEIGHT: u8 = 13;
 // The chart has no kernel for this height.
 pub const HEIGHT: u8 = 14;
+// A row-fed state that no begin and feeds could give, rows past the height, or a finish before the last row.
+pub const STATE: u8 = 15;
