@@ -41,9 +41,9 @@ placesOf s = scratchPlaces (s .width) (s .taps)
 unfoldable pub zeros : List ℕ → Bool
 zeros l = allTo (λ (k : ℕ). eqb (at l k) 0) (length l)
 
--- a lawful kernel, and nothing but zeros past it
-unfoldable pub kernelSuits : State → Bool
-kernelSuits s = leb (s .taps) mostTaps && (lawful lentTotal (kernelOf s) && zeros (drop (s .taps) (s .kernel)))
+-- the first `taps` places are a lawful kernel, and past it are nothing but zeros
+unfoldable pub placesSuit : List ℕ → ℕ → Bool
+placesSuit places taps = leb taps (length places) && (lawful lentTotal (take taps places) && zeros (drop taps places))
 
 -- no more rows than the height, and as many scored as so many rows allow
 unfoldable pub countsSuit : State → Bool
@@ -52,7 +52,7 @@ countsSuit s = leb (s .rows) (s .height) && eqb (s .scored) (scoredAfter (s .row
 -- what a begin and feeds of bytes, or of words where `wide` is true, can give (`possible-reached`, `reached-possible`). The running sums are not
 -- judged.
 unfoldable pub possible : Bool → State → Bool
-possible wide s = depthSuits wide (s .depth) && (sidesSuit (s .width) (s .height) && (kernelSuits s && countsSuit s))
+possible wide s = depthSuits wide (s .depth) && (sidesSuit (s .width) (s .height) && (placesSuit (s .kernel) (s .taps) && countsSuit s))
 
 -- the state of zeros, which is beside a refused begin; it is not possible
 abbrev pub noState : State

@@ -18,7 +18,7 @@ use ssim::walk;
 pub fn refusal(state: State, lent: usize) -> u8
     ensures { λ r. ⌜ r ≡ finishRefusal state lent ⌝ }
 {
-    if !(possible::is_possible(false, state) || possible::is_possible(true, state)) {
+    if !possible::is_possible_anyhow(state) {
         return refusal::STATE;
     }
     if lent < ssim::scratch_places(state.width, state.taps) {

@@ -1,10 +1,7 @@
 // Which states a begin and feeds can give.
 ghost use mathlib.Core.Path.{_≡_};
-ghost use mathlib.Core.Bool.{_&&_};
-ghost use Prim.Native.Nat.{_≤_};
-ghost use lib.ListN.{length, take, drop};
-ghost use Rattle.kernel.specs.Kernel.{lentTotal, lawful, mostTaps};
-ghost use Rattle.rowfed.specs.State.{zeros, kernelSuits, countsSuit, possible};
+ghost use mathlib.Core.Bool.{true, false, _||_};
+ghost use Rattle.rowfed.specs.State.{zeros, placesSuit, countsSuit, possible};
 use crate::State;
 
 // All of a list is 0.
@@ -20,29 +17,26 @@ fn all_zero(l: &[u16]) -> bool
 
 // The first `taps` places are a lawful kernel, the others 0.
 fn places_suit(places: &[u16], taps: usize) -> bool
-    requires { ⌜ taps ≤ length (now places) ⌝ }
-    ensures { λ r. ⌜ r ≡ (lawful lentTotal (take taps (now (places .entry))) && zeros (drop taps (now (places .entry)))) ⌝ }
+    ensures { λ r. ⌜ r ≡ placesSuit (now (places .entry)) taps ⌝ }
 {
+    if places.len() < taps {
+        return false;
+    }
     kernel::is_lawful(&places[..taps]) && all_zero(&places[taps..])
 }
 
 // The same of the places of a state.
 fn held_suits(places: &[u16; 255], taps: usize) -> bool
-    requires { ⌜ taps ≤ mostTaps ⌝ }
-    ensures { λ r. ⌜ r ≡ (lawful lentTotal (take taps (now (places .entry))) && zeros (drop taps (now (places .entry)))) ⌝ }
+    ensures { λ r. ⌜ r ≡ placesSuit (now (places .entry)) taps ⌝ }
 {
     places_suit(places, taps)
 }
 
 fn kernel_suits(s: State) -> bool
-    ensures { λ r. ⌜ r ≡ kernelSuits s ⌝ }
+    ensures { λ r. ⌜ r ≡ placesSuit (s .kernel) (s .taps) ⌝ }
 {
-    let taps = s.taps;
-    if kernel::MOST_TAPS < taps {
-        return false;
-    }
     let places = s.kernel;
-    held_suits(&places, taps)
+    held_suits(&places, s.taps)
 }
 
 fn counts_suit(s: State) -> bool
@@ -60,4 +54,11 @@ pub fn is_possible(wide: bool, s: State) -> bool
 {
     plane::depth_suits(wide, s.depth)
         && (plane::sides_suit(s.width, s.height) && (kernel_suits(s) && counts_suit(s)))
+}
+
+// The same of either width: a finish has no samples.
+pub fn is_possible_anyhow(s: State) -> bool
+    ensures { λ r. ⌜ r ≡ (possible false s || possible true s) ⌝ }
+{
+    is_possible(false, s) || is_possible(true, s)
 }

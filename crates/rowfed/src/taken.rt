@@ -194,16 +194,11 @@ fn with_rows(state: State, rows: usize, sums: Totals) -> State
     ensures { λ r. ⌜ r ≡ withRows state rows sums ⌝ }
 {
     let received = state.rows + rows;
-    State {
-        width: state.width,
-        height: state.height,
-        depth: state.depth,
-        taps: state.taps,
-        kernel: state.kernel,
-        rows: received,
-        scored: row_ring::scored_after(received, state.height, state.taps / 2),
-        sums,
-    }
+    let mut next = state;
+    next.rows = received;
+    next.scored = row_ring::scored_after(received, state.height, state.taps / 2);
+    next.sums = sums;
+    next
 }
 
 // Feed, of either sample width.

@@ -54,14 +54,18 @@ module _ (p : Planes) (ker : List ℕ) (lent : ℕ) {n : ℕ} (e : n ≡ pairRef
 
 -- ---- none of them refuses
 
--- the columns and their margins, five places each: width + 2 off is at most width × (2 off + 1), so at most width × L
-room : (width : ℕ) (ker : List ℕ) → 1 ≤ width → length ker ≡ 2 * (length ker / 2) + 1 → 5 * columnsOf ker width ≤ scratchPlaces width (length ker)
-room width ker l odd =
+-- the columns and their margins: width + 2 off is at most width × (2 off + 1), so at most width × L
+pub columns-few : (width : ℕ) (ker : List ℕ) → 1 ≤ width → length ker ≡ 2 * (length ker / 2) + 1 → columnsOf ker width ≤ width * nextPower (length ker)
+columns-few width ker l odd =
     let off = length ker / 2 in
     let reach : 2 * off + 1 ≤ nextPower (length ker) = omega (arith, power-reach (length ker)) in
     let margins : 2 * off * 1 ≤ 2 * off * width = mul-le-mul-left (2 * off) l in
     let all : width * (2 * off + 1) ≤ width * nextPower (length ker) = mul-le-mul-left width reach in
-    omega (arith, mul-add width (2 * off) 1, mul-comm width (2 * off), mul-assoc 6 width (nextPower (length ker)))
+    omega (arith, mul-add width (2 * off) 1, mul-comm width (2 * off))
+
+-- five places each
+room : (width : ℕ) (ker : List ℕ) → 1 ≤ width → length ker ≡ 2 * (length ker / 2) + 1 → 5 * columnsOf ker width ≤ scratchPlaces width (length ker)
+room width ker l odd = omega (arith, columns-few width ker l odd, mul-assoc 6 width (nextPower (length ker)))
 
 pub sound : (p : Planes) (ker : List ℕ) (lent : ℕ) {n : ℕ} → n ≡ ssimRefusal p ker lent → n ≡ 0 → Sound p ker lent
 unfolding lentTests

@@ -1,4 +1,4 @@
-mod Powers
+pub mod Powers
 mod Zeros
 mod Same
 pub mod Accept

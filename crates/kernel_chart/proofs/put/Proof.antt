@@ -10,7 +10,8 @@ use lib.ListN.{length, take, drop, length-set}
 use lib.Seq.{take-length}
 use Rattle.kernel_chart.specs.Rows.{chart}
 use Rattle.kernel_chart.specs.Inner.Flat.{allTaps}
-use Rattle.kernel_chart.proofs.Copy.{part, part-length, part-at, copied-more}
+use Rattle.kernel.proofs.Copy.{copied-more}
+use Rattle.kernel_chart.proofs.Copy.{part, part-length, part-at}
 use Rattle.kernel_chart.proofs.Flat.{taps-room}
 use Rattle.kernel_chart.proofs.put.Statement.{statement}
 use Rattle.kernel_chart.proofs.put.Tie as tie

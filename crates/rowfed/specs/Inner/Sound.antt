@@ -14,7 +14,7 @@ use Rattle.rowfed.specs.declared.State.{State}
 use Rattle.rowfed.specs.State.{kernelOf, placesOf}
 use Rattle.rowfed.specs.Feed.{usedPlaces}
 
--- a possible state, whose kernel has all of its places
+-- a possible state
 pub record SoundState (s : State) : Type 0 where
   pub taps-least : 1 ≤ s .taps
   pub taps-most : s .taps ≤ mostTaps
