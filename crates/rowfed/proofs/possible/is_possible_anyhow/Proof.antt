@@ -1,25 +1,19 @@
+-- `rowfed::possible::is_possible_anyhow` meets its contract. Assumes nothing.
 use borrow.Author.Needs.{needs}
 use Rattle.rowfed.proofs.possible.is_possible_anyhow.Statement.{statement}
 use Rattle.rowfed.proofs.possible.is_possible_anyhow.Tie as tie
-use Rattle.rowfed.proofs.possible.is_possible_anyhow.Reads as reads
-use Rattle.rowfed.proofs.possible.is_possible_anyhow.Lts as lts
-use Rattle.rowfed.proofs.possible.is_possible.Reads as is-possible-reads
 
--- src/possible.rt:63:5
 is-possible-requires : tie.Need-is-possible-requires
 is-possible-requires c κs = search needs
 
--- src/possible.rt:63:30
 is-possible-requires-2 : tie.Need-is-possible-requires-2
 is-possible-requires-2 c κs = search needs
 
--- src/possible.rt:60:1
 returns : tie.Need-returns
-returns c = ?
+returns c = rw (← (c .before .is-possible .ensures), c .if1 .taken)
 
--- src/possible.rt:60:1
 returns-2 : tie.Need-returns-2
-returns-2 c = ?
+returns-2 c = rw (← (c .before .before .is-possible .ensures), c .before .if1 .left) (c .is-possible2 .ensures)
 
 pub is-possible-anyhow-spec : {M : Type 1} → statement M
 is-possible-anyhow-spec =
