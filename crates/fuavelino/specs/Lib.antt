@@ -7,5 +7,6 @@ pub mod Msssim
 pub mod Places
 pub mod Psnr
 pub mod Root
+pub mod Rows
 pub mod Ssim
 pub mod Version

@@ -18,6 +18,7 @@ pub mod locate_calls;
 pub mod msssim_calls;
 pub mod places;
 pub mod psnr_calls;
+pub mod rows_calls;
 pub mod ssim_calls;
 
 use number::Rooted;
