@@ -1,12 +1,14 @@
 -- A ring of L lines: slots, what a stored row changes, and which rows the ring shows. Assumes nothing.
 use mathlib.Core.Path.{_≡_, refl, sym, _∙_, ap}
+use mathlib.Core.Bool.{cond}
 use mathlib.Core.List.{List}
 use Prim.Native.Nat.{ℕ, _+_, _-_, _*_, _/_, _%_, _≤_, _<_}
-use native.Mathlib.Nat.{div-add-mod', mod-lt, mod-self, mod-eq-of-lt, mod-add-mod, mul-le-mul-right, lt-of-mul-lt-mul-right}
+use native.Mathlib.Nat.{add-mul, div-add-mod', mod-lt, mod-self, mod-eq-of-lt, mod-add-mod, mul-le-mul-right, lt-of-mul-lt-mul-right}
 use native.Mathlib.Decide.{decLt}
+use borrow.Author.Tests.{lt-ltb, le-ltb}
 use native.Mathlib.Omega.{arith}
 use lib.Arith.{lt-of-le-ne}
-use lib.Dec.{lit≤}
+use lib.Dec.{ltb, lit≤}
 use lib.IntN.{ℤ, pos}
 use Rattle.window.specs.Moments.{mostSample}
 use Rattle.window.specs.Inner.Columns.{atZ, Put}
@@ -24,12 +26,30 @@ mod-apart L r y l m e =
 pub slot-next : (L r : ℕ) → (r % L + 1) % L ≡ (r + 1) % L
 slot-next L r = mod-add-mod r L 1
 
--- which is one more, or 0 at L
-pub slot-more : (slot L : ℕ) → slot + 1 < L → slot + 1 ≡ (slot + 1) % L
-slot-more slot L l = sym (mod-eq-of-lt l)
+-- the last line, and so the ring, ends a width after the line's begin
+pub last-line : (L width : ℕ) → 0 < L → (L - 1) * width + width ≡ L * width
+last-line L width some =
+    let e : L - 1 + 1 ≡ L = omega arith in
+    omega (arith, rw e at (add-mul (L - 1) 1 width))
 
-pub slot-none : (slot L : ℕ) → slot < L → L ≤ slot + 1 → 0 ≡ (slot + 1) % L
-slot-none slot L l m = let e : slot + 1 ≡ L = omega arith in rw e (sym (mod-self L))
+-- so the place one row on is a width further, or back in the first line
+pub next-place : (L width r x i last : ℕ) → i ≡ r % L * width + x → last ≡ (L - 1) * width → x < width → 0 < L
+    → cond (ltb i last) (i + width) (i - last) ≡ (r + 1) % L * width + x
+next-place L width r x i last e f inside some = go (decLt (r % L + 1) L)
+  where
+    go : Dec (r % L + 1 < L) → cond (ltb i last) (i + width) (i - last) ≡ (r + 1) % L * width + x
+    go (yes l) =
+        let below : r % L + 1 ≤ L - 1 = omega arith in
+        let up = mul-le-mul-right width below in
+        let slot = sym (slot-next L r) ∙ mod-eq-of-lt l in
+        rw (lt-ltb i last (omega (arith, e, f, up)), slot) (omega (arith, e))
+    go (no n) =
+        let low = mod-lt r some in
+        let end : r % L + 1 ≡ L = omega (arith, low) in
+        let line : L - 1 ≡ r % L = omega (arith, end) in
+        let start = rw line at f in
+        let slot = sym (slot-next L r) ∙ ap (λ (q : ℕ). q % L) end ∙ mod-self L in
+        rw (le-ltb i last (omega (arith, e, start)), slot) (omega (arith, e, start))
 
 -- a slot's row ends inside the ring
 pub slot-inside : (width L r n : ℕ) → 0 < L → L * width ≤ n → r % L * width + width ≤ n
@@ -83,12 +103,12 @@ module _ (old new : List ℤ) (width L y : ℕ) (g : ℕ → ℕ) (p : Put old n
             rw e (ap secondOf (place-new c k) ∙ second-packed (a y c) (b y c) (low-a c k) (low-b c k))
 
 -- ---- what is read from it, whatever stands there
-module _ (s : List ℤ) (width L slot r c : ℕ) (e : slot ≡ r % L) where
-  pub read-first : firstOf (atZ s (slot * width + c)) ≡ ringA s width L r c
+module _ (s : List ℤ) (width L r c i : ℕ) (e : i ≡ r % L * width + c) where
+  pub read-first : firstOf (atZ s i) ≡ ringA s width L r c
   unfolding ringA
   read-first = rw e
 
-  pub read-second : secondOf (atZ s (slot * width + c)) ≡ ringB s width L r c
+  pub read-second : secondOf (atZ s i) ≡ ringB s width L r c
   unfolding ringB
   read-second = rw e
 
@@ -105,15 +125,13 @@ pub ring-small-b : (s : List ℤ) (width L r c : ℕ) → ringB s width L r c �
 unfolding ringB
 ring-small-b s width L r c = omega (arith, second-small (atZ s (placeAt width L r c)), word-small)
 
--- ---- a slot that goes along with its row
-module _ (slot L r : ℕ) (e : slot ≡ r % L) (some : 0 < L) where
-  pub slot-low : slot < L
-  slot-low = rw e (mod-lt r some)
+-- ---- a place that goes along with its row
+module _ (width L r c i : ℕ) (e : i ≡ r % L * width + c) (inside : c < width) (some : 0 < L) where
+  pub place-room : (n : ℕ) → L * width ≤ n → i < n
+  place-room n l = omega (arith, e, slot-inside width L r n some l)
 
-  pub slot-room : (width n : ℕ) → L * width ≤ n → slot * width + width ≤ n
-  slot-room width n m = rw e (slot-inside width L r n some m)
-
-pub slot-step : (slot new L y k off : ℕ) → slot ≡ (y + k - off) % L → new ≡ (slot + 1) % L → off ≤ y + k → new ≡ (y + (k + 1) - off) % L
-slot-step slot new L y k off e f l =
-    let g : y + (k + 1) - off ≡ y + k - off + 1 = omega arith in
-    rw (f, e, g) (slot-next L (y + k - off))
+pub place-step : (width L y k off c i i′ last : ℕ) → i ≡ (y + k - off) % L * width + c → last ≡ (L - 1) * width → c < width → 0 < L → off ≤ y + k
+    → i′ ≡ cond (ltb i last) (i + width) (i - last) → i′ ≡ (y + (k + 1) - off) % L * width + c
+place-step width L y k off c i i′ last e f inside some l g =
+    let d : y + (k + 1) - off ≡ y + k - off + 1 = omega arith in
+    rw (g, d) (next-place L width (y + k - off) c i last e f inside some)

@@ -2,7 +2,9 @@
 // pair of samples to a place, row r at slot r % lines; the places past the ring are for the column sums of one centre row between their
 // margins, and are zero between the rows.
 ghost use mathlib.Core.Path.{_≡_};
-ghost use Prim.Native.Nat.{ℕ, _+_, _-_, _*_, _/_, _%_, _<_, _≤_};
+ghost use mathlib.Core.Bool.{cond};
+ghost use Prim.Native.Nat.{ℕ, _+_, _-_, _*_, _%_, _<_, _≤_, _^_};
+ghost use lib.Dec.{ltb};
 ghost use lib.ListN.{length};
 ghost use Rattle.plane.specs.Limits.{sideLimit};
 ghost use Rattle.plane.specs.Plane.{sampleAt};
@@ -31,12 +33,13 @@ pub struct Ring {
     pub lines: usize,
 }
 
-// The slot after a slot.
-fn next_slot(slot: usize, lines: usize) -> usize
-    requires { ⌜ slot < lines ⌝ }
-    ensures { λ r. ⌜ r ≡ (slot + 1) % lines ⌝ }
+// The place one row on: past the last line, which begins at `last`, comes the first.
+fn next_place(i: usize, width: usize, last: usize) -> usize
+    requires { ⌜ i < last + width ⌝ }
+    requires { ⌜ last + width < 2 ^ 64 ⌝ }
+    ensures { λ r. ⌜ r ≡ cond (ltb i last) (i + width) (i - last) ⌝ }
 {
-    if slot + 1 < lines { slot + 1 } else { 0 }
+    if i < last { i + width } else { i - last }
 }
 
 // Row `i` of a group, to the places from `to` on.
@@ -70,7 +73,7 @@ fn store_row(
     }
 }
 
-// The five sums down column x of the ring, the middle in row y. The slot of the next tap is the one after: no division.
+// The five sums down column x of the ring, the middle in row y. The place goes along with the taps, with no product and no division.
 fn column(s: &[i64], ring: Ring, kernel: &[u16], x: usize, y: usize) -> FiveSums
     requires { ⌜ (x < ring .width) × (y < ring .height) × (ring .height ≤ sideLimit) ⌝ }
     requires { ⌜ (0 < ring .lines) × (ring .lines * ring .width ≤ length (now s)) ⌝ }
@@ -83,8 +86,9 @@ fn column(s: &[i64], ring: Ring, kernel: &[u16], x: usize, y: usize) -> FiveSums
     let width = ring.width;
     let height = ring.height;
     let lines = ring.lines;
+    let last = (lines - 1) * width;
     let from = columns::first(n, y);
-    let mut slot = (y + from - off) % lines;
+    let mut i = (y + from - off) % lines * width + x;
     let mut t = FiveSums {
         mux: 0,
         muy: 0,
@@ -93,9 +97,8 @@ fn column(s: &[i64], ring: Ring, kernel: &[u16], x: usize, y: usize) -> FiveSums
         y2: 0,
     };
     for k in from..columns::past(n, y, height) {
-        let i = slot * width + x;
         t = columns::tapped(t, kernel[k], pair::first(s, i), pair::second(s, i));
-        slot = next_slot(slot, lines);
+        i = next_place(i, width, last);
     }
     t
 }
