@@ -7,6 +7,7 @@
 #![allow(unsafe_code)]
 
 use crate::locate::{Place, Tiles};
+use crate::no_alloc::RowState;
 use crate::plane::{Pair, Plane, PlaneKind, PsnrMetrics, Record, Shape};
 
 extern "C" {
@@ -16,6 +17,15 @@ extern "C" {
     fn fuavelino_msssim_samples(width: usize, height: usize) -> usize;
     fn fuavelino_error_map_places(width: usize, height: usize) -> usize;
     fn fuavelino_kernel(height: usize, taps: *mut u16, places: usize, count: &mut usize) -> u8;
+    fn fuavelino_rows_finish(
+        scratch: *mut i64,
+        places: usize,
+        numbers: &[u64; 6],
+        held: &[u16; 255],
+        sums: &[f64; 3],
+        ssim: &mut f64,
+        cs: &mut f64,
+    ) -> u8;
     fn fuavelino_root(x: f64, out: &mut f64) -> u8;
     fn fuavelino_series(
         records: *const Record,
@@ -67,6 +77,15 @@ pub fn kernel(height: usize, taps: &mut [u16], count: &mut usize) -> u8 {
     // SAFETY: any height is taken, the pointer and the count of places are those of one slice, lent to be written, and `count` is a place
     // of its own.
     unsafe { fuavelino_kernel(height, taps.as_mut_ptr(), taps.len(), count) }
+}
+
+#[inline]
+pub fn rows_finish(scratch: &mut [i64], state: &RowState, out: &mut Pair) -> u8 {
+    let RowState { numbers, kernel, sums } = state;
+    let Pair { ssim, cs } = out;
+    // SAFETY: the pointer and the count of places are those of one slice, lent to be written; any state is taken, its three parts are only
+    // read, and both results are places of their own.
+    unsafe { fuavelino_rows_finish(scratch.as_mut_ptr(), scratch.len(), numbers, kernel, sums, ssim, cs) }
 }
 
 #[inline]
@@ -151,6 +170,10 @@ pub trait Width: Copy {
         out: &mut Pair,
     ) -> u8;
 
+    fn rows_begin(shape: Shape, kernel: &[u16], scratch: &mut [i64], state: &mut RowState) -> u8;
+
+    fn rows_feed(a: Plane<'_, Self>, b: Plane<'_, Self>, rows: usize, scratch: &mut [i64], state: &mut RowState) -> u8;
+
     fn msssim(
         a: Plane<'_, Self>,
         b: Plane<'_, Self>,
@@ -167,8 +190,8 @@ pub trait Width: Copy {
 /// Declares the exports of one width by their names, and has the width call them.
 macro_rules! width {
     (
-        $sample:ty, $check:ident, $squared_error:ident, $first_difference:ident, $error_map:ident, $ssim:ident, $msssim:ident,
-        $hvs_y:ident, $hvs_u:ident, $hvs_v:ident
+        $sample:ty, $check:ident, $squared_error:ident, $first_difference:ident, $error_map:ident, $ssim:ident, $rows_begin:ident,
+        $rows_feed:ident, $msssim:ident, $hvs_y:ident, $hvs_u:ident, $hvs_v:ident
     ) => {
         declare!($sample, $check: least: usize);
         declare!($sample, $squared_error: frame: u32, plane: u32, sq_err: &mut f64, n: &mut u64, sample_max: &mut u32);
@@ -181,6 +204,34 @@ macro_rules! width {
             $sample, $msssim: scratch: *mut i64, places: usize, a32: *mut u32, a32_places: usize, b32: *mut u32,
             b32_places: usize, pairs: *mut Pair
         );
+        extern "C" {
+            fn $rows_begin(
+                width: usize,
+                height: usize,
+                depth: u32,
+                kernel: *const u16,
+                taps: usize,
+                scratch: *mut i64,
+                places: usize,
+                numbers: &mut [u64; 6],
+                held: &mut [u16; 255],
+                sums: &mut [f64; 3],
+            ) -> u8;
+            fn $rows_feed(
+                a: *const $sample,
+                a_len: usize,
+                b: *const $sample,
+                b_len: usize,
+                stride_a: usize,
+                stride_b: usize,
+                rows: usize,
+                scratch: *mut i64,
+                places: usize,
+                numbers: &mut [u64; 6],
+                held: &[u16; 255],
+                sums: &mut [f64; 3],
+            ) -> u8;
+        }
         declare!($sample, $hvs_y: score: &mut f64);
         declare!($sample, $hvs_u: score: &mut f64);
         declare!($sample, $hvs_v: score: &mut f64);
@@ -245,6 +296,32 @@ macro_rules! width {
                 let (taps, places) = (kernel.len(), scratch.len());
                 let Pair { ssim, cs } = out;
                 lend!($ssim, a, b, shape, kernel.as_ptr(), taps, scratch.as_mut_ptr(), places, ssim, cs)
+            }
+
+            #[inline]
+            fn rows_begin(shape: Shape, kernel: &[u16], scratch: &mut [i64], state: &mut RowState) -> u8 {
+                let Shape { width, height, bit_depth } = shape;
+                let (k, taps, s, places) = (kernel.as_ptr(), kernel.len(), scratch.as_mut_ptr(), scratch.len());
+                let RowState { numbers, kernel, sums } = state;
+                // SAFETY: each pointer goes with the count of its own slice, any shape is taken, and scratch and the three parts of the state
+                // are lent to be written.
+                unsafe { $rows_begin(width, height, bit_depth, k, taps, s, places, numbers, kernel, sums) }
+            }
+
+            #[inline]
+            fn rows_feed(
+                a: Plane<'_, Self>,
+                b: Plane<'_, Self>,
+                rows: usize,
+                scratch: &mut [i64],
+                state: &mut RowState,
+            ) -> u8 {
+                let (x, y, s) = (a.data.as_ptr(), b.data.as_ptr(), scratch.as_mut_ptr());
+                let (i, j, places) = (a.data.len(), b.data.len(), scratch.len());
+                let RowState { numbers, kernel, sums } = state;
+                // SAFETY: each pointer goes with the count of its own slice, any strides, count of rows and state are taken, and scratch and
+                // the state's numbers and sums are lent to be written.
+                unsafe { $rows_feed(x, i, y, j, a.stride, b.stride, rows, s, places, numbers, kernel, sums) }
             }
 
             #[inline]
@@ -313,6 +390,8 @@ width!(
     fuavelino_first_difference8,
     fuavelino_error_map8,
     fuavelino_ssim8,
+    fuavelino_rows_begin8,
+    fuavelino_rows_feed8,
     fuavelino_msssim8,
     fuavelino_psnr_hvs_y8,
     fuavelino_psnr_hvs_u8,
@@ -325,6 +404,8 @@ width!(
     fuavelino_first_difference16,
     fuavelino_error_map16,
     fuavelino_ssim16,
+    fuavelino_rows_begin16,
+    fuavelino_rows_feed16,
     fuavelino_msssim16,
     fuavelino_psnr_hvs_y16,
     fuavelino_psnr_hvs_u16,

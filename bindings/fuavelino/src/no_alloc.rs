@@ -19,6 +19,10 @@
 //! # Ok::<(), Refusal>(())
 //! ```
 
+mod rows;
+
+pub use rows::{rows_begin, rows_feed, rows_finish, RowState};
+
 use crate::exports;
 use crate::locate::{Place, Tiles};
 use crate::plane::{Pair, Plane, PlaneKind, PsnrMetrics, Record, Sample, Shape};

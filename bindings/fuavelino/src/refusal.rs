@@ -36,10 +36,12 @@ pub enum Refusal {
     Weight = 13,
     /// 14: the chart has no kernel for this height.
     Height = 14,
+    /// 15: a row-fed state that no begin and feeds could give, rows past the height, or a finish before the last row.
+    State = 15,
 }
 
 /// Each refusal with its rule, in the order of the numbers.
-const RULES: [(Refusal, &str); 14] = [
+const RULES: [(Refusal, &str); 15] = [
     (Refusal::Depth, "the depth does not suit the sample width"),
     (Refusal::Size, "width or height is 0 or above 16384"),
     (Refusal::Side, "a side is below the least that this score takes"),
@@ -54,10 +56,11 @@ const RULES: [(Refusal, &str); 14] = [
     (Refusal::Value, "a value, or a count of values, is out of range"),
     (Refusal::Weight, "a weight is outside 0 to 1, or a number is not finite"),
     (Refusal::Height, "the chart has no kernel for this height"),
+    (Refusal::State, "a row-fed state that no begin and feeds could give, rows past the height, or a finish before the last row"),
 ];
 
 impl Refusal {
-    /// Its number, 1 to 14.
+    /// Its number, 1 to 15.
     pub fn number(self) -> u8 {
         self as u8
     }
@@ -84,7 +87,7 @@ impl Error for Refusal {}
 
 /// What an export's number means.
 ///
-/// The library is proved to answer 0 to 14 only. Another number means that this crate is linked with a library that it was not
+/// The library is proved to answer 0 to 15 only. Another number means that this crate is linked with a library that it was not
 /// written for; then nothing that it says can be taken for good, so this panics.
 #[inline]
 pub(crate) fn outcome(number: u8) -> Result<(), Refusal> {
