@@ -1,12 +1,13 @@
 /* Plane-level video quality scores whose every promise is proved: the calls of libfuavelino.a.
  *
  * A call answers 0 and writes its result, or answers the lowest refusal number that applies of its own and writes nothing, but that 9
- * leaves scratch as acceptance does. Any numbers may be passed; no caller checks first. What is asked of the caller, since no proof
- * reaches it:
+ * leaves scratch as acceptance does, and that a state which cannot be is 15 before anything else. Any numbers may be passed; no caller
+ * checks first. What is asked of the caller, since no proof reaches it:
  *   - a pointer is not null and is aligned for its type, also where its count is 0;
  *   - the places that a count promises are there;
  *   - what a call writes (scratch, rooms, results) overlaps nothing else that the call is lent. Planes may overlap each other.
- * Scratch and rooms may hold anything on entry, also what malloc gives; results need not be set.
+ * Scratch and rooms may hold anything on entry, also what malloc gives; results need not be set. Only rows that are fed go on where the
+ * call before left scratch and state.
  *
  * A plane is lent as a pointer, its count of samples, and a stride: sample (x, y) stands at y * stride + x. Bytes (8) carry depths
  * 1 to 8, words (16) carry 9 to 12. Both planes of a call share width, height and depth; each has its own stride. Padding is never read.
@@ -55,7 +56,8 @@ enum fuavelino_refusal {
     FUAVELINO_TOTAL = 11,      /* a series whose exact total is above 2^53 */
     FUAVELINO_VALUE = 12,      /* a root or a transform of what it does not take */
     FUAVELINO_WEIGHT = 13,     /* a weight outside 0 to 1, or a number that is not finite */
-    FUAVELINO_HEIGHT = 14      /* a height for which the chart has no kernel */
+    FUAVELINO_HEIGHT = 14,     /* a height for which the chart has no kernel */
+    FUAVELINO_STATE = 15       /* a row-fed state that no begin and feeds could give, rows past the height, or a finish before the last row */
 };
 
 /* An answer in words, for messages. Any number may be asked for. */
@@ -76,6 +78,7 @@ static inline const char *fuavelino_refusal_text(unsigned number) {
     case FUAVELINO_VALUE: return "a value, or a count of values, is out of range";
     case FUAVELINO_WEIGHT: return "a weight is outside 0 to 1, or a number is not finite";
     case FUAVELINO_HEIGHT: return "the chart has no kernel for this height";
+    case FUAVELINO_STATE: return "a row-fed state that no begin and feeds could give, rows past the height, or a finish before the last row";
     default: return "no answer of this library";
     }
 }
@@ -171,6 +174,51 @@ uint8_t fuavelino_ssim16(const uint16_t *a, size_t a_len, const uint16_t *b, siz
 /* The places that the scratch of SSIM must have: 6 * width * L, L the least power of two not below the count of taps. 0 where width is not
  * 1 to FUAVELINO_MOST_SIDE or taps not 1 to FUAVELINO_MOST_TAPS: such a call is refused by a lower number, whatever is lent. */
 size_t fuavelino_ssim_places(size_t width, size_t taps);
+
+/* SSIM of rows as they arrive, where nobody holds two whole planes: begin, feed any number of whole rows of both, finish. What stays between the
+ * calls is the caller's: this state, and scratch of at least fuavelino_ssim_places(width, taps) places, both lent to each call. However the rows
+ * are grouped, the pair is bit for bit that of fuavelino_ssim8 or 16. Two planes of bytes, in bands:
+ *     fuavelino_rows r;
+ *     no = fuavelino_rows_begin8(width, height, depth, kernel, taps, scratch, places, FUAVELINO_ROWS(r));
+ *     while (no == 0 && r.numbers[4] < height) {
+ *         rows = next_band(&a, &b);
+ *         no = fuavelino_rows_feed8(a, a_len, b, b_len, stride_a, stride_b, rows, scratch, places, FUAVELINO_ROWS(r));
+ *     }
+ *     if (no == 0) no = fuavelino_rows_finish(scratch, places, FUAVELINO_ROWS(r), &ssim, &cs);
+ * Any state may be lent: its numbers are judged at their full 64 bits, and one that no begin and feeds of the sample width could give is 15. The
+ * sums are not judged. Who alters them or the scratch, or lends an older state, may be told any answer; still only what is lent is read or
+ * written. */
+typedef struct fuavelino_rows {
+    uint64_t numbers[6];                  /* width, height, depth, taps, rows received, rows scored */
+    uint16_t kernel[FUAVELINO_MOST_TAPS]; /* the taps, then zeros */
+    double sums[3];                       /* running sums: of ssim, of cs and of the weights */
+} fuavelino_rows;
+
+/* A state as the calls take it. */
+#define FUAVELINO_ROWS(r) (r).numbers, (r).kernel, (r).sums
+
+/* Begins two planes of these sides, of bytes or of words, under a kernel that fuavelino_ssim8 takes. The needed places of scratch become 0, and the
+ * state is that of no rows, whatever it was. Refuses 1 2 7 8, and then the state, too, is as it was. */
+uint8_t fuavelino_rows_begin8(size_t width, size_t height, uint32_t depth, const uint16_t *kernel, size_t taps, int64_t *scratch,
+                              size_t places, uint64_t numbers[6], uint16_t held[FUAVELINO_MOST_TAPS], double sums[3]);
+uint8_t fuavelino_rows_begin16(size_t width, size_t height, uint32_t depth, const uint16_t *kernel, size_t taps, int64_t *scratch,
+                               size_t places, uint64_t numbers[6], uint16_t held[FUAVELINO_MOST_TAPS], double sums[3]);
+
+/* Takes the next `rows` rows of both planes; the first begins where a and b point. A row is scored as soon as half a kernel, taps / 2, of further
+ * rows has come, or the last row has: numbers[5] says how many are. Scratch past the needed places stays as it was. No rows need no samples, and
+ * leave the state as it was. Refuses 15 for the state; then 4 5 6 8, as of planes of that many rows, and 4 and 8 also of no rows; then 15 for more
+ * rows than the height has left. A refused feed changed nothing, and may be repeated. */
+uint8_t fuavelino_rows_feed8(const uint8_t *a, size_t a_len, const uint8_t *b, size_t b_len, size_t stride_a, size_t stride_b,
+                             size_t rows, int64_t *scratch, size_t places, uint64_t numbers[6],
+                             const uint16_t held[FUAVELINO_MOST_TAPS], double sums[3]);
+uint8_t fuavelino_rows_feed16(const uint16_t *a, size_t a_len, const uint16_t *b, size_t b_len, size_t stride_a, size_t stride_b,
+                              size_t rows, int64_t *scratch, size_t places, uint64_t numbers[6],
+                              const uint16_t held[FUAVELINO_MOST_TAPS], double sums[3]);
+
+/* The pair of all rows, of bytes or of words as the depth says. The needed places of scratch become 0, also at 9; the state stays, and gives its
+ * pair again. Refuses 15 for the state; then 8; then 15 before the last row; then 9. */
+uint8_t fuavelino_rows_finish(int64_t *scratch, size_t places, const uint64_t numbers[6], const uint16_t held[FUAVELINO_MOST_TAPS],
+                              const double sums[3], double *ssim, double *cs);
 
 /* MS-SSIM's five scales, the planes themselves first: ssim and cs of scale k, from 0 on, go to pairs[2 * k] and pairs[2 * k + 1]. Sides are at
  * least 16. `scratch` has at least fuavelino_msssim_places(width) places, a32 and b32 fuavelino_msssim_samples(width, height) each; accepted,

@@ -640,6 +640,8 @@ static void ssim(void) {
     EXPECT(cleared(scratch, COUNT(scratch), SSIM_NEED));
 }
 
+static const uint16_t bell[] = {64, 128, 64};
+
 /* What SSIM of the pictures says under a kernel, of bytes and of words, and both pairs. */
 struct under {
     uint8_t bytes, words;
@@ -681,7 +683,7 @@ static int mended(const uint16_t *kernel, size_t taps, size_t idle, const uint16
 
 /* Kernels that end in 0 and those that do not, up to the most taps and past them. */
 static void idle_ends(void) {
-    static const uint16_t one[] = {256}, three[] = {1, 254, 1}, within[] = {1, 0, 254, 0, 1}, bell[] = {64, 128, 64};
+    static const uint16_t one[] = {256}, three[] = {1, 254, 1}, within[] = {1, 0, 254, 0, 1};
     static const uint16_t idle[] = {0, 256, 0}, padded[] = {0, 64, 128, 64, 0}, twice[] = {0, 0, 1, 0, 254, 0, 1, 0, 0};
     static const uint16_t hollow[] = {128, 0, 128}, left[] = {0, 255, 1}, right[] = {1, 255, 0}, zeros[9] = {0};
     static const uint16_t uneven[] = {0, 0, 255, 1, 0}, turned[] = {0, 1, 255, 0, 0};
@@ -708,6 +710,222 @@ static void idle_ends(void) {
     EXPECT(taken(most + 1, 255) && mended(most, 257, 1, most + 1, 255));
     most[1] = most[255] = 0, most[128] = 4;
     EXPECT(mended(most + 1, 255, 1, most + 2, 253));
+}
+
+/* The state of rows that are fed lies in memory as the Rust package has it. */
+LAID_OUT(sizeof(fuavelino_rows) == 584);
+LAID_OUT(offsetof(fuavelino_rows, numbers) == 0);
+LAID_OUT(offsetof(fuavelino_rows, kernel) == 48);
+LAID_OUT(offsetof(fuavelino_rows, sums) == 560);
+
+static fuavelino_rows state;
+
+/* Either sample width by its number, bytes 0 and words 1: begun in so many places of scratch; so many rows of the pictures from one on, from HEIGHT on
+ * no samples. */
+static uint8_t begin(int wide, size_t places) {
+    if (wide) return CALL(fuavelino_rows_begin16, (WIDTH, HEIGHT, 10, bell, 3, scratch, places, FUAVELINO_ROWS(state)));
+    return CALL(fuavelino_rows_begin8, (WIDTH, HEIGHT, 8, bell, 3, scratch, places, FUAVELINO_ROWS(state)));
+}
+
+static uint8_t feed(int wide, size_t from, size_t rows, size_t stride, size_t places) {
+    const size_t at = from < HEIGHT ? from * STRIDE : 0, len = from < HEIGHT ? LEN - at : 0;
+    if (wide) return CALL(fuavelino_rows_feed16, (a16 + at, len, b16 + at, len, stride, STRIDE, rows, scratch, places, FUAVELINO_ROWS(state)));
+    return CALL(fuavelino_rows_feed8, (a8 + at, len, b8 + at, len, STRIDE, stride, rows, scratch, places, FUAVELINO_ROWS(state)));
+}
+
+static uint8_t finish(double *s, double *c, size_t places) {
+    return CALL(fuavelino_rows_finish, (scratch, places, FUAVELINO_ROWS(state), s, c));
+}
+
+/* Whether the state tells so many rows received, and those scored that one more has followed. */
+static int counted(uint64_t received) {
+    const uint64_t scored = received == HEIGHT ? HEIGHT : received > 0 ? received - 1 : 0;
+    return state.numbers[4] == received && state.numbers[5] == scored;
+}
+
+/* Whether state and scratch are still these. */
+static int unchanged(const fuavelino_rows *r, const int64_t *places) {
+    return memcmp(&state, r, sizeof state) == 0 && memcmp(scratch, places, sizeof scratch) == 0;
+}
+
+/* The known pair of the pictures, as it is of whole planes. */
+static int is_pair(int wide, double s, double c) {
+    if (wide) return has_bits(s, UINT64_C(0x3FEFFF6129B42DC1)) && has_bits(c, UINT64_C(0x3FEFFF67A51F64F9));
+    return has_bits(s, UINT64_C(0x3FEFF78A02083DE3)) && has_bits(c, UINT64_C(0x3FEFF7ED88E78F48));
+}
+
+/* Bands of each size, with none between them: the pair is the whole's. Scratch past the need is kept, and a finished state gives its pair again. */
+static void bands(void) {
+    size_t band, from, rows;
+    int wide;
+    for (wide = 0; wide < 2; wide++) {
+        for (band = 1; band <= HEIGHT; band++) {
+            double s = -7.25, c = -8.5;
+            soil(), memset(&state, 0xA5, sizeof state);
+            EXPECT(begin(wide, COUNT(scratch)) == 0 && counted(0) && cleared(scratch, COUNT(scratch), SSIM_NEED));
+            for (from = 0; from < HEIGHT; from += rows) {
+                rows = band < HEIGHT - from ? band : HEIGHT - from;
+                EXPECT(feed(wide, from, rows, STRIDE, COUNT(scratch)) == 0 && counted(from + rows));
+                EXPECT(feed(wide, HEIGHT, 0, WIDTH, SSIM_NEED) == 0 && counted(from + rows));
+                EXPECT(cleared(scratch + SSIM_NEED, COUNT(scratch) - SSIM_NEED, 0));
+            }
+            EXPECT(finish(&s, &c, COUNT(scratch)) == 0 && is_pair(wide, s, c) && cleared(scratch, COUNT(scratch), SSIM_NEED));
+            s = c = 0;
+            EXPECT(finish(&s, &c, SSIM_NEED) == 0 && is_pair(wide, s, c) && counted(HEIGHT));
+        }
+    }
+}
+
+/* The next band of a frame that comes in six rows at a time. */
+static size_t next_row;
+
+static size_t next_band(const uint8_t **a, const uint8_t **b) {
+    const size_t from = next_row, left = HEIGHT - from, rows = left < 6 ? left : 6;
+    *a = a8 + from * STRIDE, *b = b8 + from * STRIDE;
+    next_row = rows < left ? from + rows : 0;
+    return rows;
+}
+
+/* A clip as the header has it: each frame in bands, with one state and one scratch. */
+static void clip(void) {
+    const size_t width = WIDTH, height = HEIGHT, stride_a = STRIDE, stride_b = STRIDE, taps = 3, places = fuavelino_ssim_places(width, taps);
+    const uint16_t *kernel = bell;
+    const uint8_t *a, *b;
+    size_t frame, rows;
+    soil();
+    for (frame = 0; frame < 3; frame++) {
+        double ssim = -7.25, cs = -8.5;
+        fuavelino_rows r;
+        uint8_t no = fuavelino_rows_begin8(width, height, 8, kernel, taps, scratch, places, FUAVELINO_ROWS(r));
+        while (no == 0 && r.numbers[4] < height) {
+            rows = next_band(&a, &b);
+            no = fuavelino_rows_feed8(a, (rows - 1) * STRIDE + WIDTH, b, (rows - 1) * STRIDE + WIDTH, stride_a, stride_b, rows, scratch, places, FUAVELINO_ROWS(r));
+        }
+        if (no == 0) no = fuavelino_rows_finish(scratch, places, FUAVELINO_ROWS(r), &ssim, &cs);
+        EXPECT(no == 0 && is_pair(0, ssim, cs));
+    }
+}
+
+/* Begin refuses the lowest of 1 2 7 8, and leaves state and scratch as they were. */
+static void refused_begins(void) {
+    static const uint16_t idle[] = {0, 256, 0};
+    static int64_t places[COUNT(scratch)];
+    fuavelino_rows before;
+    soil(), memset(&state, 0xA5, sizeof state);
+    memcpy(&before, &state, sizeof before), memcpy(places, scratch, sizeof places);
+    EXPECT(CALL(fuavelino_rows_begin8, (0, HEIGHT, 9, idle, 3, scratch, 0, FUAVELINO_ROWS(state))) == FUAVELINO_DEPTH);
+    EXPECT(CALL(fuavelino_rows_begin16, (WIDTH, HEIGHT, 8, bell, 3, scratch, SSIM_NEED, FUAVELINO_ROWS(state))) == FUAVELINO_DEPTH);
+    EXPECT(CALL(fuavelino_rows_begin8, (WIDTH, MOST + 1, 8, idle, 3, scratch, 0, FUAVELINO_ROWS(state))) == FUAVELINO_SIZE);
+    EXPECT(CALL(fuavelino_rows_begin16, (SIZE_MAX, HEIGHT, 10, bell, 3, scratch, SSIM_NEED, FUAVELINO_ROWS(state))) == FUAVELINO_SIZE);
+    EXPECT(CALL(fuavelino_rows_begin8, (WIDTH, HEIGHT, 8, idle, 3, scratch, 0, FUAVELINO_ROWS(state))) == FUAVELINO_KERNEL);
+    EXPECT(CALL(fuavelino_rows_begin16, (WIDTH, HEIGHT, 10, bell, 2, scratch, SSIM_NEED, FUAVELINO_ROWS(state))) == FUAVELINO_KERNEL);
+    EXPECT(begin(0, SSIM_NEED - 1) == FUAVELINO_SCRATCH && begin(1, 0) == FUAVELINO_SCRATCH);
+    EXPECT(unchanged(&before, places));
+}
+
+/* Between rows that are taken: feeds and finishes that are refused, by the lowest of 4 5 6 8, then 15, and change nothing. */
+static void refused_feeds(void) {
+    static int64_t places[COUNT(scratch)];
+    double s = -7.25, c = -8.5;
+    fuavelino_rows before;
+    size_t from;
+    int wide;
+    for (wide = 0; wide < 2; wide++) {
+        soil();
+        EXPECT(begin(wide, SSIM_NEED) == 0);
+        for (from = 0; from < HEIGHT; from++) {
+            memcpy(&before, &state, sizeof before), memcpy(places, scratch, sizeof places);
+            EXPECT(feed(wide, from, SIZE_MAX, WIDTH - 1, 0) == FUAVELINO_STRIDE && feed(wide, HEIGHT, 0, FUAVELINO_MOST_STRIDE + 1, 0) == FUAVELINO_STRIDE);
+            EXPECT(feed(wide, from, HEIGHT - from + 1, STRIDE, 0) == FUAVELINO_SHORT && feed(wide, 0, SIZE_MAX, STRIDE, 0) == FUAVELINO_SHORT);
+            EXPECT(feed(wide, HEIGHT, 1, STRIDE, SSIM_NEED) == FUAVELINO_SHORT);
+            EXPECT(feed(wide, 0, HEIGHT, STRIDE, SSIM_NEED - 1) == FUAVELINO_SCRATCH && feed(wide, HEIGHT, 0, STRIDE, 0) == FUAVELINO_SCRATCH);
+            if (from > 0) EXPECT(feed(wide, 0, HEIGHT - from + 1, STRIDE, SSIM_NEED) == FUAVELINO_STATE);
+            /* one column of padding, seen, of rows past the height too */
+            state.numbers[0] = WIDTH + 1;
+            if (wide) EXPECT(feed(wide, 0, HEIGHT - 1, STRIDE, 0) == FUAVELINO_SAMPLE);
+            state.numbers[0] = WIDTH;
+            EXPECT(finish(&s, &c, SSIM_NEED - 1) == FUAVELINO_SCRATCH && finish(&s, &c, SSIM_NEED) == FUAVELINO_STATE);
+            EXPECT(unchanged(&before, places) && s == -7.25 && c == -8.5);
+            EXPECT(feed(wide, from, 1, STRIDE, SSIM_NEED) == 0);
+        }
+        EXPECT(feed(wide, 0, 1, STRIDE, SSIM_NEED) == FUAVELINO_STATE);
+        EXPECT(finish(&s, &c, SSIM_NEED) == 0 && is_pair(wide, s, c));
+        s = -7.25, c = -8.5, state.sums[2] = 0, soil();
+        EXPECT(finish(&s, &c, COUNT(scratch)) == FUAVELINO_NOT_FINITE && s == -7.25 && c == -8.5 && cleared(scratch, COUNT(scratch), SSIM_NEED));
+    }
+}
+
+/* Whether feeds of both kinds and a finish, with nothing right beside it, refuse the state with 15, and change nothing. */
+static int is_impossible(void) {
+    static int64_t places[COUNT(scratch)];
+    double s = -7.25, c = -8.5;
+    fuavelino_rows before;
+    int wide, told = 1;
+    memcpy(&before, &state, sizeof before), memcpy(places, scratch, sizeof places);
+    for (wide = 0; wide < 2; wide++) {
+        told = told && feed(wide, HEIGHT, SIZE_MAX, 0, 0) == FUAVELINO_STATE && feed(wide, HEIGHT, 0, STRIDE, SSIM_NEED) == FUAVELINO_STATE;
+        told = told && feed(wide, 4, 1, STRIDE, SSIM_NEED) == FUAVELINO_STATE;
+    }
+    told = told && finish(&s, &c, 0) == FUAVELINO_STATE && finish(&s, &c, SSIM_NEED) == FUAVELINO_STATE;
+    return told && s == -7.25 && c == -8.5 && unchanged(&before, places);
+}
+
+/* Four rows were fed; then each number with a bit above the 32nd, or past what it may be, each tap and each place behind them one off. */
+static void impossible(void) {
+    static const uint64_t wrong[][3] = {{0, MOST + 1, UINT64_MAX}, {0, MOST + 1, 3}, {0, 13, 255}, {0, 2, 256}, {3, 5, HEIGHT + 1}, {2, 4, HEIGHT}};
+    double s = -7.25, c = -8.5;
+    fuavelino_rows kept;
+    size_t i, j;
+    int wide;
+    for (wide = 0; wide < 2; wide++) {
+        soil();
+        EXPECT(begin(wide, SSIM_NEED) == 0 && feed(wide, 0, 4, STRIDE, SSIM_NEED) == 0);
+        memcpy(&kept, &state, sizeof kept);
+        for (i = 0; i < COUNT(state.numbers); i++) {
+            state.numbers[i] = kept.numbers[i] | UINT64_C(1) << 32;
+            EXPECT(is_impossible());
+            for (j = 0; j < COUNT(wrong[i]); j++) {
+                state.numbers[i] = wrong[i][j];
+                EXPECT(is_impossible());
+            }
+            state.numbers[i] = kept.numbers[i];
+        }
+        for (i = 0; i < COUNT(state.kernel); i++) {
+            state.kernel[i]++;
+            EXPECT(is_impossible());
+            state.kernel[i]--;
+        }
+        /* of the other sample width, for a feed */
+        EXPECT(feed(!wide, 4, 1, 0, 0) == FUAVELINO_STATE);
+        EXPECT(feed(wide, 4, HEIGHT - 4, STRIDE, SSIM_NEED) == 0 && finish(&s, &c, SSIM_NEED) == 0 && is_pair(wide, s, c));
+    }
+    memset(&state, 0, sizeof state);
+    EXPECT(is_impossible());
+}
+
+/* A place at each end of what is lent stays as it was, whatever the scratch and the sums held: anything may be answered then. */
+static void noise(void) {
+    static const double odd[] = {NAN, -HUGE_VAL, HUGE_VAL, 1.7e308, -0.0, 5e-324};
+    uint64_t numbers[8];
+    uint16_t held[FUAVELINO_MOST_TAPS + 2];
+    double sums[5], pair[4];
+    size_t i, turn;
+    uint8_t no;
+    for (turn = 0; turn < 60; turn++) {
+        memset(numbers, 0xA5, sizeof numbers), memset(held, 0xA5, sizeof held);
+        for (i = 0; i < 4; i++) pair[i] = -7.25;
+        soil();
+        EXPECT(CALL(fuavelino_rows_begin16, (WIDTH, HEIGHT, 10, bell, 3, scratch + 1, SSIM_NEED, numbers + 1, held + 1, sums + 1)) == 0);
+        for (i = 0; i < SSIM_NEED; i++) scratch[1 + i] = turn % 3 ? (int64_t)(UINT64_C(0x9E3779B97F4A7C15) * (i + turn)) : turn % 2 ? INT64_MIN : INT64_MAX;
+        for (i = 0; i < 5; i++) sums[i] = i % 4 ? odd[(turn + i) % COUNT(odd)] : -7.25;
+        EXPECT(CALL(fuavelino_rows_feed16, (a16, LEN, b16, LEN, STRIDE, STRIDE, HEIGHT, scratch + 1, SSIM_NEED, numbers + 1, held + 1, sums + 1)) == 0);
+        no = CALL(fuavelino_rows_finish, (scratch + 1, SSIM_NEED, numbers + 1, held + 1, sums + 1, &pair[1], &pair[2]));
+        EXPECT(no == FUAVELINO_NOT_FINITE ? pair[1] == -7.25 && pair[2] == -7.25 : no == 0 && isfinite(pair[1]) && isfinite(pair[2]));
+        EXPECT(scratch[0] == 5 && cleared(scratch + 1, COUNT(scratch) - 1, SSIM_NEED) && pair[0] == -7.25 && pair[3] == -7.25);
+        EXPECT(numbers[0] == UINT64_C(0xA5A5A5A5A5A5A5A5) && numbers[7] == numbers[0] && numbers[5] == HEIGHT && numbers[6] == HEIGHT);
+        EXPECT(held[0] == 0xA5A5 && held[FUAVELINO_MOST_TAPS + 1] == 0xA5A5 && memcmp(held + 1, bell, sizeof bell) == 0);
+        EXPECT(sums[0] == -7.25 && sums[4] == -7.25);
+    }
 }
 
 #define LENT(places, a32_places, b32_places) scratch, places, a32, a32_places, b32, b32_places
@@ -961,7 +1179,7 @@ static void words(void) {
     EXPECT(strcmp(fuavelino_refusal_text(FUAVELINO_SAMPLE), "a visible sample is above the depth's largest") == 0);
     for (number = 0; number < 300; number++) {
         const int none = strcmp(fuavelino_refusal_text(number), "no answer of this library") == 0;
-        EXPECT(none == (number > FUAVELINO_HEIGHT));
+        EXPECT(none == (number > FUAVELINO_STATE));
     }
 }
 
@@ -986,6 +1204,12 @@ int main(void) {
     total_decibels();
     ssim();
     idle_ends();
+    bands();
+    clip();
+    refused_begins();
+    refused_feeds();
+    impossible();
+    noise();
     msssim();
     psnr_hvs();
     combining();
