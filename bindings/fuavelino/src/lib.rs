@@ -3,11 +3,11 @@
 //! These are the calls of `libfuavelino.a`, in which each function is proved to meet its contract: safe for whatever it is lent, with the
 //! exact conditions under which it refuses, and with the numbers of the published av-metrics 0.9.1, bit for bit, for planes with no padding. Only
 //! [`combine_hvs`] gives another: an average, where av-metrics multiplies. No caller checks first. Where two planes differ, [`first_difference`]
-//! and [`error_map`] say. PSNR in decibels, with a known error, is [`decibels()`] of records, or [`Record::hundredths`] of one. [`forward`] transforms a
-//! block of samples, of residues or of differences of residues, and [`inverse`] gives it back exactly. What this crate adds to the library, and so is
-//! tested and not proved, is little: slices and scratch are lent for you, a [`Kernel`] that is not in the library's chart is built, idle ends are
-//! taken off one that was lent and words found for what else is wrong with it ([`KernelFault`]), and [`video`] has the decibels of av-metrics' own
-//! frame functions.
+//! and [`error_map`] say. Of planes that come in bands [`RowFed`] gives SSIM without holding them, bit for bit as of the whole. PSNR in decibels,
+//! with a known error, is [`decibels()`] of records, or [`Record::hundredths`] of one. [`forward`] transforms a block of samples, of residues or of
+//! differences of residues, and [`inverse`] gives it back exactly. What this crate adds to the library, and so is tested and not proved, is little:
+//! slices and scratch are lent for you, a [`Kernel`] that is not in the library's chart is built, idle ends are taken off one that was lent and
+//! words found for what else is wrong with it ([`KernelFault`]), and [`video`] has the decibels of av-metrics' own frame functions.
 //!
 //! ```
 //! use fuavelino::{psnr_hvs, squared_error, ssim, Kernel, Plane, PlaneKind, Refusal, Scratch, Shape};
@@ -44,6 +44,7 @@ mod locate;
 pub mod no_alloc;
 mod plane;
 mod refusal;
+mod rows;
 mod scores;
 mod scratch;
 pub mod video;
@@ -57,6 +58,7 @@ pub use plane::{
     MOST_SIDE, MOST_STRIDE,
 };
 pub use refusal::Refusal;
+pub use rows::RowFed;
 #[doc(inline)]
 pub use scores::{
     check, combine_hvs, combine_ssim, forward, inverse, msssim, psnr_hvs, root, series, squared_error, ssim, version,

@@ -5,9 +5,36 @@ use crate::exports;
 use crate::plane::{Pair, Plane, Sample, Shape};
 use crate::refusal::{outcome, Refusal};
 
-/// What is held between [`rows_begin`], [`rows_feed`] and [`rows_finish`]: all but the scratch, which goes with it. The calls write it; any may be lent, and
-/// one that no begin and feeds of the sample width could give is refused with 15, before anything else is judged. The running sums are not judged.
-/// Who alters scratch or sums, or lends an older state, may get any answer; what is read and written is still only what was lent.
+/// What stays between [`rows_begin`], [`rows_feed`] and [`rows_finish`], beside the scratch, which is lent to each of them too.
+/// [`RowFed`](crate::RowFed) keeps both.
+///
+/// The calls write it. Any may be lent: one that no begin and feeds of the sample width could give is refused with 15, before anything else is
+/// judged; the sums are not judged. Who alters them or the scratch, or lends an older state, may be told any answer; still only what is lent is read
+/// or written.
+///
+/// ```
+/// use fuavelino::{no_alloc::{self, RowState}, Pair, Plane, Refusal, Shape};
+///
+/// let shape = Shape { width: 4, height: 3, bit_depth: 8 };
+/// let (mut scratch, mut state, mut pair) = ([7i64; 6 * 4 * 4], RowState::default(), Pair::default());
+/// no_alloc::rows_begin::<u8>(shape, &[64, 128, 64], &mut scratch, &mut state)?;
+/// for row in [[9u8; 4], [8; 4], [9; 4]] {
+///     let (a, b) = (Plane { data: &row[..], stride: 4 }, Plane { data: &[9u8; 4][..], stride: 4 });
+///     // said, and nothing is changed: the same row can be fed again
+///     let short = no_alloc::rows_feed(a, b, 2, &mut scratch, &mut state);
+///     assert_eq!(short, Err(Refusal::Short));
+///     no_alloc::rows_feed(a, b, 1, &mut scratch, &mut state)?;
+/// }
+/// assert_eq!(state.numbers, [4, 3, 8, 3, 3, 3]);
+/// no_alloc::rows_finish(&mut scratch, &state, &mut pair)?;
+///
+/// let (whole, nines) = ([9u8, 9, 9, 9, 8, 8, 8, 8, 9, 9, 9, 9], [9u8; 12]);
+/// let (a, b) = (Plane { data: &whole[..], stride: 4 }, Plane { data: &nines[..], stride: 4 });
+/// let mut same = Pair::default();
+/// no_alloc::ssim(a, b, shape, &[64, 128, 64], &mut scratch, &mut same)?;
+/// assert_eq!((pair, scratch), (same, [0; 96]));
+/// # Ok::<(), Refusal>(())
+/// ```
 #[repr(C)]
 #[derive(Clone, Copy, Debug, PartialEq)]
 pub struct RowState {
@@ -15,18 +42,19 @@ pub struct RowState {
     pub numbers: [u64; 6],
     /// The taps, then zeros.
     pub kernel: [u16; MOST_TAPS],
-    /// The running sums of ssim, of cs and of the weights.
+    /// Running sums: of ssim, of cs and of the weights.
     pub sums: [f64; 3],
 }
 
-/// All zero, as before the first begin: no feed takes it.
+/// All zero, which no begin gives.
 impl Default for RowState {
     fn default() -> RowState {
         RowState { numbers: [0; 6], kernel: [0; MOST_TAPS], sums: [0.0; 3] }
     }
 }
 
-/// Begins two planes whose rows come later. It needs [`ssim_places`](super::ssim_places) of scratch, and clears them. Refuses 1 2 7 8.
+/// Begins two planes, of which no row has come, whatever the state was. It needs [`ssim_places`](super::ssim_places) of scratch, which become 0.
+/// Refuses 1 2 7 8.
 pub fn rows_begin<T: Sample>(
     shape: Shape,
     kernel: &[u16],
@@ -36,9 +64,10 @@ pub fn rows_begin<T: Sample>(
     outcome(T::rows_begin(shape, kernel, scratch, state))
 }
 
-/// Feeds the next `rows` rows of both planes: the first of them stands at the start of each slice. Each row is scored as soon as half a kernel of
-/// further rows has come, or the last has: `numbers[5]` says how many are. No rows need no samples. Refuses 15 for an impossible state; then 4 5 6 8;
-/// then 15 for rows past the height. A refused feed may be repeated.
+/// Takes the next `rows` rows of both planes; the first of them begins each slice. A row is scored as soon as half a kernel, taps / 2, of further
+/// rows has come, or the last row has: `numbers[5]` says how many are. No rows need no samples, and leave the state as it was. Refuses 15 for the
+/// state; then 4 5 6 8, as of planes of that many rows, and 4 and 8 also of no rows; then 15 for more rows than the height has left. A refused feed
+/// may be repeated.
 pub fn rows_feed<T: Sample>(
     a: Plane<'_, T>,
     b: Plane<'_, T>,
@@ -49,8 +78,8 @@ pub fn rows_feed<T: Sample>(
     outcome(T::rows_feed(a, b, rows, scratch, state))
 }
 
-/// The pair, once every row was fed: bit for bit that of [`ssim`](super::ssim). It clears the scratch that was needed, and leaves the state. Refuses 15
-/// for an impossible state; then 8; then 15 before the last row; then 9.
+/// The pair of all rows: bit for bit that of [`ssim`](super::ssim) on the whole planes. The needed scratch becomes 0; the state stays, and gives its
+/// pair again. Refuses 15 for the state; then 8; then 15 before the last row; then 9.
 pub fn rows_finish(scratch: &mut [i64], state: &RowState, pair: &mut Pair) -> Result<(), Refusal> {
     outcome(exports::rows_finish(scratch, state, pair))
 }
