@@ -56,6 +56,11 @@ fn wild_shapes_ask_for_nothing() {
                     refused += usize::from(error_map(plane, plane, shape).is_err());
                     refused += usize::from(psnr_hvs(plane, plane, shape, PlaneKind::U).is_err());
                 }
+                // rows that never come ask for no more than their line store
+                let sides = [width, height].map(|side| (1..=MOST_SIDE).contains(&side));
+                if sides != [true; 2] {
+                    assert_eq!(RowFed::<u8>::begin(shape, &kernel).map(|_| ()), Err(Refusal::Size));
+                }
             }
         }
     });
@@ -72,6 +77,7 @@ fn too_many_taps_ask_for_nothing() {
         let bytes = asked(|| {
             let said = ssim(plane, plane, shape, &kernel, &mut Scratch::new());
             assert_eq!(said, Err(Refusal::Kernel));
+            assert_eq!(RowFed::<u8>::begin(shape, &kernel).map(|_| ()), Err(Refusal::Kernel));
         });
         assert_eq!(bytes, 0);
     }
@@ -134,6 +140,42 @@ fn a_kernel_is_judged_for_nothing() {
     let refused = asked(|| assert_eq!(kernels.iter().filter(|kernel| kernel.check().is_err()).count(), 4));
     assert_eq!(refused, 0);
     assert_eq!(asked(|| assert_eq!(kernels[2].trimmed().taps(), [256])), 2);
+}
+
+/// Rows that are fed ask for their scratch once, when they are begun, and for nothing after it, refused or taken; nor do frames that follow, unless they
+/// need more.
+#[test]
+fn rows_ask_for_their_scratch() {
+    let samples = [7u8; 64 * 9];
+    let row = Plane { data: &samples[..], stride: 64 };
+    let shape = Shape { width: 64, height: 9, bit_depth: 8 };
+    let kernels = [vec![64, 128, 64], vec![256], vec![10, 60, 116, 60, 10]].map(Kernel::from_taps);
+    let mut begun = None;
+    let bytes = asked(|| begun = RowFed::begin(shape, &kernels[0]).ok());
+    assert_eq!(bytes, 6 * 64 * 4 * 8);
+    let mut fed = begun.unwrap();
+    let mut frame = |shape: Shape, kernel: &Kernel| {
+        asked(|| {
+            fed.begin_again(shape, kernel).unwrap();
+            for _ in 0..shape.height {
+                assert_eq!(fed.feed(row, row, 10), Err(Refusal::Short));
+                fed.feed(row, row, 0).unwrap();
+                fed.feed(row, row, 1).unwrap();
+            }
+            assert_eq!(fed.feed(row, row, 1), Err(Refusal::State));
+            fed.finish().unwrap();
+        })
+    };
+    for (shape, kernel, more) in [
+        (shape, 0, 0),
+        (Shape { width: 3, height: 90, bit_depth: 4 }, 0, 0),
+        (shape, 1, 0),
+        (shape, 2, 6 * 64 * 8 * 8),
+        (shape, 2, 0),
+        (Shape { height: 1, ..shape }, 0, 0),
+    ] {
+        assert_eq!(frame(shape, &kernels[kernel]), more, "{:?}", shape);
+    }
 }
 
 #[test]

@@ -48,6 +48,9 @@ fn no_more_and_no_fewer() {
     let mut pair = Pair::default();
     assert_eq!(no_alloc::ssim(plane, plane, shape, &kernel, &mut sums[1..], &mut pair), Err(Refusal::Scratch));
     assert_eq!(no_alloc::ssim(plane, plane, shape, &kernel, &mut sums, &mut pair), Ok(()));
+    let mut state = no_alloc::RowState::default();
+    let mut begin = |places: &mut [i64]| no_alloc::rows_begin::<u8>(shape, &kernel, places, &mut state);
+    assert_eq!((begin(&mut sums[1..]), begin(&mut sums)), (Err(Refusal::Scratch), Ok(())));
     let (sums, room) = (no_alloc::msssim_places(17), no_alloc::msssim_samples(17, 19));
     for (less, said) in [
         ([0, 0, 0], Ok(())),

@@ -257,11 +257,26 @@ fn heights() {
     assert_eq!(Kernel::charted(143), Err(Refusal::Height));
 }
 
+/// tests/rows.rs has all that makes a state impossible.
+#[test]
+fn states() {
+    let bytes = [7u8; 256];
+    let (a, shape) = (plane(&bytes, 16), Shape { height: 3, ..SHAPE });
+    let mut fed = RowFed::begin(shape, &Kernel::from_taps(vec![64, 128, 64])).unwrap();
+    assert_eq!(fed.feed(a, a, 4), Err(Refusal::State));
+    assert_eq!(fed.feed(a, a, 2), Ok(()));
+    assert_eq!(fed.finish(), Err(Refusal::State));
+    let mut out = BEFORE;
+    let never = no_alloc::RowState::default();
+    assert_eq!(no_alloc::rows_finish(&mut [], &never, &mut out), Err(Refusal::State));
+    assert_eq!(out, BEFORE);
+}
+
 #[test]
 fn numbers_and_rules() {
-    let every: Vec<Refusal> = (1..=14).filter_map(Refusal::from_number).collect();
-    assert_eq!(every.iter().map(|r| r.number()).collect::<Vec<u8>>(), (1..=14).collect::<Vec<u8>>());
-    assert_eq!([0, 15, 255].map(Refusal::from_number), [None; 3]);
+    let every: Vec<Refusal> = (1..=15).filter_map(Refusal::from_number).collect();
+    assert_eq!(every.iter().map(|r| r.number()).collect::<Vec<u8>>(), (1..=15).collect::<Vec<u8>>());
+    assert_eq!([0, 16, 255].map(Refusal::from_number), [None; 3]);
     let said = Refusal::Sample.to_string();
     assert_eq!(said, "refusal 6: a visible sample is above the depth's largest");
     assert!(Refusal::Record.rule().ends_with(&format!("a plane number above {}", MOST_PLANE)));
