@@ -776,19 +776,22 @@ static void bands(void) {
     }
 }
 
-/* The next band of a frame that comes in six rows at a time. */
+/* The next band of a frame that comes in six rows at a time; the first picture without its padding. */
+static uint8_t packed[WIDTH * HEIGHT];
 static size_t next_row;
 
 static size_t next_band(const uint8_t **a, const uint8_t **b) {
     const size_t from = next_row, left = HEIGHT - from, rows = left < 6 ? left : 6;
-    *a = a8 + from * STRIDE, *b = b8 + from * STRIDE;
+    size_t y;
+    for (y = from; y < from + rows; y++) memcpy(packed + y * WIDTH, a8 + y * STRIDE, WIDTH);
+    *a = packed + from * WIDTH, *b = b8 + from * STRIDE;
     next_row = rows < left ? from + rows : 0;
     return rows;
 }
 
 /* A clip as the header has it: each frame in bands, with one state and one scratch. */
 static void clip(void) {
-    const size_t width = WIDTH, height = HEIGHT, stride_a = STRIDE, stride_b = STRIDE, taps = 3, places = fuavelino_ssim_places(width, taps);
+    const size_t width = WIDTH, height = HEIGHT, stride_a = WIDTH, stride_b = STRIDE, taps = 3, places = fuavelino_ssim_places(width, taps);
     const uint16_t *kernel = bell;
     const uint8_t *a, *b;
     size_t frame, rows;
@@ -799,7 +802,7 @@ static void clip(void) {
         uint8_t no = fuavelino_rows_begin8(width, height, 8, kernel, taps, scratch, places, FUAVELINO_ROWS(r));
         while (no == 0 && r.numbers[4] < height) {
             rows = next_band(&a, &b);
-            no = fuavelino_rows_feed8(a, (rows - 1) * STRIDE + WIDTH, b, (rows - 1) * STRIDE + WIDTH, stride_a, stride_b, rows, scratch, places, FUAVELINO_ROWS(r));
+            no = fuavelino_rows_feed8(a, rows * stride_a, b, (rows - 1) * stride_b + width, stride_a, stride_b, rows, scratch, places, FUAVELINO_ROWS(r));
         }
         if (no == 0) no = fuavelino_rows_finish(scratch, places, FUAVELINO_ROWS(r), &ssim, &cs);
         EXPECT(no == 0 && is_pair(0, ssim, cs));
@@ -837,13 +840,14 @@ static void refused_feeds(void) {
             memcpy(&before, &state, sizeof before), memcpy(places, scratch, sizeof places);
             EXPECT(feed(wide, from, SIZE_MAX, WIDTH - 1, 0) == FUAVELINO_STRIDE && feed(wide, HEIGHT, 0, FUAVELINO_MOST_STRIDE + 1, 0) == FUAVELINO_STRIDE);
             EXPECT(feed(wide, from, HEIGHT - from + 1, STRIDE, 0) == FUAVELINO_SHORT && feed(wide, 0, SIZE_MAX, STRIDE, 0) == FUAVELINO_SHORT);
-            EXPECT(feed(wide, HEIGHT, 1, STRIDE, SSIM_NEED) == FUAVELINO_SHORT);
+            /* so many rows that, times the stride, 64 bits hold a little of them */
+            EXPECT(feed(wide, 0, SIZE_MAX / STRIDE + 2, STRIDE, 0) == FUAVELINO_SHORT && feed(wide, HEIGHT, 1, STRIDE, SSIM_NEED) == FUAVELINO_SHORT);
             EXPECT(feed(wide, 0, HEIGHT, STRIDE, SSIM_NEED - 1) == FUAVELINO_SCRATCH && feed(wide, HEIGHT, 0, STRIDE, 0) == FUAVELINO_SCRATCH);
             if (from > 0) EXPECT(feed(wide, 0, HEIGHT - from + 1, STRIDE, SSIM_NEED) == FUAVELINO_STATE);
-            /* one column of padding, seen, of rows past the height too */
-            state.numbers[0] = WIDTH + 1;
-            if (wide) EXPECT(feed(wide, 0, HEIGHT - 1, STRIDE, 0) == FUAVELINO_SAMPLE);
-            state.numbers[0] = WIDTH;
+            /* a sample too bright, in rows past the height too */
+            b16[LEN - 1] ^= 1024;
+            if (wide) EXPECT(feed(wide, 0, HEIGHT, STRIDE, 0) == FUAVELINO_SAMPLE);
+            b16[LEN - 1] ^= 1024;
             EXPECT(finish(&s, &c, SSIM_NEED - 1) == FUAVELINO_SCRATCH && finish(&s, &c, SSIM_NEED) == FUAVELINO_STATE);
             EXPECT(unchanged(&before, places) && s == -7.25 && c == -8.5);
             EXPECT(feed(wide, from, 1, STRIDE, SSIM_NEED) == 0);
@@ -872,7 +876,8 @@ static int is_impossible(void) {
 
 /* Four rows were fed; then each number with a bit above the 32nd, or past what it may be, each tap and each place behind them one off. */
 static void impossible(void) {
-    static const uint64_t wrong[][3] = {{0, MOST + 1, UINT64_MAX}, {0, MOST + 1, 3}, {0, 13, 255}, {0, 2, 256}, {3, 5, HEIGHT + 1}, {2, 4, HEIGHT}};
+    static const uint64_t wrong[][4] = {{0, MOST + 1, 1 << 20, UINT64_MAX}, {0, 3, MOST + 1, UINT64_MAX}, {0, 13, 64, 255},
+                                        {0, 2, 4, 256},                     {3, 5, HEIGHT, HEIGHT + 1},   {0, 2, 4, HEIGHT}};
     double s = -7.25, c = -8.5;
     fuavelino_rows kept;
     size_t i, j;

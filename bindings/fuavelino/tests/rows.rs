@@ -288,9 +288,12 @@ fn refused_strides<T: Sample>(planes: &Planes<T>) {
 fn refused_counts<T: Sample>(planes: &Planes<T>) {
     let (mut lent, (a, b)) = (fed(planes), planes.rows(2, 3));
     let need = lent.need;
-    for rows in [4, 1 << 32, 1 << 62, usize::MAX / 6 + 1, usize::MAX / 6 + 2, usize::MAX / 9 + 2, usize::MAX] {
-        lent.refuses((a, b), rows, need, Refusal::Short);
-        lent.refuses((a, b), rows, 0, Refusal::Short);
+    // among them some that leave little or nothing in 64 bits, times a stride
+    for rows in [4, 1 << 32, (1 << 61) + 1, (1 << 63) + 1, usize::MAX / 6 + 2, usize::MAX] {
+        for band in [(a, b), (a, a), (b, b)] {
+            lent.refuses(band, rows, need, Refusal::Short);
+            lent.refuses(band, rows, 0, Refusal::Short);
+        }
     }
     for (rows, less) in [(3, [1, 0]), (3, [0, 1]), (1, [a.data.len(), 0]), (1, [0, b.data.len()])] {
         let band = (Plane { data: &a.data[less[0]..], ..a }, Plane { data: &b.data[less[1]..], ..b });
@@ -417,6 +420,12 @@ fn impossible(state: RowState) -> Vec<RowState> {
         found.push(with(state, |s| s.kernel[at] = s.kernel[at].wrapping_add(1)));
         found.push(with(state, |s| s.kernel[at] = s.kernel[at].wrapping_sub(1)));
         found.push(with(state, |s| s.kernel[at] ^= 1 << 15));
+    }
+    // as many scored as there would be, were there so many rows
+    for (rows, high) in
+        [(height + 1, height), (received, received - 1), (u64::MAX, height), (1 << 32 | received, height)]
+    {
+        found.push(with(state, |s| (s.numbers[1], s.numbers[4], s.numbers[5]) = (high, rows, rows - 1)));
     }
     found.push(with(state, |s| s.kernel = [0; MOST_TAPS]));
     found.push(with(state, |s| s.kernel[..3].copy_from_slice(&[0, 256, 0])));
