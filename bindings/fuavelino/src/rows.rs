@@ -15,17 +15,17 @@ use std::marker::PhantomData;
 /// It owns what the calls of [`no_alloc`] are lent, so that no older state and no other scratch can be lent by mistake. It is no `Clone`: a copy
 /// would be right, but would copy the scratch, which nothing has asked for.
 ///
-/// A clip whose decoder gives bands of 16 rows, the last of them shorter:
+/// A clip whose decoder gives bands of 64 rows, the last of them shorter:
 ///
 /// ```
 /// use fuavelino::{Kernel, Pair, Plane, Refusal, RowFed, Shape};
 ///
-/// const SHAPE: Shape = Shape { width: 64, height: 40, bit_depth: 8 };
+/// const SHAPE: Shape = Shape { width: 192, height: 144, bit_depth: 8 };
 ///
 /// /// The next bands of both files: samples without padding.
 /// fn bands(frame: usize) -> impl Iterator<Item = (Vec<u8>, Vec<u8>)> {
-///     let rows = [16, 16, 8];
-///     rows.into_iter().map(move |rows| (vec![100; rows * 64], vec![100 + frame as u8; rows * 64]))
+///     let rows = [64, 64, 16];
+///     rows.into_iter().map(move |rows| (vec![100; rows * 192], vec![100 + frame as u8; rows * 192]))
 /// }
 ///
 /// fn score(fed: &mut RowFed<u8>, frame: usize) -> Result<Pair, Refusal> {

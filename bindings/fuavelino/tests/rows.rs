@@ -537,8 +537,10 @@ fn laid_out_as_in_c() {
 #[test]
 fn a_clip_in_bands() {
     let mut fed = RowFed::begin(Shape { width: 1, height: 1, bit_depth: 8 }, &Kernel::from_taps(vec![256])).unwrap();
-    for (width, height, most) in [(40, 30, 16), (64, 33, 8), (3, 90, 7), (64, 33, 33), (17, 5, 1)] {
-        let (planes, kernel) = (bytes(width, height), Kernel::for_plane(width, height));
+    for (width, height, most, of) in
+        [(40, 30, 16, 144), (64, 33, 8, 360), (3, 90, 7, 240), (64, 33, 33, 144), (17, 5, 1, 405)]
+    {
+        let (planes, kernel) = (bytes(width, height), Kernel::charted(of).unwrap());
         assert_eq!(fed.begin_again(planes.shape, &kernel), Ok(()));
         assert_eq!((fed.shape(), fed.received(), fed.scored()), (planes.shape, 0, 0));
         let mut from = 0;
