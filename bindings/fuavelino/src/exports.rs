@@ -7,7 +7,7 @@
 #![allow(unsafe_code)]
 
 use crate::locate::{Place, Tiles};
-use crate::no_alloc::RowState;
+use crate::no_alloc::{RowState, MOST_TAPS};
 use crate::plane::{Pair, Plane, PlaneKind, PsnrMetrics, Record, Shape};
 
 extern "C" {
@@ -21,7 +21,7 @@ extern "C" {
         scratch: *mut i64,
         places: usize,
         numbers: &[u64; 6],
-        held: &[u16; 255],
+        held: &[u16; MOST_TAPS],
         sums: &[f64; 3],
         ssim: &mut f64,
         cs: &mut f64,
@@ -214,7 +214,7 @@ macro_rules! width {
                 scratch: *mut i64,
                 places: usize,
                 numbers: &mut [u64; 6],
-                held: &mut [u16; 255],
+                held: &mut [u16; MOST_TAPS],
                 sums: &mut [f64; 3],
             ) -> u8;
             fn $rows_feed(
@@ -228,7 +228,7 @@ macro_rules! width {
                 scratch: *mut i64,
                 places: usize,
                 numbers: &mut [u64; 6],
-                held: &[u16; 255],
+                held: &[u16; MOST_TAPS],
                 sums: &mut [f64; 3],
             ) -> u8;
         }

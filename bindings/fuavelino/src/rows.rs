@@ -54,8 +54,8 @@ pub struct RowFed<T: Sample> {
 }
 
 impl<T: Sample> RowFed<T> {
-    /// Two planes of this shape, of which no row has come. Refuses 1 2 7, and 8 only where there is no memory for its scratch, the one time that it
-    /// asks for any.
+    /// Two planes of this shape, of which no row has come. Refuses 1 2 7, and 8 only where there is no memory for its scratch. Feeds and the finish ask
+    /// for none.
     pub fn begin(shape: Shape, kernel: &Kernel) -> Result<RowFed<T>, Refusal> {
         let mut fed = RowFed { state: RowState::default(), scratch: Vec::new(), sample: PhantomData };
         fed.begin_again(shape, kernel)?;

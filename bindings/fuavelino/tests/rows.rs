@@ -258,7 +258,7 @@ fn refused_begins() {
     }
 }
 
-/// Two rows of planes of 6 by 5 were fed; all that follows is refused, as it is at both widths.
+/// The first two rows of planes of 6 by 5, fed.
 fn fed<T: Sample>(planes: &Planes<T>) -> Lent {
     let mut lent = Lent::begin::<T>(planes.shape, &BELL);
     lent.takes(planes.rows(0, 2), 2);
