@@ -13,17 +13,17 @@ use std::slice;
 // of the system's library, which std links; the numbers below are those of Linux on 64 bits
 extern "C" {
     fn memfd_create(name: *const c_char, flags: c_uint) -> c_int;
-    fn mmap(start: *mut c_void, len: usize, access: c_int, how: c_int, file: c_int, offset: i64) -> *mut c_void;
-    fn munmap(start: *mut c_void, len: usize) -> c_int;
+    pub fn mmap(start: *mut c_void, len: usize, access: c_int, how: c_int, file: c_int, offset: i64) -> *mut c_void;
+    pub fn munmap(start: *mut c_void, len: usize) -> c_int;
 }
 
-const NO_ACCESS: c_int = 0;
-const READ: c_int = 1;
+pub const NO_ACCESS: c_int = 0;
+pub const READ: c_int = 1;
 const SHARED: c_int = 1;
-const PRIVATE: c_int = 2;
-const FIXED: c_int = 0x10;
-const ANONYMOUS: c_int = 0x20;
-const UNRESERVED: c_int = 0x4000;
+pub const PRIVATE: c_int = 2;
+pub const FIXED: c_int = 0x10;
+pub const ANONYMOUS: c_int = 0x20;
+pub const UNRESERVED: c_int = 0x4000;
 
 /// The bytes of a piece: many rows, and whole pages whatever a machine's pages are.
 const PIECE: usize = 1 << 20;
@@ -77,7 +77,7 @@ fn bytes<T: Sample>(list: &[T]) -> &[u8] {
 }
 
 /// What `mmap` answers where it fails is no place.
-fn taken(start: *mut c_void) -> Result<()> {
+pub fn taken(start: *mut c_void) -> Result<()> {
     if start as usize == usize::MAX {
         return Err(Error::last_os_error());
     }
