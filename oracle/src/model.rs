@@ -72,12 +72,13 @@ pub struct Lent<'a> {
     pub planes: [(usize, &'a [u16]); 2],
 }
 
-impl Lent<'_> {
-    fn depth_suits(&self) -> bool {
-        let (low, high) = if self.wide { (9, 12) } else { (1, 8) };
-        low <= self.depth && self.depth <= high
-    }
+/// Whether samples of this width carry this depth.
+pub fn depth_suits(wide: bool, depth: u32) -> bool {
+    let (low, high) = if wide { (9, 12) } else { (1, 8) };
+    low <= depth && depth <= high
+}
 
+impl Lent<'_> {
     fn has_above(&self, max: u16) -> bool {
         let rows = |(stride, list): &(usize, &[u16])| {
             let above = |row: &[u16]| row.iter().any(|s| *s > max);
@@ -92,7 +93,7 @@ impl Lent<'_> {
         let side = |s: usize| s == 0 || s > SIDE;
         let stride = |p: &(usize, &[u16])| p.0 < width || p.0 > STRIDE;
         let short = |p: &(usize, &[u16])| (p.1.len() as u128) < needs(p.0, width, height);
-        if !self.depth_suits() {
+        if !depth_suits(self.wide, self.depth) {
             1
         } else if side(width) || side(height) {
             2

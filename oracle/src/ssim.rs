@@ -159,7 +159,7 @@ fn mended(c: &Case) -> Result<(), String> {
 }
 
 /// Never 0, and another at each place.
-fn noise(seed: u64, at: usize) -> i64 {
+pub fn noise(seed: u64, at: usize) -> i64 {
     ((seed ^ at as u64).wrapping_mul(0x9E37_79B9_7F4A_7C15) | 1) as i64
 }
 
@@ -309,7 +309,7 @@ fn exact(pair: Pair, kernel: Vec<u16>) -> Case {
 }
 
 /// With fewer taps, or with taps moved to the middle: lawful ones stay lawful, and those with idle ends lose one at each end.
-fn smaller_kernels(taps: &[u16]) -> Vec<Vec<u16>> {
+pub fn smaller_kernels(taps: &[u16]) -> Vec<Vec<u16>> {
     let mut list = Vec::new();
     if taps.len() > 2 {
         let next = gathered(taps, 0);
@@ -348,14 +348,14 @@ fn listed() -> Vec<Case> {
 }
 
 /// Taps of 1, and the rest in the middle.
-fn level(count: usize) -> Vec<u16> {
+pub fn level(count: usize) -> Vec<u16> {
     let mut taps = vec![1; count];
     taps[count / 2] = 257 - count as u16;
     taps
 }
 
 /// Ends of 1, the rest in the middle, and 0 between.
-fn hollow(count: usize) -> Vec<u16> {
+pub fn hollow(count: usize) -> Vec<u16> {
     [vec![1], vec![0; count / 2 - 1], vec![254], vec![0; count / 2 - 1], vec![1]].concat()
 }
 
@@ -365,7 +365,7 @@ fn padded(taps: &[u16], before: usize, after: usize) -> Vec<u16> {
 }
 
 /// The runs of order 7 on both sides of its rule, and more: those that are taken stand beside the same with idle ends, up to 255 taps and past them.
-fn at_the_ends() -> Vec<Vec<u16>> {
+pub fn at_the_ends() -> Vec<Vec<u16>> {
     let few: [&[u16]; 6] =
         [&[256], &[1, 254, 1], &[64, 128, 64], &[127, 2, 127], &[1, 0, 254, 0, 1], &[3, 0, 0, 250, 0, 0, 3]];
     let taken = few.iter().map(|taps| taps.to_vec()).chain([level(253), hollow(253), level(255), hollow(255)]);
@@ -397,7 +397,7 @@ fn walls(r: &mut Random) -> Vec<Case> {
     list
 }
 
-fn unlawful() -> Vec<Vec<u16>> {
+pub fn unlawful() -> Vec<Vec<u16>> {
     let ones = [vec![1; 128], vec![0], vec![1; 128]].concat();
     let mut list: Vec<Vec<u16>> = vec![vec![], hollow(257), ones, vec![0; 255], vec![257; 255]];
     list.extend([
@@ -471,7 +471,7 @@ fn reach(pair: &Pair) -> usize {
 }
 
 /// A lawful kernel: 256 shared out in pairs, the ends first, and the rest in the middle. Few shares leave many a 0 between.
-fn kernel(r: &mut Random, pair: &Pair) -> Vec<u16> {
+pub fn kernel(r: &mut Random, pair: &Pair) -> Vec<u16> {
     let most = reach(pair);
     let most = r.pick(&[1, 2, 4, 7, 20, 127]).min(most);
     let half = r.below(most + 1);
@@ -489,7 +489,7 @@ fn kernel(r: &mut Random, pair: &Pair) -> Vec<u16> {
 }
 
 /// One as the published code builds them, of any width.
-fn gaussian(r: &mut Random, pair: &Pair) -> Vec<u16> {
+pub fn gaussian(r: &mut Random, pair: &Pair) -> Vec<u16> {
     let sigma = r.within(1, 400) as f64 / 32.0;
     let side = pair.width.min(pair.height).clamp(1, reach(pair) + 1);
     let most = r.pick(&[side, reach(pair) + 1]);

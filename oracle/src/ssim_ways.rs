@@ -26,7 +26,7 @@ type Way = (Constants, Denominator);
 const PUBLISHED: Way = (Constants::Published, Denominator::Published);
 
 /// The sums at one centre: mux, muy, x2, xy, y2, w.
-type Moments = [f64; 6];
+pub type Moments = [f64; 6];
 
 fn moments(planes: &[Vec<u16>; 2], width: usize, height: usize, kernel: &[u16], x: usize, y: usize) -> Moments {
     let half = kernel.len() / 2;
@@ -61,6 +61,11 @@ fn score([mux, muy, x2, xy, y2, w]: Moments, max: f64, way: Way) -> (f64, f64) {
     };
     let cs = w * (c2 + 2.0 * (xy * w - mxy)) / below;
     (cs * (2.0 * mxy + c1) / (mx2 + my2 + c1), cs)
+}
+
+/// The same as published.
+pub fn published_score(moments: Moments, max: f64) -> (f64, f64) {
+    score(moments, max, PUBLISHED)
 }
 
 /// The pair that these groupings give, as bits.
