@@ -15,6 +15,7 @@ mod decibels_ways;
 mod downscale;
 mod edges;
 mod family;
+mod fenced;
 mod five;
 mod heights;
 mod hvs;
@@ -29,6 +30,15 @@ mod published_numbers;
 mod random;
 mod records;
 mod root;
+mod rows;
+mod rows_above;
+mod rows_calls;
+mod rows_cases;
+mod rows_listed;
+mod rows_model;
+mod rows_rule;
+mod rows_smaller;
+mod rows_ways;
 mod samples;
 mod scales;
 mod series;
@@ -52,7 +62,7 @@ use std::process::exit;
 /// A family's name, and what runs it.
 type Named = (&'static str, fn(Run) -> bool);
 
-const FAMILIES: [Named; 15] = [
+const FAMILIES: [Named; 16] = [
     ("published", published_numbers::compare),
     ("root", root::compare),
     ("plane", plane::compare),
@@ -62,6 +72,7 @@ const FAMILIES: [Named; 15] = [
     ("series", series::compare),
     ("decibels", decibels::compare),
     ("ssim", ssim::compare),
+    ("rows", rows::compare),
     ("charted", charted::compare),
     ("hvs", hvs::compare),
     ("downscale", downscale::compare),
