@@ -20,6 +20,8 @@ class Scope:
         self.places, self.least_place, self.last_place = whole(find(r"D = (\d+) × q \+ k") + find(r"at places (\d+) to (\d+)"))
         self.entry_root, self.entry_unit, self.peak_unit = whole(find(r"10\^\(k/(\d+)\) × 10\^(\d+), rounded down") + find(r"at most P × 10\^(\d+)"))
         self.entries = list(self.roots())
+        self.half = whole(find(r"Half a kernel is taps / (\d+), rounded down"))[0]
+        self.orders = {call: re.findall(r"(\d+)( of the \w+)?", order) for call, order in re.findall(r"^\| (\w+) of rows \| (.*) \|$", text, re.M)}
         self.chart = dict(self.rows(text, "## The chart of kernels"))
         self.passes = self.program(text, "## The transform", "A block of 8 by 8")
         self.centre = self.program(text, "**SSIM.**", "The answer is the pair")
@@ -95,13 +97,41 @@ class Scope:
 
     def ssim(self, a, b, width, height, sample_max, kernel):
         """The pair; a and b are samples by row and column."""
-        now = {"cs": 0.0, "ssim": 0.0, "ssimw": 0.0, "sample_max": sample_max}
+        now = start(sample_max)
         for y in range(height):
-            for x in range(width):
-                sums = moments(a, b, width, height, kernel, x, y)
-                now.update(zip(("mux", "muy", "x2", "xy", "y2", "w"), map(float, sums)))
-                exec(self.centre, now)
-        return now["ssim"] / now["ssimw"], now["cs"] / now["ssimw"]
+            self.row(now, a, b, width, height, kernel, y)
+        return pair(now)
+
+    def row(self, now, a, b, width, height, kernel, y):
+        """One row of centres more."""
+        for x in range(width):
+            sums = moments(a, b, width, height, kernel, x, y)
+            now.update(zip(("mux", "muy", "x2", "xy", "y2", "w"), map(float, sums)))
+            exec(self.centre, now)
+
+    def scored(self, rows, height, taps):
+        """How many rows of centres are scored once so many have come."""
+        return height if rows == height else max(0, rows - taps // self.half)
+
+    def fed(self, a, b, width, height, sample_max, kernel):
+        """The pair of rows that come one by one, the last L kept; None where a row was wanted that had not come, or was no longer there."""
+        now, kept, done = start(sample_max), {}, 0
+        first, second = (lambda r, c, i=i: kept[r][i][c] for i in (0, 1))
+        for row in range(height):
+            kept[row] = [[plane(row, c) for c in range(width)] for plane in (a, b)]
+            kept.pop(row - lines(len(kernel)), None)
+            upto = self.scored(row + 1, height, len(kernel))
+            try:
+                for y in range(done, upto):
+                    self.row(now, first, second, width, height, kernel, y)
+            except KeyError:
+                return None
+            done = upto
+        return pair(now)
+
+    def judged(self, call, broken):
+        """The number that a call of rows gives where these of its tests fail."""
+        return next(int(number) for number, whose in self.orders[call] if number + whose in broken)
 
     def scales(self, a, b, width, height, sample_max):
         """The pairs of five scales, one after another."""
@@ -135,8 +165,21 @@ def lawful(kernel):
     return odd and weighed and kernel == kernel[::-1] and kernel[len(kernel) // 2] >= 1 and (len(kernel) == 1 or kernel[0] >= 1)
 
 
+def lines(taps):
+    """L: the smallest power of two that is at least the count of taps."""
+    return 1 << (taps - 1).bit_length()
+
+
 def scratch(width, taps):
-    return 6 * width * (1 << (taps - 1).bit_length())
+    return 6 * width * lines(taps)
+
+
+def start(sample_max):
+    return {"cs": 0.0, "ssim": 0.0, "ssimw": 0.0, "sample_max": sample_max}
+
+
+def pair(now):
+    return now["ssim"] / now["ssimw"], now["cs"] / now["ssimw"]
 
 
 def moments(a, b, width, height, kernel, x, y):
