@@ -1,14 +1,12 @@
 -- A ring of L lines: slots, what a stored row changes, and which rows the ring shows. Assumes nothing.
 use mathlib.Core.Path.{_≡_, refl, sym, _∙_, ap}
-use mathlib.Core.Bool.{cond}
 use mathlib.Core.List.{List}
 use Prim.Native.Nat.{ℕ, _+_, _-_, _*_, _/_, _%_, _≤_, _<_}
 use native.Mathlib.Nat.{add-mul, div-add-mod', mod-lt, mod-self, mod-eq-of-lt, mod-add-mod, mul-le-mul-right, lt-of-mul-lt-mul-right}
 use native.Mathlib.Decide.{decLt}
-use borrow.Author.Tests.{lt-ltb, le-ltb}
 use native.Mathlib.Omega.{arith}
 use lib.Arith.{lt-of-le-ne}
-use lib.Dec.{ltb, lit≤}
+use lib.Dec.{lit≤}
 use lib.IntN.{ℤ, pos}
 use Rattle.window.specs.Moments.{mostSample}
 use Rattle.window.specs.Inner.Columns.{atZ, Put}
@@ -22,34 +20,19 @@ mod-apart L r y l m e =
     let p : r / L < y / L = lt-of-mul-lt-mul-right L (omega (arith, div-add-mod' r L, div-add-mod' y L)) in
     omega (arith, div-add-mod' r L, div-add-mod' y L, mul-le-mul-right L p)
 
--- the slot of the next row is the next slot
-pub slot-next : (L r : ℕ) → (r % L + 1) % L ≡ (r + 1) % L
-slot-next L r = mod-add-mod r L 1
+-- rows further on stand in the slots further on, up to the last
+slot-along : (L r d : ℕ) → r % L + d < L → (r + d) % L ≡ r % L + d
+slot-along L r d l = sym (mod-add-mod r L d) ∙ mod-eq-of-lt l
 
--- the last line, and so the ring, ends a width after the line's begin
-pub last-line : (L width : ℕ) → 0 < L → (L - 1) * width + width ≡ L * width
-last-line L width some =
-    let e : L - 1 + 1 ≡ L = omega arith in
-    omega (arith, rw e at (add-mul (L - 1) 1 width))
+-- at places that are a width apart
+pub along : (width L r d q c at : ℕ) → r + d ≡ q → r % L + d < L → at ≡ placeAt width L r c → at + d * width ≡ placeAt width L q c
+along width L r d q c at e l f =
+    let slot = rw e at (slot-along L r d l) in
+    rw (f, slot) (omega (arith, add-mul (r % L) d width))
 
--- so the place one row on is a width further, or back in the first line
-pub next-place : (L width r x i last : ℕ) → i ≡ r % L * width + x → last ≡ (L - 1) * width → x < width → 0 < L
-    → cond (ltb i last) (i + width) (i - last) ≡ (r + 1) % L * width + x
-next-place L width r x i last e f inside some = go (decLt (r % L + 1) L)
-  where
-    go : Dec (r % L + 1 < L) → cond (ltb i last) (i + width) (i - last) ≡ (r + 1) % L * width + x
-    go (yes l) =
-        let below : r % L + 1 ≤ L - 1 = omega arith in
-        let up = mul-le-mul-right width below in
-        let slot = sym (slot-next L r) ∙ mod-eq-of-lt l in
-        rw (lt-ltb i last (omega (arith, e, f, up)), slot) (omega (arith, e))
-    go (no n) =
-        let low = mod-lt r some in
-        let end : r % L + 1 ≡ L = omega (arith, low) in
-        let line : L - 1 ≡ r % L = omega (arith, end) in
-        let start = rw line at f in
-        let slot = sym (slot-next L r) ∙ ap (λ (q : ℕ). q % L) end ∙ mod-self L in
-        rw (le-ltb i last (omega (arith, e, start)), slot) (omega (arith, e, start))
+-- and the row past the last slot in the first
+pub slot-over : (L r d : ℕ) → 0 < L → r % L + d ≡ L → (r + d) % L ≡ 0
+slot-over L r d some e = sym (mod-add-mod r L d) ∙ ap (λ (q : ℕ). q % L) e ∙ mod-self L
 
 -- a slot's row ends inside the ring
 pub slot-inside : (width L r n : ℕ) → 0 < L → L * width ≤ n → r % L * width + width ≤ n
@@ -124,14 +107,3 @@ ring-small-a s width L r c = omega (arith, first-small (atZ s (placeAt width L r
 pub ring-small-b : (s : List ℤ) (width L r c : ℕ) → ringB s width L r c ≤ mostSample
 unfolding ringB
 ring-small-b s width L r c = omega (arith, second-small (atZ s (placeAt width L r c)), word-small)
-
--- ---- a place that goes along with its row
-module _ (width L r c i : ℕ) (e : i ≡ r % L * width + c) (inside : c < width) (some : 0 < L) where
-  pub place-room : (n : ℕ) → L * width ≤ n → i < n
-  place-room n l = omega (arith, e, slot-inside width L r n some l)
-
-pub place-step : (width L y k off c i i′ last : ℕ) → i ≡ (y + k - off) % L * width + c → last ≡ (L - 1) * width → c < width → 0 < L → off ≤ y + k
-    → i′ ≡ cond (ltb i last) (i + width) (i - last) → i′ ≡ (y + (k + 1) - off) % L * width + c
-place-step width L y k off c i i′ last e f inside some l g =
-    let d : y + (k + 1) - off ≡ y + k - off + 1 = omega arith in
-    rw (g, d) (next-place L width (y + k - off) c i last e f inside some)

@@ -15,9 +15,9 @@ use Rattle.window.specs.Inner.Columns.{atZ, Put}
 use Rattle.ssim.specs.declared.Totals.{Totals}
 use Rattle.ssim.specs.Score.{noTotals, totalsOf}
 use Rattle.row_ring.specs.declared.Ring.{Ring}
-use Rattle.row_ring.specs.Ring.{pairBase, packedOf, ringA, ringB}
+use Rattle.row_ring.specs.Ring.{ringPlaces, pairBase, packedOf, ringA, ringB}
 use Rattle.row_ring.specs.Taken.{rowsFrom, scoredAfter, Kept, withRow, takeRow, takenOf}
-use Rattle.row_ring.specs.Inner.Places.{Clean, ringPlaces}
+use Rattle.row_ring.specs.Inner.Places.{Clean}
 use Rattle.row_ring.proofs.Rings.{Shows, slot-inside, shows-none, shows-more}
 use Rattle.row_ring.proofs.Stored.{put-is, stored-length, stored-put}
 use Rattle.row_ring.proofs.Rows.{scored-before, scored-last, fed-step}

@@ -2,9 +2,7 @@
 // pair of samples to a place, row r at slot r % lines; the places past the ring are for the column sums of one centre row between their
 // margins, and are zero between the rows.
 ghost use mathlib.Core.Path.{_≡_};
-ghost use mathlib.Core.Bool.{cond};
-ghost use Prim.Native.Nat.{ℕ, _+_, _-_, _*_, _%_, _<_, _≤_, _^_};
-ghost use lib.Dec.{ltb};
+ghost use Prim.Native.Nat.{ℕ, min, _+_, _-_, _*_, _/_, _%_, _<_, _≤_};
 ghost use lib.ListN.{length};
 ghost use Rattle.plane.specs.Limits.{sideLimit};
 ghost use Rattle.plane.specs.Plane.{sampleAt};
@@ -15,7 +13,7 @@ ghost use Rattle.window.specs.Moments.{momentsAt};
 ghost use Rattle.window.specs.Inner.Parts.{Kernel};
 ghost use Rattle.window.specs.Inner.Columns.{columnTo, columnAt, columnsOf, Put};
 ghost use Rattle.ssim.specs.Score.{rowOf};
-ghost use Rattle.row_ring.specs.Ring.{packedOf, ringA, ringB};
+ghost use Rattle.row_ring.specs.Ring.{ringPlaces, packedOf, placeAt, ringA, ringB};
 ghost use Rattle.row_ring.specs.Inner.Places.{Clean, Roomy};
 ghost use Rattle.row_ring.specs.Taken.{rowsFrom, scoredAfter, takenOf};
 use plane::Layout;
@@ -31,15 +29,6 @@ pub struct Ring {
     pub width: usize,
     pub height: usize,
     pub lines: usize,
-}
-
-// The place one row on: past the last line, which begins at `last`, comes the first.
-fn next_place(i: usize, width: usize, last: usize) -> usize
-    requires { ⌜ i < last + width ⌝ }
-    requires { ⌜ last + width < 2 ^ 64 ⌝ }
-    ensures { λ r. ⌜ r ≡ cond (ltb i last) (i + width) (i - last) ⌝ }
-{
-    if i < last { i + width } else { i - last }
 }
 
 // Row `i` of a group, to the places from `to` on.
@@ -73,39 +62,78 @@ fn store_row(
     }
 }
 
-// The five sums down column x of the ring, the middle in row y. The place goes along with the taps, with no product and no division.
+// The taps from `from` up to `upto` down column x of the ring, of which the first stands at place `at` and none past the last line.
+fn run(
+    s: &[i64],
+    ring: Ring,
+    kernel: &[u16],
+    x: usize,
+    y: usize,
+    from: usize,
+    upto: usize,
+    at: usize,
+    t: FiveSums,
+) -> FiveSums
+    requires { ⌜ (x < ring .width) × (ringPlaces ring ≤ length (now s)) ⌝ }
+    requires { ⌜ (from ≤ upto) × (upto ≤ length (now kernel)) × (length (now kernel) / 2 ≤ y + from)
+        × (y + upto ≤ length (now kernel) / 2 + ring .height) ⌝ }
+    requires { ⌜ (from < upto → (at ≡ placeAt (ring .width) (ring .lines) (y + from - length (now kernel) / 2) x)
+        × ((y + from - length (now kernel) / 2) % ring .lines + (upto - from) ≤ ring .lines)) ⌝ }
+    requires { ⌜ Kernel (now kernel) ⌝ }
+    requires { ⌜ t ≡ columnTo (now kernel) (ring .height) (ringA (now s) (ring .width) (ring .lines))
+        (ringB (now s) (ring .width) (ring .lines)) x y from ⌝ }
+    ensures { λ r. ⌜ r ≡ columnTo (now (kernel .entry)) (ring .height) (ringA (now (s .entry)) (ring .width) (ring .lines))
+        (ringB (now (s .entry)) (ring .width) (ring .lines)) x y upto ⌝ }
+{
+    let mut t = t;
+    for k in from..upto {
+        let i = at + (k - from) * ring.width;
+        t = columns::tapped(t, kernel[k], pair::first(s, i), pair::second(s, i));
+    }
+    t
+}
+
+// Of the taps from `from` up to `upto` the first past so many lines.
+fn turn(from: usize, upto: usize, lines: usize) -> usize
+    requires { ⌜ from ≤ upto ⌝ }
+    ensures { λ r. ⌜ r ≡ min upto (from + lines) ⌝ }
+{
+    if upto - from <= lines {
+        upto
+    } else {
+        from + lines
+    }
+}
+
+// The five sums down column x of the ring, the middle in row y: the taps up to the ring's last line, then the others from its first, so that
+// the walk itself neither divides nor looks where it is.
 fn column(s: &[i64], ring: Ring, kernel: &[u16], x: usize, y: usize) -> FiveSums
     requires { ⌜ (x < ring .width) × (y < ring .height) × (ring .height ≤ sideLimit) ⌝ }
-    requires { ⌜ (0 < ring .lines) × (ring .lines * ring .width ≤ length (now s)) ⌝ }
+    requires { ⌜ (length (now kernel) ≤ ring .lines) × (ringPlaces ring ≤ length (now s)) ⌝ }
     requires { ⌜ Kernel (now kernel) ⌝ }
     ensures { λ r. ⌜ r ≡ columnTo (now (kernel .entry)) (ring .height) (ringA (now (s .entry)) (ring .width) (ring .lines))
         (ringB (now (s .entry)) (ring .width) (ring .lines)) x y (length (now (kernel .entry))) ⌝ }
 {
     let n = kernel.len();
-    let off = n / 2;
-    let width = ring.width;
-    let height = ring.height;
-    let lines = ring.lines;
-    let last = (lines - 1) * width;
     let from = columns::first(n, y);
-    let mut i = (y + from - off) % lines * width + x;
-    let mut t = FiveSums {
+    let upto = columns::past(n, y, ring.height);
+    let slot = (y + from - n / 2) % ring.lines;
+    let over = turn(from, upto, ring.lines - slot);
+    let none = FiveSums {
         mux: 0,
         muy: 0,
         x2: 0,
         xy: 0,
         y2: 0,
     };
-    for k in from..columns::past(n, y, height) {
-        t = columns::tapped(t, kernel[k], pair::first(s, i), pair::second(s, i));
-        i = next_place(i, width, last);
-    }
-    t
+    let at = slot * ring.width + x;
+    let t = run(s, ring, kernel, x, y, from, over, at, none);
+    run(s, ring, kernel, x, y, over, upto, x, t)
 }
 
 // The sums of every column of the ring, the middle in row y, to the places from `to` on, past the ring.
 fn fill(ring: Ring, kernel: &[u16], y: usize, to: usize, s: &mut [i64])
-    requires { ⌜ (y < ring .height) × (ring .height ≤ sideLimit) × (0 < ring .lines) × (ring .lines * ring .width ≤ to)
+    requires { ⌜ (y < ring .height) × (ring .height ≤ sideLimit) × (length (now kernel) ≤ ring .lines) × (ringPlaces ring ≤ to)
         × (to + 5 * ring .width ≤ length (now s)) ⌝ }
     requires { ⌜ Kernel (now kernel) ⌝ }
     ensures { λ _. ⌜ Put (now (s .entry)) (now (s .exit)) to (5 * ring .width) (columnAt (now (kernel .entry)) (ring .height)

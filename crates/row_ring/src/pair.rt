@@ -5,7 +5,7 @@ ghost use Prim.Native.Nat.{_<_};
 ghost use lib.IntN.{pos};
 ghost use lib.ListN.{length, set};
 ghost use Rattle.window.specs.Inner.Columns.{atZ};
-ghost use Rattle.row_ring.specs.Ring.{packedOf, firstOf, secondOf};
+ghost use Rattle.row_ring.specs.Ring.{packedOf, plainOf, firstOf, secondOf};
 
 // Words are below this.
 const PAIR_BASE: u64 = 65536;
@@ -18,22 +18,11 @@ pub fn put(i: usize, a: u32, b: u32, s: &mut [i64])
     s[i] = (a as u64 + PAIR_BASE * (b as u64)) as i64;
 }
 
-// The first of the pair that a place means: below 0 counts as 0.
-fn first_of(z: i64) -> u64
-    ensures { λ r. ⌜ r ≡ firstOf z ⌝ }
+// A place as a number: below 0 counts as 0.
+fn plain(z: i64) -> u64
+    ensures { λ r. ⌜ r ≡ plainOf z ⌝ }
 {
-    if z < 0 { 0 } else { z as u64 % PAIR_BASE }
-}
-
-// The second.
-fn second_of(z: i64) -> u64
-    ensures { λ r. ⌜ r ≡ secondOf z ⌝ }
-{
-    if z < 0 {
-        0
-    } else {
-        z as u64 / PAIR_BASE % PAIR_BASE
-    }
+    if z < 0 { 0 } else { z as u64 }
 }
 
 // The first of the pair at place i.
@@ -41,7 +30,7 @@ pub fn first(s: &[i64], i: usize) -> u64
     requires { ⌜ i < length (now s) ⌝ }
     ensures { λ r. ⌜ r ≡ firstOf (atZ (now (s .entry)) i) ⌝ }
 {
-    first_of(s[i])
+    plain(s[i]) % PAIR_BASE
 }
 
 // The second.
@@ -49,5 +38,5 @@ pub fn second(s: &[i64], i: usize) -> u64
     requires { ⌜ i < length (now s) ⌝ }
     ensures { λ r. ⌜ r ≡ secondOf (atZ (now (s .entry)) i) ⌝ }
 {
-    second_of(s[i])
+    plain(s[i]) / PAIR_BASE % PAIR_BASE
 }

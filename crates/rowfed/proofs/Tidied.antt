@@ -20,7 +20,8 @@ use Rattle.ssim.specs.Scratch.{nextPower}
 use Rattle.ssim.proofs.Powers.{power-reach}
 use Rattle.row_ring.specs.declared.Ring.{Ring}
 use Rattle.row_ring.specs.Taken.{Kept, takenOf}
-use Rattle.row_ring.specs.Inner.Places.{ringPlaces, Clean, Roomy}
+use Rattle.row_ring.specs.Ring.{ringPlaces}
+use Rattle.row_ring.specs.Inner.Places.{Clean, Roomy}
 use Rattle.rowfed.specs.declared.State.{State}
 use Rattle.rowfed.specs.State.{ringOf}
 use Rattle.rowfed.specs.Feed.{usedPlaces, takenIn}
@@ -52,7 +53,7 @@ module _ (s : State) (lines : ℕ) (places : List ℕ) (e : lines ≡ nextPower 
   ring = record { width = s .width; height = s .height; lines = lines }
 
   pub roomy : (n : ℕ) → usedPlaces s ≤ n → Roomy ring (take (s .taps) places) n
-  roomy n l = (omega (arith, e, sound .taps-least, power-reach (s .taps)), rw (e, f) l)
+  roomy n l = (omega (arith, e, taps-there, power-reach (s .taps)), rw (e, f) l)
 
   pub kernel-there : Kernel (take (s .taps) places) × (lentTotal ≡ sumTo (tap (take (s .taps) places)) (length (take (s .taps) places)))
   kernel-there = rw f (sound .kernel, sound .total)

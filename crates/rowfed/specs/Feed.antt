@@ -10,10 +10,9 @@ use Rattle.refusal.specs.Numbers.{strideNo, shortNo, sampleNo, scratchNo, state
 use Rattle.refusal.specs.First.{firstBroken, byRefusal}
 use Rattle.plane.specs.Plane.{Plane, Planes, planeOf, sizeOf, planesOf, both, every}
 use Rattle.plane.specs.Tests.{strideSuits, longEnough, samplesSuit}
-use Rattle.window.specs.Inner.Columns.{columnsOf}
 use Rattle.ssim.specs.declared.Totals.{Totals}
 use Rattle.row_ring.specs.Taken.{scoredAfter, Kept, takenOf}
-use Rattle.row_ring.specs.Inner.Places.{ringPlaces}
+use Rattle.row_ring.specs.Ring.{ringPlaces}
 use Rattle.rowfed.specs.declared.State.{State}
 use Rattle.rowfed.specs.declared.Fed.{Fed}
 use Rattle.rowfed.specs.declared.Took.the-variants.{Yes, Refused}
@@ -45,9 +44,10 @@ feedRefusal s g lent = firstBroken (feedTests s g lent)
 
 -- ---- the rows taken
 
--- the places that are used, ring and columns, of those that are needed
+-- the places that are used, of those that are needed: the ring, then five sums for each column, and for half a kernel of columns before and
+-- after
 abbrev pub usedPlaces : State → ℕ
-usedPlaces s = ringPlaces (ringOf s) + 5 * columnsOf (kernelOf s) (s .width)
+usedPlaces s = ringPlaces (ringOf s) + 5 * (s .width + 2 * (length (kernelOf s) / 2))
 
 -- the ring as it stands, and zeros past it, whatever the caller left there
 abbrev pub tidied : State → List ℤ → List ℤ

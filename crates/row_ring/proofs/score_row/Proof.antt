@@ -12,8 +12,7 @@ use Rattle.kernel.specs.Kernel.{lentTotal}
 use Rattle.window.proofs.Sums.Windows.{weight-le}
 use Rattle.window.proofs.Sums.Held.{part-length}
 use Rattle.row_ring.specs.declared.Ring.{Ring}
-use Rattle.row_ring.specs.Inner.Places.{ringPlaces}
-use Rattle.row_ring.specs.Ring.{ringA, ringB}
+use Rattle.row_ring.specs.Ring.{ringPlaces, ringA, ringB}
 use Rattle.row_ring.proofs.Rings.{ring-small-a, ring-small-b}
 use Rattle.row_ring.proofs.Scored.{rest-length, ready, row-scored, row-cleared}
 use borrow.Author.Needs.{needs}

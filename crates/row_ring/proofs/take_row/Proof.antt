@@ -4,7 +4,7 @@ use Prim.Native.Nat.{ℕ, _+_, _*_, _%_, _≤_}
 use native.Mathlib.Nat.{le-refl}
 use native.Mathlib.Omega.{arith}
 use borrow.Author.Needs.{needs}
-use Rattle.row_ring.specs.Inner.Places.{ringPlaces}
+use Rattle.row_ring.specs.Ring.{ringPlaces}
 use Rattle.row_ring.proofs.Rings.{slot-inside}
 use Rattle.row_ring.proofs.take_row.Statement.{statement}
 use Rattle.row_ring.proofs.take_row.Tie as tie

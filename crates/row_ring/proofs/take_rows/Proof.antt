@@ -1,6 +1,6 @@
 -- `row_ring::take_rows` meets its contract: the rows before i are taken. Assumes nothing.
 use mathlib.Core.Path.{_≡_, refl, sym, _∙_}
-use Prim.Native.Nat.{ℕ, _+_, _-_, _*_, _/_, _≤_}
+use Prim.Native.Nat.{ℕ, _+_, _-_, _*_, _/_, _≤_, _<_}
 use native.Mathlib.Nat.{le-refl}
 use native.Mathlib.Omega.{arith}
 use borrow.Author.Needs.{needs}
@@ -10,7 +10,8 @@ use Rattle.plane.specs.Plane.{Planes}
 use Rattle.plane.specs.Inner.Lent.{planes, planesIn}
 use Rattle.plane.proofs.Limits.{side-small}
 use Rattle.row_ring.specs.Taken.{takenOf, Kept}
-use Rattle.row_ring.specs.Inner.Places.{ringPlaces, Clean}
+use Rattle.row_ring.specs.Ring.{ringPlaces}
+use Rattle.row_ring.specs.Inner.Places.{Clean}
 use Rattle.row_ring.proofs.Rings.{slot-inside}
 use Rattle.row_ring.proofs.Rows.{scored-most, scored-grows}
 use Rattle.row_ring.proofs.Taken.{taken-none, taken-more}
@@ -34,6 +35,10 @@ group s = planes (s .args .layout) (s .args .a8) (s .args .a16) (s .args .b8) (s
 
 abbrev before : tie.Start Inv-loop μ-loop → Kept
 before s = record { places = now (s .args .s); totals = s .args .t }
+
+-- there is a line for every tap, and so one
+some-lines : (s : tie.Start Inv-loop μ-loop) → 0 < s .args .ring .lines
+some-lines s = omega (arith, s .pre .1 .1 .0 .0, s .pre .1 .1 .1 .1 .0 .odd)
 
 loop-holds : tie.Need-loop-holds Inv-loop μ-loop
 loop-holds c =
@@ -88,7 +93,7 @@ loop-again c =
     let new = r .last .1 .1 .1 .1 .1 .1 .1 .1 .1 .1 .1 .1 .1 .0 in
     let kept = r .kept .1 .1 .1 .1 .1 .1 .1 .1 .1 .1 .1 .1 .1 .0 in
     let n = ringPlaces ring in
-    let some = s .pre .1 .1 .0 .0 in
+    let some = some-lines s in
     let low = slot-inside (ring .width) (ring .lines) (s .args .received + l .i) n some (le-refl n) in (
       omega (arith, c .before .before .before .before .before .loop-test .taken),
       kept ∙ l .inv .1,

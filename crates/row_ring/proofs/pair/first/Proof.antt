@@ -1,28 +1,30 @@
 -- `row_ring::pair::first` meets its contract. Assumes nothing.
 use mathlib.Core.Path.{ap, _∙_}
+use Prim.Native.Nat.{ℕ, _%_}
 use denote.Ref.{now}
 use mir.Syntax.{w64}
 use mir.ValLaws.{toZ-ofZ}
 use Rattle.window.specs.Inner.Columns.{atZ}
-use Rattle.row_ring.specs.Ring.{firstOf}
+use Rattle.row_ring.specs.Ring.{pairBase, plainOf}
 use borrow.Author.Needs.{needs}
 use Rattle.row_ring.proofs.pair.first.Statement.{statement}
 use Rattle.row_ring.proofs.pair.first.Tie as tie
 
-mul-first-of : tie.Need-mul-first-of
-mul-first-of c = search needs
+mul-plain : tie.Need-mul-plain
+mul-plain c = search needs
 
-shared-slice-copy-out-first-of : tie.Need-shared-slice-copy-out-first-of
-shared-slice-copy-out-first-of c = search needs
+shared-slice-copy-out-plain : tie.Need-shared-slice-copy-out-plain
+shared-slice-copy-out-plain c = search needs
 
-first-of-requires : tie.Need-first-of-requires
-first-of-requires c κs = search needs
+plain-requires : tie.Need-plain-requires
+plain-requires c κs = search needs
 
 returns : tie.Need-returns
+unfolding pairBase
 returns c =
     let s = c .before .before in
-    c .first-of .ensures ∙ ap firstOf (toZ-ofZ w64 (atZ (now (s .args .s)) (s .args .i)) (record { sfits = c .before .first-of-arg .given }))
+    ap (λ (q : ℕ). q % pairBase) (c .plain .ensures ∙ ap plainOf (toZ-ofZ w64 (atZ (now (s .args .s)) (s .args .i)) (record { sfits = c .before .plain-arg .given })))
 
 pub first-spec : {M : Type 1} → statement M
 first-spec =
-    tie.close (tie.spec mul-first-of shared-slice-copy-out-first-of first-of-requires returns)
+    tie.close (tie.spec mul-plain shared-slice-copy-out-plain plain-requires returns)

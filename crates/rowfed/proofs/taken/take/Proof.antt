@@ -7,7 +7,7 @@ use borrow.Rule.Slice.PartMut.{putMid, same-len-mid}
 use denote.Ref.{now}
 use lib.IntN.{pos}
 use lib.ListN.{length, take, replicate}
-use Rattle.row_ring.specs.Inner.Places.{ringPlaces}
+use Rattle.row_ring.specs.Ring.{ringPlaces}
 use Rattle.rowfed.proofs.Tidied.{tidy, tidy-clean}
 use borrow.Author.Needs.{needs}
 use Rattle.rowfed.proofs.taken.take.Statement.{statement}
