@@ -1,3 +1,4 @@
 pub mod Held
 pub mod Accept
 pub mod Tidied
+pub mod Reached

@@ -4,10 +4,13 @@ use mathlib.Core.Bool.{Bool, true}
 use mathlib.Core.List.{List, [], _∷_}
 use Prim.Native.Nat.{ℕ, _+_, _<_}
 use lib.IntN.{ℤ}
-use Rattle.plane.specs.Plane.{Plane, Planes, sampleAt}
+use lib.ListN.{length}
+use Rattle.plane.specs.declared.Size.{Size}
+use Rattle.plane.specs.Plane.{Plane, Planes, sampleAt, sizeOf}
 use Rattle.plane.specs.Tests.{strideSuits, longEnough}
 use Rattle.rowfed.specs.declared.State.{State}
-use Rattle.rowfed.specs.Feed.{feedOf, scratchFed}
+use Rattle.rowfed.specs.Begin.{beginRefusal, beginOf, scratchBegun}
+use Rattle.rowfed.specs.Feed.{feedRefusal, feedOf, scratchFed}
 
 -- what the caller has between calls: the state, and the scratch
 pub record Between : Type 0 where
@@ -39,3 +42,38 @@ pub record RowsOf (p : Planes) (received : ℕ) (g : Planes) : Type 0 where
 abbrev pub Groups : Planes → ℕ → List Planes → Type 0
 Groups p received [] = received ≡ p .size .height
 Groups p received (g ∷ more) = RowsOf p received g × Groups p (received + g .size .height) more
+
+-- ---- which states a begin and feeds give
+
+-- what the caller has after a begin
+abbrev pub begunWith : Size → List ℕ → List ℤ → Between
+begunWith size ker scratch = record { state = beginOf size ker scratch .state; scratch = scratchBegun size ker scratch }
+
+-- feeds of bytes, or of words where `wide` is true, that are lent rows of the state's width and depth, as `fedRows` has them; at its turn none is
+-- refused
+abbrev pub Accepted : Bool → Between → List Planes → Type 0
+Accepted wide h [] = Unit {0}
+Accepted wide h (g ∷ more) =
+    (g .size ≡ sizeOf wide (h .state .width) (g .size .height) (h .state .depth))
+    × ((feedRefusal (h .state) g (length (h .scratch)) ≡ 0) × Accepted wide (fedOnce h g) more)
+
+-- all of two states is the same but the running sums
+pub record SameNumbers (s t : State) : Type 0 where
+  pub width : s .width ≡ t .width
+  pub height : s .height ≡ t .height
+  pub depth : s .depth ≡ t .depth
+  pub taps : s .taps ≡ t .taps
+  pub kernel : s .kernel ≡ t .kernel
+  pub rows : s .rows ≡ t .rows
+  pub scored : s .scored ≡ t .scored
+
+-- some begin of this sample width and some feeds, none of them refused, give the numbers of s
+pub record Reached (wide : Bool) (s : State) : Type 0 where
+  pub size : Size
+  pub taps : List ℕ
+  pub scratch : List ℤ
+  pub feeds : List Planes
+  pub of-wide : size .wide ≡ wide
+  pub begun : beginRefusal size taps (length scratch) ≡ 0
+  pub fed : Accepted wide (begunWith size taps scratch) feeds
+  pub same : SameNumbers s (fedAll (begunWith size taps scratch) feeds .state)
