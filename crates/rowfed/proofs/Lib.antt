@@ -1,4 +1,5 @@
 pub mod Held
 pub mod Accept
 pub mod Tidied
+pub mod Given
 pub mod Reached

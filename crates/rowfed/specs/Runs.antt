@@ -49,13 +49,13 @@ Groups p received (g ∷ more) = RowsOf p received g × Groups p (received + g .
 abbrev pub begunWith : Size → List ℕ → List ℤ → Between
 begunWith size ker scratch = record { state = beginOf size ker scratch .state; scratch = scratchBegun size ker scratch }
 
--- feeds of bytes, or of words where `wide` is true, that are lent rows of the state's width and depth, as `fedRows` has them; at its turn none is
--- refused
-abbrev pub Accepted : Bool → Between → List Planes → Type 0
-Accepted wide h [] = Unit {0}
-Accepted wide h (g ∷ more) =
+-- Feeds of bytes, or of words where `wide` is true, that are all taken: each is lent rows of the state's width and depth, as `fedRows` has them, and
+-- at its turn no test refuses it.
+abbrev pub TakenAll : Bool → Between → List Planes → Type 0
+TakenAll wide h [] = Unit {0}
+TakenAll wide h (g ∷ more) =
     (g .size ≡ sizeOf wide (h .state .width) (g .size .height) (h .state .depth))
-    × ((feedRefusal (h .state) g (length (h .scratch)) ≡ 0) × Accepted wide (fedOnce h g) more)
+    × ((feedRefusal (h .state) g (length (h .scratch)) ≡ 0) × TakenAll wide (fedOnce h g) more)
 
 -- all of two states is the same but the running sums
 pub record SameNumbers (s t : State) : Type 0 where
@@ -67,13 +67,13 @@ pub record SameNumbers (s t : State) : Type 0 where
   pub rows : s .rows ≡ t .rows
   pub scored : s .scored ≡ t .scored
 
--- some begin of this sample width and some feeds, none of them refused, give the numbers of s
+-- the numbers of s are those that a begin of this sample width gives, and feeds after it, none of them refused
 pub record Reached (wide : Bool) (s : State) : Type 0 where
   pub size : Size
-  pub taps : List ℕ
+  pub ker : List ℕ
   pub scratch : List ℤ
   pub feeds : List Planes
   pub of-wide : size .wide ≡ wide
-  pub begun : beginRefusal size taps (length scratch) ≡ 0
-  pub fed : Accepted wide (begunWith size taps scratch) feeds
-  pub same : SameNumbers s (fedAll (begunWith size taps scratch) feeds .state)
+  pub begun : beginRefusal size ker (length scratch) ≡ 0
+  pub fed : TakenAll wide (begunWith size ker scratch) feeds
+  pub same : SameNumbers s (fedAll (begunWith size ker scratch) feeds .state)
