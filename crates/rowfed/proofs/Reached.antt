@@ -139,16 +139,16 @@ module _ (wide : Bool) (s : State) where
           scored = rw (all, count) scored;
         })
 
-    -- the states of the code have mostTaps places for a kernel, all of them
-    pub possible-reached : length (s .kernel) ≡ mostTaps → Reached wide s
-    possible-reached full =
-        record {
-          size = whole;
-          ker = kernelOf s;
-          scratch = room;
-          feeds = feed ∷ [];
-          of-wide = refl;
-          begun = begins;
-          fed = (rw begins, (feeds, tt));
-          same = numbers full;
-        }
+-- ---- the theorem; in the code every state has mostTaps places for its kernel
+pub possible-reached : (wide : Bool) (s : State) → possible wide s ≡ true → length (s .kernel) ≡ mostTaps → Reached wide s
+possible-reached wide s e full =
+    record {
+      size = whole wide s;
+      ker = kernelOf s;
+      scratch = room wide s;
+      feeds = feed wide s ∷ [];
+      of-wide = refl;
+      begun = begins wide s e;
+      fed = (rw (begins wide s e), (feeds wide s e, tt));
+      same = numbers wide s e full;
+    }
