@@ -24,11 +24,11 @@ use Rattle.row_ring.proofs.Rings.{slot-inside}
 
 -- ---- stores past the ring leave its columns as they were
 module _ (old new : List ℤ) (width L n : ℕ) (some : 0 < L) (ring : L * width ≤ n) (same : (i : ℕ) → i < n → atZ new i ≡ atZ old i) where
-  ring-a : (r c : ℕ) → c < width → ringA new width L r c ≡ ringA old width L r c
+  pub ring-a : (r c : ℕ) → c < width → ringA new width L r c ≡ ringA old width L r c
   unfolding ringA
   ring-a r c l = ap firstOf (same (placeAt width L r c) (omega (arith, slot-inside width L r n some ring)))
 
-  ring-b : (r c : ℕ) → c < width → ringB new width L r c ≡ ringB old width L r c
+  pub ring-b : (r c : ℕ) → c < width → ringB new width L r c ≡ ringB old width L r c
   unfolding ringB
   ring-b r c l = ap secondOf (same (placeAt width L r c) (omega (arith, slot-inside width L r n some ring)))
 

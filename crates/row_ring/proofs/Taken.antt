@@ -20,6 +20,7 @@ use Rattle.row_ring.specs.Taken.{rowsFrom, scoredAfter, Kept, withRow, t
 use Rattle.row_ring.specs.Inner.Places.{Clean}
 use Rattle.row_ring.proofs.Rings.{Shows, slot-inside, shows-none, shows-more}
 use Rattle.row_ring.proofs.Stored.{put-is, stored-length, stored-put}
+use Rattle.row_ring.proofs.Scored.{ring-a, ring-b}
 use Rattle.row_ring.proofs.Rows.{scored-before, scored-last, fed-step}
 
 -- ---- one row of the code
@@ -72,6 +73,18 @@ module _ (max2 : Float) (ker : List ℕ) (ring : Ring) (a b : ℕ → ℕ → �
   fed-none s z l =
       let e : scoredAfter 0 (ring .height) off ≡ 0 = scored-before 0 (ring .height) off l ∙ omega arith in
       record { shows = shows-none s (ring .width) (ring .lines) a b; clean = λ j m. z j; sums = rw e (sym (fold-none _ _)) }
+
+  -- other places with the same ring, and zeros past it
+  pub fed-same : (k : Kept) (s : List ℤ) (r : ℕ) → 0 < ring .lines → ((i : ℕ) → i < ringPlaces ring → atZ s i ≡ atZ (k .places) i) → Clean ring s → Fed k r
+      → Fed (record { places = s; totals = k .totals }) r
+  fed-same k s r some same clean f =
+      let ra = ring-a (k .places) s (ring .width) (ring .lines) (ringPlaces ring) some (le-refl _) same in
+      let rb = ring-b (k .places) s (ring .width) (ring .lines) (ringPlaces ring) some (le-refl _) same in
+      record {
+        shows = record { first = λ q c l m n. ra q c n ∙ f .shows .first q c l m n; second = λ q c l m n. rb q c n ∙ f .shows .second q c l m n };
+        clean = clean;
+        sums = f .sums;
+      }
 
   -- all rows have come
   pub fed-all : (k : Kept) (r : ℕ) → r ≡ ring .height → Fed k r → k .totals ≡ totalsOf max2 ker (ring .width) (ring .height) a b (ring .height)

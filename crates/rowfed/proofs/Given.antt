@@ -35,7 +35,7 @@ zeros-at zero i = refl
 zeros-at (suc n) zero = refl
 zeros-at (suc n) (suc i) = zeros-at n i
 
-held-suits : (ker : List ℕ) → lawful lentTotal ker ≡ true → placesSuit (heldKernel ker) (length ker) ≡ true
+pub held-suits : (ker : List ℕ) → lawful lentTotal ker ≡ true → placesSuit (heldKernel ker) (length ker) ≡ true
 unfolding placesSuit zeros
 held-suits ker e =
     let pad : List ℕ = replicate (mostTaps - length ker) 0 in

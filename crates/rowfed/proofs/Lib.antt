@@ -3,3 +3,4 @@ pub mod Accept
 pub mod Tidied
 pub mod Given
 pub mod Reached
+pub mod Grouping
