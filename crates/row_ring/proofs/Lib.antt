@@ -1,6 +1,6 @@
 pub mod Pairs
 pub mod Rings
-pub mod Stored
-pub mod Scored
+mod Stored
+mod Scored
 pub mod Rows
 pub mod Taken

@@ -39,7 +39,7 @@ module _ (max2 : Float) (ker : List ℕ) (width height : ℕ) (a b : ℕ → ℕ
       (foldTo (λ (s : Totals) (i : ℕ). rowOf max2 (λ (x : ℕ). momentsAt ker width height a b x (from + i)) s width) t (y - from)) width) f)
 
   -- rows after rows
-  pub rows-join : (from n : ℕ) → rowsFrom max2 ker width height a b (totalsOf max2 ker width height a b from) from n ≡ totalsOf max2 ker width height a b (from + n)
+  rows-join : (from n : ℕ) → rowsFrom max2 ker width height a b (totalsOf max2 ker width height a b from) from n ≡ totalsOf max2 ker width height a b (from + n)
   unfolding rowsFrom totalsOf
   rows-join from zero = rw (add-zero from) (fold-none _ _)
   rows-join from (suc n) =

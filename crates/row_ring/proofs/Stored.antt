@@ -32,7 +32,7 @@ module _ (s : List ℤ) (from : ℕ) (g : ℕ → ℕ) where
       rw (more n, e) (put-more s (storedOf s from g n) from n g (pos (g n)) (stored-put n (omega arith)) refl (omega (arith, stored-length n)))
 
 -- two lists that a row of stores can leave are one
-pub put-one : (old l l′ : List ℤ) (from n : ℕ) (g : ℕ → ℕ) → Put old l from n g → Put old l′ from n g → length l ≡ length l′ → l ≡ l′
+put-one : (old l l′ : List ℤ) (from n : ℕ) (g : ℕ → ℕ) → Put old l from n g → Put old l′ from n g → length l ≡ length l′ → l ≡ l′
 put-one old l l′ from n g p q e = ext-getD (pos 0) l l′ e (λ i m. go i (decLt i from) (decLt i (from + n)))
   where
     go : (i : ℕ) → Dec (i < from) → Dec (i < from + n) → atZ l i ≡ atZ l′ i

@@ -53,7 +53,7 @@ module _ (wide : Bool) (s : State) (e : possible wide s ≡ true) where
   counts-suit =
       and-right (placesSuit (s .kernel) (s .taps)) _ (and-right (sidesSuit (s .width) (s .height)) _ (and-right (depthSuits wide (s .depth)) _ e))
 
-  pub taps-few : s .taps ≤ length (s .kernel)
+  taps-few : s .taps ≤ length (s .kernel)
   unfolding placesSuit
   taps-few = leb-true _ _ (and-left _ _ places-suit)
 
@@ -61,7 +61,7 @@ module _ (wide : Bool) (s : State) (e : possible wide s ≡ true) where
   unfolding placesSuit
   kernel-lawful = and-left _ _ (and-right (leb (s .taps) (length (s .kernel))) _ places-suit)
 
-  pub rows-few : s .rows ≤ s .height
+  rows-few : s .rows ≤ s .height
   unfolding countsSuit
   rows-few = leb-true _ _ (and-left _ _ counts-suit)
 

@@ -1,6 +1,6 @@
-pub mod Held
+mod Held
 pub mod Accept
-pub mod Tidied
+mod Tidied
 pub mod Given
 pub mod Reached
 pub mod Grouping
