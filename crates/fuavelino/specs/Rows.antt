@@ -1,13 +1,17 @@
 -- Rows as they arrive, at the face: a state is three lent arrays, six numbers, the kernel's places and three sums. Definitions only.
+use mathlib.Core.Bool.{Bool}
 use mathlib.Core.List.{List, [], _∷_}
 use Prim.Native.Nat.{ℕ}
 use lib.Ieee.{Float, nan}
+use lib.IntN.{ℤ}
 use lib.ListN.{getD}
+use denote.Ref.{RefT, now}
 use Rattle.plane.specs.Plane.{at}
 use Rattle.rowfed.specs.declared.State.{State}
 use Rattle.rowfed.specs.declared.Took.{Took}
 use Rattle.rowfed.specs.declared.Took.the-variants.{Yes, Refused}
 use Rattle.rowfed.specs.declared.Fed.{Fed}
+use Rattle.rowfed.specs.Feed.{fedRows, feedOf, scratchFed}
 
 -- width, height, depth, taps, rows that have come, rows that are scored
 abbrev pub numbersOf : State → List ℕ
@@ -30,6 +34,18 @@ stateIn numbers kernel sums =
       scored = at numbers 5;
       sums = record { ssim = getD sums 0 nan; cs = getD sums 1 nan; ssimw = getD sums 2 nan };
     }
+
+-- of the arrays as a contract has them
+abbrev pub lentState : RefT (List ℕ) → RefT (List ℕ) → RefT (List Float) → State
+lentState numbers kernel sums = stateIn (now numbers) (now kernel) (now sums)
+
+-- a feed to a state, of bytes or of words, its parameters as they stand: the answer, and what is left in the scratch
+module _ (wide : Bool) (s : State) (a b : RefT (List ℕ)) (strideA strideB rows : ℕ) (scratch : RefT (List ℤ)) where
+  abbrev pub fedTo : Fed
+  fedTo = feedOf s (fedRows wide s a b strideA strideB rows) (now scratch)
+
+  abbrev pub leftBy : List ℤ
+  leftBy = scratchFed s (fedRows wide s a b strideA strideB rows) (now scratch)
 
 -- the refusal's number, and 0 where there is none
 abbrev pub tookNumber : Took → ℕ

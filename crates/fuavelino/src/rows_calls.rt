@@ -1,5 +1,5 @@
-// Rows as they arrive, for other languages. A state is three lent arrays: its six numbers, the places of its kernel, and its three sums. They are
-// written where the answer is 0, and as they were otherwise.
+// Rows as they arrive, for other languages. A state is three lent arrays: its six numbers, the places of its kernel, and its three sums.
+// They are written where the answer is 0, and as they were otherwise.
 ghost use mathlib.Core.Path.{_≡_};
 ghost use mathlib.Core.Bool.{true, false};
 ghost use Prim.Native.Nat.{_≤_};
@@ -7,9 +7,8 @@ ghost use lib.Dec.{ltb};
 ghost use Rattle.plane.specs.Limits.{mostDepth};
 ghost use Rattle.plane.specs.Plane.{sizeOf, at};
 ghost use Rattle.rowfed.specs.Begin.{beginOf, scratchBegun};
-ghost use Rattle.rowfed.specs.Feed.{fedRows, feedOf, scratchFed};
 ghost use Rattle.rowfed.specs.Finish.{finishOf, scratchFinished};
-ghost use Rattle.fuavelino.specs.Rows.{stateIn, tookNumber, numbersWritten, kernelWritten, sumsWritten};
+ghost use Rattle.fuavelino.specs.Rows.{stateIn, lentState, fedTo, leftBy, tookNumber, numbersWritten, kernelWritten, sumsWritten};
 ghost use Rattle.fuavelino.specs.Ssim.{ssimNumber, ssimWritten, csWritten};
 use rowfed::Fed;
 use rowfed::State;
@@ -98,9 +97,12 @@ pub extern "C" fn fuavelino_rows_begin8(
 ) -> u8
     ensures { λ r. ⌜ r ≡ tookNumber (beginOf (sizeOf false width height depth) (now (kernel .entry)) (now (scratch .entry)) .answer) ⌝ }
     ensures { λ _. ⌜ now (scratch .exit) ≡ scratchBegun (sizeOf false width height depth) (now (kernel .entry)) (now (scratch .entry)) ⌝ }
-    ensures { λ _. ⌜ now (numbers .exit) ≡ numbersWritten (beginOf (sizeOf false width height depth) (now (kernel .entry)) (now (scratch .entry))) (now (numbers .entry)) ⌝ }
-    ensures { λ _. ⌜ now (held .exit) ≡ kernelWritten (beginOf (sizeOf false width height depth) (now (kernel .entry)) (now (scratch .entry))) (now (held .entry)) ⌝ }
-    ensures { λ _. ⌜ now (sums .exit) ≡ sumsWritten (beginOf (sizeOf false width height depth) (now (kernel .entry)) (now (scratch .entry))) (now (sums .entry)) ⌝ }
+    ensures { λ _. ⌜ now (numbers .exit) ≡ numbersWritten (beginOf (sizeOf false width height depth) (now (kernel .entry)) (now (scratch .entry)))
+        (now (numbers .entry)) ⌝ }
+    ensures { λ _. ⌜ now (held .exit) ≡ kernelWritten (beginOf (sizeOf false width height depth) (now (kernel .entry)) (now (scratch .entry)))
+        (now (held .entry)) ⌝ }
+    ensures { λ _. ⌜ now (sums .exit) ≡ sumsWritten (beginOf (sizeOf false width height depth) (now (kernel .entry)) (now (scratch .entry)))
+        (now (sums .entry)) ⌝ }
 {
     let fed = rowfed::begin8(width, height, depth, kernel, scratch);
     put_kernel(fed, held);
@@ -121,9 +123,12 @@ pub extern "C" fn fuavelino_rows_begin16(
 ) -> u8
     ensures { λ r. ⌜ r ≡ tookNumber (beginOf (sizeOf true width height depth) (now (kernel .entry)) (now (scratch .entry)) .answer) ⌝ }
     ensures { λ _. ⌜ now (scratch .exit) ≡ scratchBegun (sizeOf true width height depth) (now (kernel .entry)) (now (scratch .entry)) ⌝ }
-    ensures { λ _. ⌜ now (numbers .exit) ≡ numbersWritten (beginOf (sizeOf true width height depth) (now (kernel .entry)) (now (scratch .entry))) (now (numbers .entry)) ⌝ }
-    ensures { λ _. ⌜ now (held .exit) ≡ kernelWritten (beginOf (sizeOf true width height depth) (now (kernel .entry)) (now (scratch .entry))) (now (held .entry)) ⌝ }
-    ensures { λ _. ⌜ now (sums .exit) ≡ sumsWritten (beginOf (sizeOf true width height depth) (now (kernel .entry)) (now (scratch .entry))) (now (sums .entry)) ⌝ }
+    ensures { λ _. ⌜ now (numbers .exit) ≡ numbersWritten (beginOf (sizeOf true width height depth) (now (kernel .entry)) (now (scratch .entry)))
+        (now (numbers .entry)) ⌝ }
+    ensures { λ _. ⌜ now (held .exit) ≡ kernelWritten (beginOf (sizeOf true width height depth) (now (kernel .entry)) (now (scratch .entry)))
+        (now (held .entry)) ⌝ }
+    ensures { λ _. ⌜ now (sums .exit) ≡ sumsWritten (beginOf (sizeOf true width height depth) (now (kernel .entry)) (now (scratch .entry)))
+        (now (sums .entry)) ⌝ }
 {
     let fed = rowfed::begin16(width, height, depth, kernel, scratch);
     put_kernel(fed, held);
@@ -143,10 +148,16 @@ pub extern "C" fn fuavelino_rows_feed8(
     held: &[u16; 255],
     sums: &mut [f64; 3],
 ) -> u8
-    ensures { λ r. ⌜ r ≡ tookNumber (feedOf (stateIn (now (numbers .entry)) (now (held .entry)) (now (sums .entry))) (fedRows false (stateIn (now (numbers .entry)) (now (held .entry)) (now (sums .entry))) (a .entry) (b .entry) «stride_a» «stride_b» rows) (now (scratch .entry)) .answer) ⌝ }
-    ensures { λ _. ⌜ now (scratch .exit) ≡ scratchFed (stateIn (now (numbers .entry)) (now (held .entry)) (now (sums .entry))) (fedRows false (stateIn (now (numbers .entry)) (now (held .entry)) (now (sums .entry))) (a .entry) (b .entry) «stride_a» «stride_b» rows) (now (scratch .entry)) ⌝ }
-    ensures { λ _. ⌜ now (numbers .exit) ≡ numbersWritten (feedOf (stateIn (now (numbers .entry)) (now (held .entry)) (now (sums .entry))) (fedRows false (stateIn (now (numbers .entry)) (now (held .entry)) (now (sums .entry))) (a .entry) (b .entry) «stride_a» «stride_b» rows) (now (scratch .entry))) (now (numbers .entry)) ⌝ }
-    ensures { λ _. ⌜ now (sums .exit) ≡ sumsWritten (feedOf (stateIn (now (numbers .entry)) (now (held .entry)) (now (sums .entry))) (fedRows false (stateIn (now (numbers .entry)) (now (held .entry)) (now (sums .entry))) (a .entry) (b .entry) «stride_a» «stride_b» rows) (now (scratch .entry))) (now (sums .entry)) ⌝ }
+    ensures { λ r. ⌜ r ≡ tookNumber (fedTo false (lentState (numbers .entry) (held .entry) (sums .entry))
+        (a .entry) (b .entry) «stride_a» «stride_b» rows (scratch .entry) .answer) ⌝ }
+    ensures { λ _. ⌜ now (scratch .exit) ≡ leftBy false (lentState (numbers .entry) (held .entry) (sums .entry))
+        (a .entry) (b .entry) «stride_a» «stride_b» rows (scratch .entry) ⌝ }
+    ensures { λ _. ⌜ now (numbers .exit) ≡ numbersWritten (fedTo false (lentState (numbers .entry) (held .entry) (sums .entry))
+        (a .entry) (b .entry) «stride_a» «stride_b» rows (scratch .entry))
+        (now (numbers .entry)) ⌝ }
+    ensures { λ _. ⌜ now (sums .exit) ≡ sumsWritten (fedTo false (lentState (numbers .entry) (held .entry) (sums .entry))
+        (a .entry) (b .entry) «stride_a» «stride_b» rows (scratch .entry))
+        (now (sums .entry)) ⌝ }
 {
     let n = *numbers;
     if too_deep(n) {
@@ -170,10 +181,16 @@ pub extern "C" fn fuavelino_rows_feed16(
     held: &[u16; 255],
     sums: &mut [f64; 3],
 ) -> u8
-    ensures { λ r. ⌜ r ≡ tookNumber (feedOf (stateIn (now (numbers .entry)) (now (held .entry)) (now (sums .entry))) (fedRows true (stateIn (now (numbers .entry)) (now (held .entry)) (now (sums .entry))) (a .entry) (b .entry) «stride_a» «stride_b» rows) (now (scratch .entry)) .answer) ⌝ }
-    ensures { λ _. ⌜ now (scratch .exit) ≡ scratchFed (stateIn (now (numbers .entry)) (now (held .entry)) (now (sums .entry))) (fedRows true (stateIn (now (numbers .entry)) (now (held .entry)) (now (sums .entry))) (a .entry) (b .entry) «stride_a» «stride_b» rows) (now (scratch .entry)) ⌝ }
-    ensures { λ _. ⌜ now (numbers .exit) ≡ numbersWritten (feedOf (stateIn (now (numbers .entry)) (now (held .entry)) (now (sums .entry))) (fedRows true (stateIn (now (numbers .entry)) (now (held .entry)) (now (sums .entry))) (a .entry) (b .entry) «stride_a» «stride_b» rows) (now (scratch .entry))) (now (numbers .entry)) ⌝ }
-    ensures { λ _. ⌜ now (sums .exit) ≡ sumsWritten (feedOf (stateIn (now (numbers .entry)) (now (held .entry)) (now (sums .entry))) (fedRows true (stateIn (now (numbers .entry)) (now (held .entry)) (now (sums .entry))) (a .entry) (b .entry) «stride_a» «stride_b» rows) (now (scratch .entry))) (now (sums .entry)) ⌝ }
+    ensures { λ r. ⌜ r ≡ tookNumber (fedTo true (lentState (numbers .entry) (held .entry) (sums .entry))
+        (a .entry) (b .entry) «stride_a» «stride_b» rows (scratch .entry) .answer) ⌝ }
+    ensures { λ _. ⌜ now (scratch .exit) ≡ leftBy true (lentState (numbers .entry) (held .entry) (sums .entry))
+        (a .entry) (b .entry) «stride_a» «stride_b» rows (scratch .entry) ⌝ }
+    ensures { λ _. ⌜ now (numbers .exit) ≡ numbersWritten (fedTo true (lentState (numbers .entry) (held .entry) (sums .entry))
+        (a .entry) (b .entry) «stride_a» «stride_b» rows (scratch .entry))
+        (now (numbers .entry)) ⌝ }
+    ensures { λ _. ⌜ now (sums .exit) ≡ sumsWritten (fedTo true (lentState (numbers .entry) (held .entry) (sums .entry))
+        (a .entry) (b .entry) «stride_a» «stride_b» rows (scratch .entry))
+        (now (sums .entry)) ⌝ }
 {
     let n = *numbers;
     if too_deep(n) {
@@ -194,10 +211,12 @@ pub extern "C" fn fuavelino_rows_finish(
     ssim: &mut f64,
     cs: &mut f64,
 ) -> u8
-    ensures { λ r. ⌜ r ≡ ssimNumber (finishOf (stateIn (now (numbers .entry)) (now (held .entry)) (now (sums .entry))) (now (scratch .entry))) ⌝ }
-    ensures { λ _. ⌜ now (scratch .exit) ≡ scratchFinished (stateIn (now (numbers .entry)) (now (held .entry)) (now (sums .entry))) (now (scratch .entry)) ⌝ }
-    ensures { λ _. ⌜ now (ssim .exit) ≡ ssimWritten (finishOf (stateIn (now (numbers .entry)) (now (held .entry)) (now (sums .entry))) (now (scratch .entry))) (now (ssim .entry)) ⌝ }
-    ensures { λ _. ⌜ now (cs .exit) ≡ csWritten (finishOf (stateIn (now (numbers .entry)) (now (held .entry)) (now (sums .entry))) (now (scratch .entry))) (now (cs .entry)) ⌝ }
+    ensures { λ r. ⌜ r ≡ ssimNumber (finishOf (lentState (numbers .entry) (held .entry) (sums .entry)) (now (scratch .entry))) ⌝ }
+    ensures { λ _. ⌜ now (scratch .exit) ≡ scratchFinished (lentState (numbers .entry) (held .entry) (sums .entry)) (now (scratch .entry)) ⌝ }
+    ensures { λ _. ⌜ now (ssim .exit) ≡ ssimWritten (finishOf (lentState (numbers .entry) (held .entry) (sums .entry)) (now (scratch .entry)))
+        (now (ssim .entry)) ⌝ }
+    ensures { λ _. ⌜ now (cs .exit) ≡ csWritten (finishOf (lentState (numbers .entry) (held .entry) (sums .entry)) (now (scratch .entry)))
+        (now (cs .entry)) ⌝ }
 {
     let n = *numbers;
     if too_deep(n) {

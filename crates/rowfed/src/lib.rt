@@ -44,7 +44,8 @@ pub struct Fed {
 // Planes of bytes whose rows will come: 1 2 7 8. Accepted, the needed part of the scratch is all zero and the rest as it was; refused, all is.
 pub fn begin8(width: usize, height: usize, depth: u32, kernel: &[u16], scratch: &mut [i64]) -> Fed
     ensures { λ r. ⌜ r ≡ beginOf (sizeOf false width height depth) (now (kernel .entry)) (now (scratch .entry)) ⌝ }
-    ensures { λ _. ⌜ now (scratch .exit) ≡ scratchBegun (sizeOf false width height depth) (now (kernel .entry)) (now (scratch .entry)) ⌝ }
+    ensures { λ _. ⌜ now (scratch .exit) ≡ scratchBegun (sizeOf false width height depth)
+        (now (kernel .entry)) (now (scratch .entry)) ⌝ }
 {
     let size = Size {
         wide: false,
@@ -58,7 +59,8 @@ pub fn begin8(width: usize, height: usize, depth: u32, kernel: &[u16], scratch: 
 // The same of words.
 pub fn begin16(width: usize, height: usize, depth: u32, kernel: &[u16], scratch: &mut [i64]) -> Fed
     ensures { λ r. ⌜ r ≡ beginOf (sizeOf true width height depth) (now (kernel .entry)) (now (scratch .entry)) ⌝ }
-    ensures { λ _. ⌜ now (scratch .exit) ≡ scratchBegun (sizeOf true width height depth) (now (kernel .entry)) (now (scratch .entry)) ⌝ }
+    ensures { λ _. ⌜ now (scratch .exit) ≡ scratchBegun (sizeOf true width height depth)
+        (now (kernel .entry)) (now (scratch .entry)) ⌝ }
 {
     let size = Size {
         wide: true,
@@ -80,7 +82,8 @@ pub fn feed8(
     scratch: &mut [i64],
 ) -> Fed
     ensures { λ r. ⌜ r ≡ feedOf state (fedRows false state (a .entry) (b .entry) «stride_a» «stride_b» rows) (now (scratch .entry)) ⌝ }
-    ensures { λ _. ⌜ now (scratch .exit) ≡ scratchFed state (fedRows false state (a .entry) (b .entry) «stride_a» «stride_b» rows) (now (scratch .entry)) ⌝ }
+    ensures { λ _. ⌜ now (scratch .exit) ≡ scratchFed state
+        (fedRows false state (a .entry) (b .entry) «stride_a» «stride_b» rows) (now (scratch .entry)) ⌝ }
 {
     let size = Size {
         wide: false,
@@ -107,7 +110,8 @@ pub fn feed16(
     scratch: &mut [i64],
 ) -> Fed
     ensures { λ r. ⌜ r ≡ feedOf state (fedRows true state (a .entry) (b .entry) «stride_a» «stride_b» rows) (now (scratch .entry)) ⌝ }
-    ensures { λ _. ⌜ now (scratch .exit) ≡ scratchFed state (fedRows true state (a .entry) (b .entry) «stride_a» «stride_b» rows) (now (scratch .entry)) ⌝ }
+    ensures { λ _. ⌜ now (scratch .exit) ≡ scratchFed state
+        (fedRows true state (a .entry) (b .entry) «stride_a» «stride_b» rows) (now (scratch .entry)) ⌝ }
 {
     let size = Size {
         wide: true,

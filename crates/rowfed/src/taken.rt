@@ -214,7 +214,8 @@ pub fn feed(
 ) -> Fed
     requires { ⌜ (layout .size .width ≡ state .width) × (layout .size .depth ≡ state .depth) ⌝ }
     ensures { λ r. ⌜ r ≡ feedOf state (planes layout (a8 .entry) (a16 .entry) (b8 .entry) (b16 .entry)) (now (scratch .entry)) ⌝ }
-    ensures { λ _. ⌜ now (scratch .exit) ≡ scratchFed state (planes layout (a8 .entry) (a16 .entry) (b8 .entry) (b16 .entry)) (now (scratch .entry)) ⌝ }
+    ensures { λ _. ⌜ now (scratch .exit) ≡ scratchFed state (planes layout (a8 .entry) (a16 .entry) (b8 .entry) (b16 .entry))
+        (now (scratch .entry)) ⌝ }
 {
     let no = refusal(a8, a16, b8, b16, layout, state, scratch.len());
     if no != 0 {

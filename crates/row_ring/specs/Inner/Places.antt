@@ -1,5 +1,5 @@
--- What the engine asks of the lent places: room for the ring, which has a line for every tap, then for the columns between their margins, and zeros past the ring. Definitions
--- only.
+-- What the engine asks of the lent places: room for the ring, which has a line for every tap, then for the columns between their margins, and
+-- zeros past the ring. Definitions only.
 use mathlib.Core.Path.{_≡_}
 use mathlib.Core.List.{List}
 use Prim.Native.Nat.{ℕ, _+_, _*_, _≤_}
