@@ -11,7 +11,7 @@ ghost use Rattle.plane.specs.Sums.{sumTo};
 ghost use Rattle.kernel.specs.Kernel.{tap, lentTotal};
 ghost use Rattle.window.specs.Moments.{momentsAt};
 ghost use Rattle.window.specs.Inner.Parts.{Kernel};
-ghost use Rattle.window.specs.Inner.Columns.{columnTo, columnAt, columnsOf, Put};
+ghost use Rattle.window.specs.Inner.Columns.{columnTo, columnAt, Put};
 ghost use Rattle.ssim.specs.Score.{rowOf};
 ghost use Rattle.row_ring.specs.Ring.{ringPlaces, packedOf, placeAt, ringA, ringB};
 ghost use Rattle.row_ring.specs.Inner.Places.{Clean, Roomy};

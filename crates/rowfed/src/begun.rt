@@ -42,6 +42,7 @@ fn held(kernel: &[u16]) -> [u16; 255]
     places
 }
 
+// Before the first centre.
 fn no_sums() -> Totals
     ensures { λ r. ⌜ r ≡ noTotals ⌝ }
 {

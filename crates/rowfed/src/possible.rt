@@ -25,13 +25,14 @@ fn places_suit(places: &[u16], taps: usize) -> bool
     kernel::is_lawful(&places[..taps]) && all_zero(&places[taps..])
 }
 
-// The same of the places of a state.
+// The same of so many places as a state has.
 fn held_suits(places: &[u16; 255], taps: usize) -> bool
     ensures { λ r. ⌜ r ≡ placesSuit (now (places .entry)) taps ⌝ }
 {
     places_suit(places, taps)
 }
 
+// The same of a state.
 fn kernel_suits(s: State) -> bool
     ensures { λ r. ⌜ r ≡ placesSuit (s .kernel) (s .taps) ⌝ }
 {
@@ -39,6 +40,7 @@ fn kernel_suits(s: State) -> bool
     held_suits(&places, s.taps)
 }
 
+// No more rows than the height, and as many scored as so many rows allow.
 fn counts_suit(s: State) -> bool
     ensures { λ r. ⌜ r ≡ countsSuit s ⌝ }
 {

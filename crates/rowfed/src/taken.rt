@@ -170,6 +170,7 @@ fn take_under(
     )
 }
 
+// The same, where they are the state's own places.
 fn take_held(
     a8: &[u8],
     a16: &[u16],
