@@ -1,5 +1,6 @@
 //! The product beside the published Rust, or plain Rust where that has no such call, in one run: each side's best time of many rounds, taken in
-//! turn, and the ratio. And what the product's scores cost as planes and kernels grow.
+//! turn, and the ratio. Row-fed SSIM beside the product's own SSIM, by the median of the rounds. And what the product's scores cost as planes and
+//! kernels grow.
 //!
 //! speed [NAME..]
 
@@ -8,7 +9,8 @@ mod plain;
 #[allow(dead_code)]
 mod random;
 
-use fuavelino::{no_alloc, Pair, Place, PlaneKind, PsnrMetrics, Record, Sample, Shape, Tiles};
+use fuavelino::no_alloc::{self, RowState};
+use fuavelino::{Kernel, Pair, Place, PlaneKind, PsnrMetrics, Record, Sample, Shape, Tiles};
 use published::plane::Plane;
 use published::video::pixel::Pixel;
 use published::video::{psnr, psnr_hvs, ssim};
@@ -27,7 +29,7 @@ const PATIENCE: Duration = Duration::from_secs(6);
 
 type Named = (&'static str, fn());
 
-const ALL: [Named; 10] = [
+const ALL: [Named; 12] = [
     ("root", root),
     ("decibels", decibels),
     ("forward", forward),
@@ -35,6 +37,8 @@ const ALL: [Named; 10] = [
     ("first", || at_both_sizes(first, first)),
     ("map", || at_both_sizes(map, map)),
     ("ssim", || at_both_sizes(similarity, similarity)),
+    ("rows", || rows(&bytes(640, 360), 405)),
+    ("tall", || rows(&words(1_920, 1_080), 1_080)),
     ("hvs", || at_both_sizes(visual, visual)),
     ("scales", || at_both_sizes(scales, scales)),
     ("growth", growth),
@@ -53,18 +57,45 @@ fn main() {
 }
 
 /// The best time of each side over so many operations, in nanoseconds an operation; the other is what the product is held to.
-fn beside(what: &str, count: usize, other_name: &str, mut product: impl FnMut(), mut other: impl FnMut()) {
-    let mut best = [f64::MAX; 2];
+fn beside(what: &str, count: usize, other_name: &str, product: impl FnMut(), other: impl FnMut()) {
+    let [ours, theirs] = in_turn(product, other).map(best);
+    tell(what, count, other_name, [ours, theirs], ours / theirs);
+}
+
+/// As `beside`, by the median of the rounds and of their ratios: sides that differ by so little would be told apart by one lucky round, and by a
+/// processor that changes its speed between rounds.
+fn closely_beside(what: &str, count: usize, other_name: &str, product: impl FnMut(), other: impl FnMut()) {
+    let [ours, theirs] = in_turn(product, other);
+    let ratios = ours.iter().zip(&theirs).map(|(a, b)| a / b).collect();
+    tell(what, count, other_name, [ours, theirs].map(median), median(ratios));
+}
+
+fn tell(what: &str, count: usize, other_name: &str, times: [f64; 2], ratio: f64) {
+    let [ours, theirs] = times.map(|time| time * 1e9 / count as f64);
+    println!("  {}: product {:.2} ns, {} {:.2} ns, ratio {:.2}", what, ours, other_name, theirs, ratio);
+}
+
+/// The seconds of each side, round by round.
+fn in_turn(mut product: impl FnMut(), mut other: impl FnMut()) -> [Vec<f64>; 2] {
+    let mut times = [vec![], vec![]];
     let start = Instant::now();
     for round in 0..MOST {
         if round >= FEWEST && start.elapsed() > PATIENCE {
             break;
         }
-        best[0] = best[0].min(once(&mut product));
-        best[1] = best[1].min(once(&mut other));
+        times[0].push(once(&mut product));
+        times[1].push(once(&mut other));
     }
-    let each = |i: usize| best[i] * 1e9 / count as f64;
-    println!("  {}: product {:.2} ns, {} {:.2} ns, ratio {:.2}", what, each(0), other_name, each(1), best[0] / best[1]);
+    times
+}
+
+fn best(times: Vec<f64>) -> f64 {
+    times.into_iter().fold(f64::MAX, f64::min)
+}
+
+fn median(mut times: Vec<f64>) -> f64 {
+    times.sort_by(f64::total_cmp);
+    times[times.len() / 2]
 }
 
 /// The seconds that one run takes.
@@ -192,9 +223,17 @@ impl<T: Sample + Pixel> Scene<T> {
         Scene { planes: [a.clone(), b], shape: self.shape }
     }
 
-    /// The planes and their shape as the product takes them.
+    /// The planes as the product takes them.
     fn lent(&self) -> [fuavelino::Plane<'_, T>; 2] {
-        [&self.planes[0], &self.planes[1]].map(|plane| fuavelino::Plane { data: &plane.data, stride: plane.cfg.stride })
+        self.lent_from(0)
+    }
+
+    /// The same, from this row on.
+    fn lent_from(&self, row: usize) -> [fuavelino::Plane<'_, T>; 2] {
+        [&self.planes[0], &self.planes[1]].map(|plane| {
+            let stride = plane.cfg.stride;
+            fuavelino::Plane { data: &plane.data[row * stride..], stride }
+        })
     }
 
     /// The samples as the published code takes them for SSIM.
@@ -215,10 +254,14 @@ fn bytes(width: usize, height: usize) -> Scene<u8> {
     Scene::new(width, height, 8, |s| s as u8)
 }
 
+fn words(width: usize, height: usize) -> Scene<u16> {
+    Scene::new(width, height, 10, |s| s as u16)
+}
+
 /// The time for each sample, of bytes and of words.
 fn at_both_sizes(of_bytes: fn(&Scene<u8>), of_words: fn(&Scene<u16>)) {
     of_bytes(&bytes(640, 360));
-    of_words(&Scene::new(1_920, 1_080, 10, |s| s as u16));
+    of_words(&words(1_920, 1_080));
 }
 
 fn squared<T: Sample + Pixel>(scene: &Scene<T>) {
@@ -276,16 +319,48 @@ fn similarity<T: Sample + Pixel>(scene: &Scene<T>) {
     let other = || {
         black_box(ssim::probe_pair(black_box(&u), black_box(&v), width, height, scene.largest(), black_box(&kernel)));
     };
-    beside(&scene.show(), scene.count(), "published", run_ssim(scene, &taps), other);
+    beside(&scene.show(), scene.count(), "published", run_ssim(scene, &taps, &mut Pair::default()), other);
 }
 
-fn run_ssim<'a, T: Sample + Pixel>(scene: &'a Scene<T>, taps: &'a [u16]) -> impl FnMut() + 'a {
+fn run_ssim<'a, T: Sample + Pixel>(scene: &'a Scene<T>, taps: &'a [u16], pair: &'a mut Pair) -> impl FnMut() + 'a {
     let [x, y] = scene.lent();
-    let mut scratch = vec![0i64; 6 * scene.shape.width * taps.len().next_power_of_two()];
+    let mut scratch = vec![0i64; no_alloc::ssim_places(scene.shape.width, taps.len())];
     move || {
-        let mut pair = Pair::default();
-        assert_eq!(no_alloc::ssim(x, y, black_box(scene.shape), taps, &mut scratch, &mut pair), Ok(()));
-        black_box(pair);
+        assert_eq!(no_alloc::ssim(x, y, black_box(scene.shape), taps, &mut scratch, pair), Ok(()));
+    }
+}
+
+/// Rows as they arrive, one by one and 16 together, beside the product's own SSIM of the whole planes, with the chart's kernel for this height.
+fn rows<T: Sample + Pixel>(scene: &Scene<T>, height: usize) {
+    let kernel = Kernel::charted(height).expect("the chart has this height");
+    let taps = kernel.taps();
+    for group in [1, 16] {
+        let mut pairs = [Pair::default(); 2];
+        let [fed, whole] = &mut pairs;
+        let what = format!("{}, {} taps, fed by {}", scene.show(), taps.len(), group);
+        let (product, other) = (run_rows(scene, taps, group, fed), run_ssim(scene, taps, whole));
+        closely_beside(&what, scene.count(), "whole planes", product, other);
+        let [fed, whole] = pairs.map(|pair| [pair.ssim, pair.cs].map(f64::to_bits));
+        assert_eq!(fed, whole);
+    }
+}
+
+fn run_rows<'a, T: Sample + Pixel>(
+    scene: &'a Scene<T>,
+    taps: &'a [u16],
+    group: usize,
+    pair: &'a mut Pair,
+) -> impl FnMut() + 'a {
+    let Shape { width, height, .. } = scene.shape;
+    let mut scratch = vec![0i64; no_alloc::ssim_places(width, taps.len())];
+    move || {
+        let mut state = RowState::default();
+        assert_eq!(no_alloc::rows_begin::<T>(black_box(scene.shape), taps, &mut scratch, &mut state), Ok(()));
+        for row in (0..height).step_by(group) {
+            let [x, y] = scene.lent_from(row);
+            assert_eq!(no_alloc::rows_feed(x, y, group.min(height - row), &mut scratch, &mut state), Ok(()));
+        }
+        assert_eq!(no_alloc::rows_finish(&mut scratch, &state, pair), Ok(()));
     }
 }
 
@@ -341,7 +416,7 @@ fn growth() {
     let scene = bytes(640, 360);
     for count in [7, 15, 31, 63, 127, 255] {
         let taps = level(count);
-        let each = alone(scene.count(), run_ssim(&scene, &taps));
+        let each = alone(scene.count(), run_ssim(&scene, &taps, &mut Pair::default()));
         println!("  SSIM of {} taps: {:.2} ns a sample, {:.2} ns a sample and tap", count, each, each / count as f64);
     }
 }
@@ -351,7 +426,7 @@ fn grown(scene: &Scene<u8>) {
     let n = scene.count();
     let times = [
         alone(n, run_squared(scene)),
-        alone(n, run_ssim(scene, &taps)),
+        alone(n, run_ssim(scene, &taps, &mut Pair::default())),
         alone(n, run_scales(scene)),
         alone(n, run_hvs(scene)),
     ];
