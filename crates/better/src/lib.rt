@@ -1,4 +1,6 @@
 // Which of two candidates is nearer an original, by squared error. SCOPE, "Which build is better".
+#![tactic(auto)]
+
 ghost use Rattle.std.specs.Prelude.{◌≡◌, true, false};
 ghost use Rattle.plane.specs.Inner.Lent.{planes};
 ghost use Rattle.better.specs.Better.{contest, smaller_of, better_of, winner_of};
@@ -8,7 +10,7 @@ use plane::{Layout, Size};
 use psnr::walk::Walked;
 
 // The smaller squared error, as a record has it, and whose it is; on a tie the first's.
-#[derive(Drop)]
+#[derive(Clone, Copy)]
 pub enum Better {
     First(f64),
     Second(f64),
@@ -16,7 +18,7 @@ pub enum Better {
 }
 
 // What one pair of planes is found to be: so far apart, or refused.
-#[derive(Drop)]
+#[derive(Clone, Copy)]
 pub enum Judged {
     Apart(u64),
     Refused(u8),

@@ -1,10 +1,12 @@
 // The scores of three planes in one figure, the two chroma planes weighted by c; after `calculate_frame_ssim` and
 // `calculate_frame_psnr_hvs`. SCOPE, "HVS, SSIM and scales", Combining.
+#![tactic(auto)]
+
 ghost use Rattle.std.specs.Prelude.{◌≡◌};
 ghost use Rattle.combine.specs.Combine.{weighted_sum, whole_weight, visual_score, combinable, combined_ssim_of, combined_hvs_of};
 
 // The scores of the three planes.
-#[derive(Drop)]
+#[derive(Clone, Copy)]
 pub struct Planar {
     pub y: f64,
     pub u: f64,
@@ -12,14 +14,14 @@ pub struct Planar {
 }
 
 // What combining SSIM answers: the weighted sum, and the weight that belongs to it.
-#[derive(Drop)]
+#[derive(Clone, Copy)]
 pub enum CombinedSsim {
     Sum { sum: f64, weight: f64 },
     Refused(u8),
 }
 
 // What combining PSNR-HVS answers.
-#[derive(Drop)]
+#[derive(Clone, Copy)]
 pub enum CombinedHvs {
     Score(f64),
     Refused(u8),

@@ -1,4 +1,6 @@
 // The transform of a block of 8 by 8 numbers, and its inverse: SCOPE, "The transform".
+#![tactic(auto)]
+
 mod block;
 
 ghost use Rattle.std.specs.Prelude.{◌≡◌, T, leb, nat_abs, length};

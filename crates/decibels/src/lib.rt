@@ -1,4 +1,6 @@
 // PSNR in whole hundredths of a decibel, of a record, of a total and of a run of records. SCOPE, "Decibels".
+#![tactic(auto)]
+
 ghost use Rattle.std.specs.Prelude.{◌≡◌, ◌*◌, ◌^◌, ◌≤◌, ◌<◌};
 ghost use Rattle.number.specs.Inner.Wide.{value_of};
 ghost use Rattle.decibels.specs.Hundredths.{place_count, entry_of, peak_of, power_of, place_of};
@@ -22,7 +24,7 @@ const UNIT: u64 = 1_000_000_000;
 pub const IDENTICAL: u32 = 10_000;
 
 // What is answered: D; that no sample differs, for which 100 decibels stand; or the refusal.
-#[derive(Drop)]
+#[derive(Clone, Copy)]
 pub enum Decibels {
     Hundredths(u32),
     Identical,
@@ -38,7 +40,7 @@ fn entry(entries: &[u64; 1000], k: usize) -> u64
 }
 
 // An error times a power of ten, and which power.
-#[derive(Drop)]
+#[derive(Clone, Copy)]
 struct Raised {
     error: Wide,
     power: u32,

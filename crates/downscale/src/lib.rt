@@ -1,4 +1,6 @@
 // A plane in lent 32-bit places: its samples are widened into them, and each scale is summed there in place from the one above.
+#![tactic(auto)]
+
 ghost use Rattle.std.specs.Prelude.{◌≡◌, ℕ, ◌+◌, ◌*◌, ◌/◌, ◌<◌, ◌≤◌, ◌^◌, length, replicate};
 ghost use Rattle.plane.specs.Limits.{side_limit};
 ghost use Rattle.plane.specs.Plane.{at, plane_of, sample_at};

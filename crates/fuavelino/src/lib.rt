@@ -1,6 +1,8 @@
 // The face: what other languages link. A call answers 0 where it accepts, or the number of its refusal, and writes its results to
 // places that the caller lends; any numbers may be passed. What another language must see to, since no proof reaches it: pointers are
 // not null, aligned and have what their counts promise, and what is written overlaps nothing else (include/fuavelino.h).
+#![tactic(auto)]
+
 ghost use Rattle.std.specs.Prelude.{◌≡◌, true, false};
 ghost use Rattle.number.specs.Root.{root_of};
 ghost use Rattle.plane.specs.Plane.{called};

@@ -20,7 +20,7 @@ fn square(v: i32) -> f64
 }
 
 // The squares of the coefficients of two blocks, weighed: one sum for each.
-#[derive(Drop)]
+#[derive(Clone, Copy)]
 struct EnergyPair {
     one: f64,
     other: f64,

@@ -11,14 +11,14 @@ ghost use Rattle.hvs_block.specs.Inner.Levels.{Sample, Samples, level_in, square
 use dct::{BLOCK_SIDE, BLOCK_SIZE};
 
 // The sum of some samples, and the sum of their squares.
-#[derive(Drop)]
+#[derive(Clone, Copy)]
 struct SampleSums {
     sum: u32,
     squares: u32,
 }
 
 // The same of a quarter, with its variance.
-#[derive(Drop)]
+#[derive(Clone, Copy)]
 struct QuarterSums {
     sum: u32,
     squares: u32,

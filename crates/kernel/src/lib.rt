@@ -1,4 +1,6 @@
 // Kernels: which taps a caller may lend. What the sums make of them is `window`'s.
+#![tactic(auto)]
+
 ghost use Rattle.std.specs.Prelude.{◌≡◌, ◌≤◌, ◌<◌, length};
 ghost use Rattle.kernel.specs.Kernel.{most_taps, lent_total, odd_count, taps_suit, sums_to, mirrored, middled, ended, lawful};
 

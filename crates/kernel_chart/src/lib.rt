@@ -1,4 +1,6 @@
 // The kernels of SSIM that are asked for most, by the height of a plane that is no narrower than high. SCOPE, "The chart of kernels".
+#![tactic(auto)]
+
 ghost use Rattle.std.specs.Prelude.{◌≡◌, ◌+◌, ◌≤◌, ◌<◌, length, get_or, take, drop};
 ghost use Rattle.kernel_chart.specs.Rows.{chart};
 ghost use Rattle.kernel_chart.specs.Chart.{answer_by, after_by, charted_of, taps_after};
@@ -9,7 +11,7 @@ ghost use Rattle.kernel_chart.specs.Inner.Room.{room_refusal};
 mod rows;
 
 // What the call answers: how many taps it wrote, or the refusal.
-#[derive(Drop)]
+#[derive(Clone, Copy)]
 pub enum Charted {
     Taps(usize),
     Refused(u8),

@@ -1,4 +1,6 @@
 // The steps of the transform over eight numbers, run and undone: SCOPE, "The transform".
+#![tactic(auto)]
+
 mod lift;
 
 ghost use Rattle.std.specs.Prelude.{◌≡◌, [], ◌∷◌};
@@ -9,7 +11,7 @@ ghost use Rattle.lifting.specs.Steps.{run, steps, undo_all};
 use crate::lift::{add, down, down_wide, halved, sub, up, up_wide};
 
 // Eight numbers: t0 to t7.
-#[derive(Drop)]
+#[derive(Clone, Copy)]
 pub struct T8 {
     pub t0: i32,
     pub t1: i32,

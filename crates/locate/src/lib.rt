@@ -1,4 +1,6 @@
 // Where two planes differ: the first place, and the squared error of each tile. SCOPE, "Where planes differ".
+#![tactic(auto)]
+
 ghost use Rattle.std.specs.Prelude.{◌≡◌, true, false};
 ghost use Rattle.plane.specs.Plane.{called};
 ghost use Rattle.locate.specs.Where.{located_of};
@@ -10,7 +12,7 @@ pub mod first;
 pub mod tiles;
 
 // What the locator answers: the first place that differs, that there is none, or the refusal.
-#[derive(Drop)]
+#[derive(Clone, Copy)]
 pub enum Located {
     At { row: usize, column: usize },
     Alike,
@@ -18,7 +20,7 @@ pub enum Located {
 }
 
 // What the map answers: how many tiles lie across and down, or the refusal.
-#[derive(Drop)]
+#[derive(Clone, Copy)]
 pub enum Mapped {
     Tiles { across: usize, down: usize },
     Refused(u8),

@@ -1,5 +1,7 @@
 // MS-SSIM of two planes, after `calculate_plane_msssim` without its power product: five scales, each made from the one above by summing
 // 2×2 samples, and the pair of SSIM at each, under a kernel of its own.
+#![tactic(auto)]
+
 ghost use Rattle.std.specs.Prelude.{◌≡◌, true, false, ◌≤◌};
 ghost use Rattle.plane.specs.Limits.{side_limit};
 ghost use Rattle.plane.specs.Plane.{called};
@@ -20,7 +22,7 @@ pub const LEAST_SIDE: usize = 16;
 const TAPS: usize = 9;
 
 // ssim and cs of the five scales, the first the planes themselves.
-#[derive(Drop)]
+#[derive(Clone, Copy)]
 pub struct Pairs {
     pub ssim1: f64,
     pub cs1: f64,
@@ -35,7 +37,7 @@ pub struct Pairs {
 }
 
 // What MS-SSIM answers.
-#[derive(Drop)]
+#[derive(Clone, Copy)]
 pub enum MsSsim {
     Five(Pairs),
     Refused(u8),

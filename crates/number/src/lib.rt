@@ -1,4 +1,6 @@
 // Numbers that the scores stand on: the square root of a double, correctly rounded, and the leaves that others need.
+#![tactic(auto)]
+
 ghost use Rattle.std.specs.Prelude.{◌≡◌, ◌+◌, ◌*◌, ◌/◌, ◌%◌, ◌^◌, ◌<◌, ◌≤◌, false};
 ghost use Rattle.std.specs.Float.{binary64};
 ghost use Rattle.std.specs.Float.Ieee.{units};
@@ -19,7 +21,7 @@ pub const EXACT_LIMIT: u64 = 0x20_0000_0000_0000;
 pub const EXACT_LIMIT_DOUBLE: f64 = 9007199254740992.0;
 
 // What asking for a root answers.
-#[derive(Drop)]
+#[derive(Clone, Copy)]
 pub enum Rooted {
     Root(f64),
     Refused(u8),

@@ -44,7 +44,7 @@ fn nearer(n: u64, s: u64) -> u64
 }
 
 // What stands above the low 52 digits of s * s - s + 2^53 and of s * s + s.
-#[derive(Drop)]
+#[derive(Clone, Copy)]
 struct Ends {
     below: u64,
     above: u64,

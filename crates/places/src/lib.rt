@@ -1,5 +1,7 @@
 // How many places the scores need, for callers who lend them. Each answers for any numbers: 0 says that no plane of such a side is
 // taken, so that nothing need be lent to be told so.
+#![tactic(auto)]
+
 ghost use Rattle.std.specs.Prelude.{◌≡◌};
 ghost use Rattle.places.specs.Places.{within, ssim_places, msssim_places, msssim_samples, error_map_places};
 

@@ -1,5 +1,7 @@
 // SSIM as its definition reads: at every centre the whole window is summed afresh, with no line store and so no scratch. It is slow, and
 // it is easy to check by eye; what it answers is what `ssim` answers.
+#![tactic(auto)]
+
 ghost use Rattle.std.specs.Prelude.{◌≡◌, true, false};
 ghost use Rattle.plane.specs.Plane.{called};
 ghost use Rattle.plane.specs.Inner.Lent.{planes};

@@ -1,5 +1,7 @@
 // What a plane may be, after docs/SCOPE.md: its limits, the tests 1 to 6 of a call, and the samples of a plane of either width. A plane's
 // samples come as two slices, bytes and words: `wide` says which is the plane, and the other is not read.
+#![tactic(auto)]
+
 ghost use Rattle.std.specs.Prelude.{◌≡◌, true, false, [], ◌∷◌, ◌+◌, ◌*◌, ◌<◌, ◌≤◌, length};
 ghost use Rattle.refusal.specs.First.{first_broken};
 ghost use Rattle.plane.specs.Limits.{most_depth};
@@ -17,7 +19,7 @@ pub const STRIDE_LIMIT: usize = 32768;
 pub const DEPTH_LIMIT: u32 = 12;
 
 // What two planes share: whether their samples are words, their sides in samples, and their depth.
-#[derive(Drop)]
+#[derive(Clone, Copy)]
 pub struct Size {
     pub wide: bool,
     pub width: usize,
@@ -26,7 +28,7 @@ pub struct Size {
 }
 
 // Two planes as they are lent: what they share, and the stride of each.
-#[derive(Drop)]
+#[derive(Clone, Copy)]
 pub struct Layout {
     pub size: Size,
     pub stride_a: usize,

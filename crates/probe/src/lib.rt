@@ -1,5 +1,7 @@
 // What the product's library does not export, run by itself: the downscale of MS-SSIM, so that it can be compared with the published one,
 // and the plane that `better` hands back, which no other language can be handed. This is no part of the product's library.
+#![tactic(auto)]
+
 ghost use Rattle.std.specs.Prelude.{◌≡◌, true, false, length};
 ghost use Rattle.plane.specs.Plane.{at};
 ghost use Rattle.plane.specs.Tests.{none_above};

@@ -1,4 +1,6 @@
 // Squared error of two planes, the record that keeps it, and a series of records; after psnr.rs. SCOPE, "Squared error".
+#![tactic(auto)]
+
 ghost use Rattle.std.specs.Prelude.{◌≡◌, true, false};
 ghost use Rattle.plane.specs.Plane.{called};
 ghost use Rattle.plane.specs.Inner.Lent.{planes};
@@ -19,7 +21,7 @@ pub const TOTAL_LIMIT: u64 = number::EXACT_LIMIT;
 
 // What a comparison of two planes leaves, and whose they are. The error is a whole number, and exact.
 #[repr(C)]
-#[derive(Drop)]
+#[derive(Clone, Copy)]
 pub struct Record {
     pub sq_err: f64,
     pub n: u64,
@@ -29,7 +31,7 @@ pub struct Record {
 }
 
 // What asking for a squared error answers. Identical says "identical, 100" beside its record.
-#[derive(Drop)]
+#[derive(Clone, Copy)]
 pub enum SquaredError {
     Differs(Record),
     Identical(Record),
@@ -37,7 +39,7 @@ pub enum SquaredError {
 }
 
 // The errors and counts of a series, under its one max.
-#[derive(Drop)]
+#[derive(Clone, Copy)]
 pub struct Total {
     pub sq_err: f64,
     pub n: u64,
@@ -45,7 +47,7 @@ pub struct Total {
 }
 
 // What a series answers. Identical says "identical, 100" beside its total.
-#[derive(Drop)]
+#[derive(Clone, Copy)]
 pub enum Summed {
     Differs(Total),
     Identical(Total),
@@ -54,7 +56,7 @@ pub enum Summed {
 
 // A series so far, in whole numbers: how many records, what they add up to, and the last one's frame and plane. An error above
 // TOTAL_LIMIT is kept as one above it.
-#[derive(Drop)]
+#[derive(Clone, Copy)]
 pub struct Tally {
     pub records: u64,
     pub error: u64,
@@ -65,7 +67,7 @@ pub struct Tally {
 }
 
 // No record yet; sound ones only; or one among them that is bad, out of order or too many.
-#[derive(Drop)]
+#[derive(Clone, Copy)]
 pub enum Run {
     Empty,
     Sound(Tally),

@@ -10,7 +10,7 @@ ghost use Rattle.psnr.specs.Inner.Walk.{pair_suits, row_walked, walked_at, walke
 use plane::Layout;
 
 // What a walk over samples finds: the sum of their squared differences, or that one of them is above sample_max.
-#[derive(Drop)]
+#[derive(Clone, Copy)]
 pub enum Walked {
     Sum(u64),
     Above,
@@ -105,7 +105,7 @@ fn least(a: usize, b: usize) -> usize
 }
 
 // Of two parts of rows of words: the sum, modulo 2^32, and every bit that is in some sample.
-#[derive(Drop)]
+#[derive(Clone, Copy)]
 struct Part {
     sum: u32,
     bits: u16,

@@ -1,4 +1,6 @@
 // PSNR-HVS of two planes, after `calculate_plane_psnr_hvs`: SCOPE, "HVS, SSIM and scales".
+#![tactic(auto)]
+
 mod block;
 
 // A caller names the kind of a plane as `psnr_hvs::Kind`.
@@ -18,7 +20,7 @@ use plane::{Layout, Size};
 const STEP: usize = 7;
 
 // What asking for a score answers.
-#[derive(Drop)]
+#[derive(Clone, Copy)]
 pub enum Hvs {
     Score(f64),
     Refused(u8),

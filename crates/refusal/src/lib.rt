@@ -1,5 +1,6 @@
 // The numbers by which a call refuses, as the table of SCOPE, "When the desk says no", has them. This is the one place in code;
 // specs/Numbers.antt is the one place in definitions.
+#![tactic(auto)]
 
 // The depth does not suit the sample width.
 pub const DEPTH: u8 = 1;

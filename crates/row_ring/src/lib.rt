@@ -1,6 +1,8 @@
 // The last rows of two planes in lent scratch, and the centres that can be scored from them. The first places are a ring of `lines` rows, a
 // pair of samples to a place, row r at slot r % lines; the places past the ring are for the column sums of one centre row between their
 // margins, and are zero between the rows.
+#![tactic(auto)]
+
 ghost use Rattle.std.specs.Prelude.{◌≡◌, ℕ, min, ◌+◌, ◌-◌, ◌*◌, ◌/◌, ◌%◌, ◌<◌, ◌≤◌, length};
 ghost use Rattle.plane.specs.Limits.{side_limit};
 ghost use Rattle.plane.specs.Plane.{sample_at};
@@ -22,7 +24,7 @@ use window::{FiveSums, columns};
 pub mod pair;
 
 // The sides of the planes, and the lines of the ring.
-#[derive(Drop)]
+#[derive(Clone, Copy)]
 pub struct Ring {
     pub width: usize,
     pub height: usize,

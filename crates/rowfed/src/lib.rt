@@ -1,5 +1,7 @@
 // SSIM of planes whose rows come in bands: begin, feed any number of whole rows, finish. The caller holds a state by value and lends the same
 // scratch to each call. SCOPE, "Rows as they arrive".
+#![tactic(auto)]
+
 ghost use Rattle.std.specs.Prelude.{◌≡◌, true, false};
 ghost use Rattle.plane.specs.Plane.{size_of};
 ghost use Rattle.rowfed.specs.Begin.{begin_of, scratch_begun};
@@ -16,7 +18,7 @@ pub mod taken;
 
 // What the caller holds between calls: the sides and the depth of the planes, the kernel in the first `taps` of its places, how many rows have
 // come, how many rows of centres are scored, and their sums.
-#[derive(Drop)]
+#[derive(Clone, Copy)]
 pub struct State {
     pub width: usize,
     pub height: usize,
@@ -29,14 +31,14 @@ pub struct State {
 }
 
 // What begin and feed answer.
-#[derive(Drop)]
+#[derive(Clone, Copy)]
 pub enum Took {
     Yes,
     Refused(u8),
 }
 
 // The answer, and the state to go on with: a refused feed gives its own back, a refused begin one of zeros, which no call takes.
-#[derive(Drop)]
+#[derive(Clone, Copy)]
 pub struct Fed {
     pub answer: Took,
     pub state: State,

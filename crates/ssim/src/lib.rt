@@ -1,5 +1,7 @@
 // SSIM of two planes under a lent kernel, after `calculate_plane_ssim_internal`: the double steps at a centre, the walk over the
 // centres, and the calls for bytes and for words.
+#![tactic(auto)]
+
 ghost use Rattle.std.specs.Prelude.{◌≡◌, true, false, ◌*◌, ◌<◌, ◌≤◌, pos, length};
 ghost use Rattle.plane.specs.Limits.{side_limit};
 ghost use Rattle.plane.specs.Plane.{called};
@@ -15,14 +17,14 @@ pub mod centre;
 pub mod walk;
 
 // What SSIM answers.
-#[derive(Drop)]
+#[derive(Clone, Copy)]
 pub enum Ssim {
     Pair { ssim: f64, cs: f64 },
     Refused(u8),
 }
 
 // The running sums over the centres.
-#[derive(Drop)]
+#[derive(Clone, Copy)]
 pub struct Totals {
     pub ssim: f64,
     pub cs: f64,

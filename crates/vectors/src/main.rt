@@ -1,4 +1,6 @@
 // Replays the oracle's stored answers (src/table.rt) and prints for each family how many of them the product gives.
+#![tactic(auto)]
+
 mod dct_rows;
 mod hvs_rows;
 mod msssim_rows;

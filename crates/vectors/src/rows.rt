@@ -5,7 +5,7 @@ use crate::{dct_rows, hvs_rows, msssim_rows, planes, psnr_rows, root, ssim_rows,
 use plane::Size;
 
 // The families that have a table.
-#[derive(Drop)]
+#[derive(Clone, Copy)]
 pub enum Family {
     Root,
     Transform,
@@ -20,7 +20,7 @@ pub enum Family {
 const ROW: usize = 15;
 
 // A plane. What `from` and `end` tell is the family's to say.
-#[derive(Drop)]
+#[derive(Clone, Copy)]
 pub struct Lent {
     pub stride: usize,
     pub from: usize,
@@ -28,7 +28,7 @@ pub struct Lent {
 }
 
 // Three numbers more, which are the family's too; the answer; and where in the list its scores begin.
-#[derive(Drop)]
+#[derive(Clone, Copy)]
 pub struct Told {
     pub x: usize,
     pub y: usize,
@@ -37,7 +37,7 @@ pub struct Told {
     pub at: usize,
 }
 
-#[derive(Drop)]
+#[derive(Clone, Copy)]
 pub struct Row {
     pub size: Size,
     pub a: Lent,

@@ -1,11 +1,12 @@
 // Windows over planes: the six sums under a kernel at each centre. They are made a side at a time:
 // `columns` sums down the columns of one centre row into lent scratch, `row` sums along them at each centre.
+#![tactic(auto)]
 
 pub mod columns;
 pub mod row;
 
 // Which of three slices holds the samples of a plane. The 32-bit ones are those that MS-SSIM sums.
-#[derive(Drop)]
+#[derive(Clone, Copy)]
 pub enum Samples {
     Bytes,
     Words,
@@ -13,7 +14,7 @@ pub enum Samples {
 }
 
 // Two planes as the sums read them: their samples and sides, and the stride of each.
-#[derive(Drop)]
+#[derive(Clone, Copy)]
 pub struct Grid {
     pub samples: Samples,
     pub width: usize,
@@ -23,7 +24,7 @@ pub struct Grid {
 }
 
 // Five sums under a window: of a, b, a², ab and b².
-#[derive(Drop)]
+#[derive(Clone, Copy)]
 pub struct FiveSums {
     pub mux: u64,
     pub muy: u64,
@@ -33,7 +34,7 @@ pub struct FiveSums {
 }
 
 // The six moments at a centre: the five sums, and the weight of the taps inside.
-#[derive(Drop)]
+#[derive(Clone, Copy)]
 pub struct Moments {
     pub mux: u64,
     pub muy: u64,
