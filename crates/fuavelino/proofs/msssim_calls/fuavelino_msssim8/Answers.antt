@@ -1,0 +1,8 @@
+-- `fuavelino::msssim_calls::fuavelino_msssim8` meets its contract: by what MS-SSIM answered. Assumes nothing.
+use borrow.Author.Rules.{rules}
+use Rattle.fuavelino.proofs.msssim_calls.fuavelino_msssim8.Goals as goal
+
+-- TODO clauses: value, b32_value, pairs_after
+pub returns : goal.returns
+returns c = let e = c.msssim8-answer.ensures in
+    rw (← e.0) (c.put_pairs.ensures.value, (e.1, c.put_pairs.ensures.pairs_after))

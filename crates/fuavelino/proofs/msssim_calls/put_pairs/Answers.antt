@@ -1,0 +1,8 @@
+-- `fuavelino::msssim_calls::put_pairs` meets its contract. Assumes nothing.
+use mathlib.Core.Path.{refl}
+use borrow.Author.Rules.{rules}
+use Rattle.fuavelino.proofs.msssim_calls.put_pairs.Goals as goal
+
+-- TODO clauses: value, pairs_after
+pub returns-in-Five : goal.returns-in-Five
+returns-in-Five c = rw c.in-Five.is (refl, refl)

@@ -1,0 +1,6 @@
+-- `window::columns::grid_of` meets its contract. Assumes nothing.
+use borrow.Author.Rules.{rules}
+use Rattle.window.proofs.columns.grid_of.Goals as goal
+
+pub returns : goal.returns
+returns c = rw c.samples_for.ensures
