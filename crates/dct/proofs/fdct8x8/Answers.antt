@@ -7,14 +7,20 @@ use Rattle.dct.proofs.Bound.{small_mono, middle_small}
 use Rattle.dct.proofs.Round.{length_fdct8_columns}
 use Rattle.dct.proofs.fdct8x8.Goals as goal
 
--- TODO clauses: x_len, all_within
 pub fdct8_columns-z-requires : goal.fdct8_columns-z-requires
-fdct8_columns-z-requires c = (c.requires.block_len, small_mono (lit≤ tt) c.args.block.now c.requires.all_within)
+fdct8_columns-z-requires c =
+    record {
+      x_len = c.requires.block_len;
+      all_within = small_mono (lit≤ tt) c.args.block.now c.requires.all_within;
+    }
 
--- TODO clauses: x_len, all_within
 pub fdct8_columns-requires : goal.fdct8_columns-requires
-fdct8_columns-requires c = let t = c.fdct8_columns-z.ensures in
-    (rw t (length_fdct8_columns c.args.block.now), rw t (middle_small c.args.block.now c.requires.all_within))
+fdct8_columns-requires c =
+    let t = c.fdct8_columns-z.ensures in
+    record {
+      x_len = rw t (length_fdct8_columns c.args.block.now);
+      all_within = rw t (middle_small c.args.block.now c.requires.all_within);
+    }
 
 pub returns : goal.returns
 unfolding fdct8x8

@@ -10,12 +10,14 @@ use Rattle.dct.proofs.Round.{length_fdct8x8}
 use Rattle.dct.proofs.Calls.{Taken, taken, accepted, refused}
 use Rattle.dct.proofs.forward.Goals as goal
 
--- TODO clauses: block_len, all_within
 pub fdct8x8-y-requires : goal.fdct8x8-y-requires
 fdct8x8-y-requires c =
     let passed : block_suits forward_limit c.args.block.now (length c.args.out.now) ≡ true = sym c.block_suits.ensures ∙ c.if-block_suits.true in
     let lawful : Taken forward_limit c.args.block.now (length c.args.out.now) = taken _ _ _ passed in
-    (lawful.in_places, lawful.sizes)
+    record {
+      block_len = lawful.in_places;
+      all_within = lawful.sizes;
+    }
 
 pub copy-requires : goal.copy-requires
 copy-requires c =
@@ -23,14 +25,19 @@ copy-requires c =
     let lawful : Taken forward_limit c.args.block.now (length c.args.out.now) = taken _ _ _ passed in
     lawful.out_places ∙ sym (ap length c.fdct8x8-y.ensures ∙ length_fdct8x8 _)
 
--- TODO clauses: answer, content
 pub returns-then-block_suits : goal.returns-then-block_suits
 returns-then-block_suits c =
     let passed : block_suits forward_limit c.args.block.now (length c.args.out.now) ≡ true = sym c.block_suits.ensures ∙ c.if-block_suits.true in
     let a = accepted forward_limit fdct8x8 c.args.block.now c.args.out.now passed in
-    (sym a.0, c.copy.ensures ∙ c.fdct8x8-y.ensures ∙ sym a.1)
+    record {
+      answer = sym a.0;
+      content = c.copy.ensures ∙ c.fdct8x8-y.ensures ∙ sym a.1;
+    }
 
--- TODO clauses: answer, content
 pub returns : goal.returns
-returns c = let a = refused forward_limit fdct8x8 c.args.block.now c.args.out.now (sym c.block_suits.ensures ∙ c.if-block_suits.false) in
-    (sym a.0, sym a.1)
+returns c =
+    let a = refused forward_limit fdct8x8 c.args.block.now c.args.out.now (sym c.block_suits.ensures ∙ c.if-block_suits.false) in
+    record {
+      answer = sym a.0;
+      content = sym a.1;
+    }

@@ -8,20 +8,32 @@ use Rattle.dct.proofs.Round.{transform_undo}
 use Rattle.dct.proofs.Calls.{taken, accepted, refused}
 use Rattle.dct.proofs.inverse.Goals as goal
 
--- TODO clauses: coefs_len, out_len, all_within
 pub idct8x8-requires : goal.idct8x8-requires
-idct8x8-requires c = let t = taken _ c.args.coefs.now _ (sym c.block_suits.ensures ∙ c.if-block_suits.true) in
-    (t.in_places, (t.out_places, t.sizes))
+idct8x8-requires c =
+    let t = taken _ c.args.coefs.now _ (sym c.block_suits.ensures ∙ c.if-block_suits.true) in
+    record {
+      coefs_len = t.in_places;
+      out_len = t.out_places;
+      all_within = t.sizes;
+    }
 
--- TODO clauses: answer, content, carried
 pub returns-then-block_suits : goal.returns-then-block_suits
-returns-then-block_suits c = let h = sym c.block_suits.ensures ∙ c.if-block_suits.true in
+returns-then-block_suits c =
+    let h = sym c.block_suits.ensures ∙ c.if-block_suits.true in
     let a = accepted inverse_limit idct8x8 c.args.coefs.now c.args.out.now h in
     let e = (taken inverse_limit c.args.coefs.now _ h).in_places in
     let u = c.idct8x8.ensures in
-    (sym a.0, (u ∙ sym a.1, λ _. ap fdct8x8 u ∙ transform_undo c.args.coefs.now e))
+    record {
+      answer = sym a.0;
+      content = u ∙ sym a.1;
+      carried = λ _. ap fdct8x8 u ∙ transform_undo c.args.coefs.now e;
+    }
 
--- TODO clauses: answer, content, carried
 pub returns : goal.returns
-returns c = let a = refused inverse_limit idct8x8 c.args.coefs.now c.args.out.now (sym c.block_suits.ensures ∙ c.if-block_suits.false) in
-    (sym a.0, (sym a.1, λ z. absurd (omega arith)))
+returns c =
+    let a = refused inverse_limit idct8x8 c.args.coefs.now c.args.out.now (sym c.block_suits.ensures ∙ c.if-block_suits.false) in
+    record {
+      answer = sym a.0;
+      content = sym a.1;
+      carried = λ z. absurd (omega arith);
+    }

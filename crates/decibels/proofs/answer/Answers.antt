@@ -16,10 +16,13 @@ unfolding hundredths_of
 told P zero q k some a b = absurd (some refl)
 told P (suc E) q k some a b = rw (b, a)
 
--- TODO clauses: entries_value, error_bound
 pub place-k-requires : goal.place-k-requires
 unfolding chart part0 part1 part2 part3 part4 part5 part6 part7 part8 part9
-place-k-requires c = (refl, (c.raise-s.ensures.power_lt_power_limit.1, c.requires.1))
+place-k-requires c =
+    record {
+      entries_value = refl;
+      error_bound = (c.raise-s.ensures.power_lt_power_limit.1, c.requires.1);
+    }
 
 pub overflow_mul-result : goal.overflow_mul-result
 unfolding power_limit

@@ -46,11 +46,12 @@ pub loop-held-preserved : goal.loop-held-preserved
 loop-held-preserved c = let i = c.loop-held.invariant in
     (next_is _ _ i.0 i.2, said_not c.less.ensures refl refl (not-true _ c.loop-held-test.true-raw), c.times-next-in-loop-held.ensures)
 
--- TODO clauses: power_value, power_lt_power_limit
 pub returns : goal.returns
-returns c = let i = c.loop-held.invariant in
+returns c =
+    let i = c.loop-held.invariant in
     let p = c.requires in
-    let past = said_less c.less.ensures refl (next_is _ _ i.0 i.2) (not-false _ c.loop-held-test.false-raw) in (
-      (sym (power_is _ _ p.0 _ (rw (← i.0) i.1) past), i.0),
-      (short _ _ _ p.0 p.2 i.0 i.1, i.1),
-    )
+    let past = said_less c.less.ensures refl (next_is _ _ i.0 i.2) (not-false _ c.loop-held-test.false-raw) in
+    record {
+      power_value = (sym (power_is _ _ p.0 _ (rw (← i.0) i.1) past), i.0);
+      power_lt_power_limit = (short _ _ _ p.0 p.2 i.0 i.1, i.1);
+    }

@@ -15,16 +15,17 @@ use Rattle.downscale.proofs.downscale.Goals as goal
 pub loop-j-init : goal.loop-j-init
 loop-j-init c = (omega arith, refl, filled_none _ _ _)
 
--- TODO clauses: j_bound, by_index
 pub sum_row-requires : goal.sum_row-requires
-sum_row-requires c = let l = c.loop-j in
+sum_row-requires c =
+    let l = c.loop-j in
     let old = c.args.longs.now in
-    let down : 2 * l.j + 2 ≤ c.args.height = omega arith in (
-      omega (arith, mul-le-mul_right c.args.width down, c.requires.1.long, area_needed c.args.width c.args.height (omega arith)),
-      (λ i m. rw (sum_still old l.longs-1 c.args.width l.j l.invariant.2.rest i) (
+    let down : 2 * l.j + 2 ≤ c.args.height = omega arith in
+    record {
+      j_bound = omega (arith, mul-le-mul_right c.args.width down, c.requires.1.long, area_needed c.args.width c.args.height (omega arith));
+      by_index = (λ i m. rw (sum_still old l.longs-1 c.args.width l.j l.invariant.2.rest i) (
           lt_of_le_of_lt (summed_most _ c.args.width c.args.height _ c.requires.1.small l.j i (omega arith) m) four_fit
-          )),
-    )
+          ));
+    }
 
 pub loop-j-preserved : goal.loop-j-preserved
 loop-j-preserved c = let l = c.loop-j in

@@ -3,10 +3,16 @@ use mathlib.Core.Path.{refl}
 use borrow.Author.Rules.{rules}
 use Rattle.fuavelino.proofs.fuavelino_root.Goals as goal
 
--- TODO clauses: value, out_after
 pub returns-in-Root : goal.returns-in-Root
-returns-in-Root c = rw (← c.root.ensures, c.in-Root.is) (refl, refl)
+returns-in-Root c =
+    record {
+      value = rw (← c.root.ensures, c.in-Root.is) refl;
+      out_after = rw (← c.root.ensures, c.in-Root.is) refl;
+    }
 
--- TODO clauses: value, out_after
 pub returns-in-Refused : goal.returns-in-Refused
-returns-in-Refused c = rw (← c.root.ensures, c.in-Refused.is) (refl, refl)
+returns-in-Refused c =
+    record {
+      value = rw (← c.root.ensures, c.in-Refused.is) refl;
+      out_after = rw (← c.root.ensures, c.in-Refused.is) refl;
+    }

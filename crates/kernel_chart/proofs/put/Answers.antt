@@ -14,9 +14,12 @@ use Rattle.kernel_chart.proofs.Copy.{part, part_length, part_at}
 use Rattle.kernel_chart.proofs.Flat.{taps_room}
 use Rattle.kernel_chart.proofs.put.Goals as goal
 
--- TODO clauses: value, taps_after
 pub returns-then-taps-n : goal.returns-then-taps-n
-returns-then-taps-n c = rw (lt-leb _ _ c.if-taps-n.true) (refl, refl)
+returns-then-taps-n c =
+    record {
+      value = rw (lt-leb _ _ c.if-taps-n.true) refl;
+      taps_after = rw (lt-leb _ _ c.if-taps-n.true) refl;
+    }
 
 pub loop-i-init : goal.loop-i-init
 loop-i-init c = (search rules, refl, refl)
@@ -49,10 +52,13 @@ loop-i-preserved c = let l = c.loop-i in
 pub shape_of-taps : goal.shape_of-taps
 shape_of-taps c = c.loop-i.invariant.1
 
--- TODO clauses: value, taps_after
 pub returns : goal.returns
-returns c = let l = c.loop-i in
+returns c =
+    let l = c.loop-i in
     let long = part_length (all_taps chart) c.args.from c.args.n c.requires in
     let e : l.i ≡ length (part (all_taps chart) c.args.from c.args.n) = omega (arith, long, l.invariant.0, c.loop-i-test.false) in
     let room : c.args.n ≤ length c.args.taps.now = search rules in
-    rw (le-leb _ _ room) (refl, rw (l.invariant.2, e, take-length))
+    record {
+      value = rw (le-leb _ _ room) refl;
+      taps_after = rw (le-leb _ _ room) (rw (l.invariant.2, e, take-length));
+    }

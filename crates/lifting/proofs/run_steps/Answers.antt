@@ -92,7 +92,7 @@ sub-t4-requires c =
 
 -- TODO clauses: y_bound, h_bound, factor
 pub down-t0-requires : goal.down-t0-requires
-unfolding steps1 values1 args steps2 values2
+unfolding steps1 steps2
 down-t0-requires c =
     let args : List ℤ = c.args.t0 ∷ c.args.t1 ∷ c.args.t2 ∷ c.args.t3 ∷ c.args.t4 ∷ c.args.t5 ∷ c.args.t6 ∷ c.args.t7 ∷ [] in
     let values1 : List ℤ = read32 c.sub-t0.result ∷ read32 c.sub-t1.result ∷ read32 c.sub-t2.result ∷ read32 c.sub-t3.result ∷ read32 c.add-t4.result ∷ read32 c.sub-t5.result ∷ read32 c.add-t6.result ∷ read32 c.sub-t7.result ∷ [] in
@@ -107,7 +107,7 @@ down-t0-requires c =
 
 -- TODO clauses: y_bound, h_bound, factor
 pub up-t4-requires : goal.up-t4-requires
-unfolding steps1 values1 args steps2 values2
+unfolding steps1 steps2
 up-t4-requires c =
     let args : List ℤ = c.args.t0 ∷ c.args.t1 ∷ c.args.t2 ∷ c.args.t3 ∷ c.args.t4 ∷ c.args.t5 ∷ c.args.t6 ∷ c.args.t7 ∷ [] in
     let values1 : List ℤ = read32 c.sub-t0.result ∷ read32 c.sub-t1.result ∷ read32 c.sub-t2.result ∷ read32 c.sub-t3.result ∷ read32 c.add-t4.result ∷ read32 c.sub-t5.result ∷ read32 c.add-t6.result ∷ read32 c.sub-t7.result ∷ [] in
@@ -122,7 +122,7 @@ up-t4-requires c =
 
 -- TODO clauses: y_bound, h_bound, factor
 pub down-t0-requires-2 : goal.down-t0-requires-2
-unfolding steps1 values1 args steps2 values2
+unfolding steps1 steps2
 down-t0-requires-2 c =
     let args : List ℤ = c.args.t0 ∷ c.args.t1 ∷ c.args.t2 ∷ c.args.t3 ∷ c.args.t4 ∷ c.args.t5 ∷ c.args.t6 ∷ c.args.t7 ∷ [] in
     let values1 : List ℤ = read32 c.sub-t0.result ∷ read32 c.sub-t1.result ∷ read32 c.sub-t2.result ∷ read32 c.sub-t3.result ∷ read32 c.add-t4.result ∷ read32 c.sub-t5.result ∷ read32 c.add-t6.result ∷ read32 c.sub-t7.result ∷ [] in
@@ -137,7 +137,7 @@ down-t0-requires-2 c =
 
 -- TODO clauses: y_bound, h_bound, factor
 pub down-t6-requires : goal.down-t6-requires
-unfolding steps1 values1 args steps2 values2
+unfolding steps1 steps2
 down-t6-requires c =
     let args : List ℤ = c.args.t0 ∷ c.args.t1 ∷ c.args.t2 ∷ c.args.t3 ∷ c.args.t4 ∷ c.args.t5 ∷ c.args.t6 ∷ c.args.t7 ∷ [] in
     let values1 : List ℤ = read32 c.sub-t0.result ∷ read32 c.sub-t1.result ∷ read32 c.sub-t2.result ∷ read32 c.sub-t3.result ∷ read32 c.add-t4.result ∷ read32 c.sub-t5.result ∷ read32 c.add-t6.result ∷ read32 c.sub-t7.result ∷ [] in
@@ -152,7 +152,7 @@ down-t6-requires c =
 
 -- TODO clauses: y_bound, h_bound, factor
 pub up-t2-requires : goal.up-t2-requires
-unfolding steps1 values1 args steps2 values2
+unfolding steps1 steps2
 up-t2-requires c =
     let args : List ℤ = c.args.t0 ∷ c.args.t1 ∷ c.args.t2 ∷ c.args.t3 ∷ c.args.t4 ∷ c.args.t5 ∷ c.args.t6 ∷ c.args.t7 ∷ [] in
     let values1 : List ℤ = read32 c.sub-t0.result ∷ read32 c.sub-t1.result ∷ read32 c.sub-t2.result ∷ read32 c.sub-t3.result ∷ read32 c.add-t4.result ∷ read32 c.sub-t5.result ∷ read32 c.add-t6.result ∷ read32 c.sub-t7.result ∷ [] in
@@ -167,7 +167,7 @@ up-t2-requires c =
 
 -- TODO clauses: y_bound, h_bound, factor
 pub down-t6-requires-2 : goal.down-t6-requires-2
-unfolding steps1 values1 args steps2 values2 steps3 values3
+unfolding steps1 steps2 steps3
 down-t6-requires-2 c =
     let args : List ℤ = c.args.t0 ∷ c.args.t1 ∷ c.args.t2 ∷ c.args.t3 ∷ c.args.t4 ∷ c.args.t5 ∷ c.args.t6 ∷ c.args.t7 ∷ [] in
     let values1 : List ℤ = read32 c.sub-t0.result ∷ read32 c.sub-t1.result ∷ read32 c.sub-t2.result ∷ read32 c.sub-t3.result ∷ read32 c.add-t4.result ∷ read32 c.sub-t5.result ∷ read32 c.add-t6.result ∷ read32 c.sub-t7.result ∷ [] in
@@ -187,7 +187,7 @@ down-t6-requires-2 c =
 
 -- TODO clauses: y_bound, h_bound, factor
 pub up-t3-requires : goal.up-t3-requires
-unfolding steps1 values1 args steps2 values2 steps3 values3
+unfolding steps1 steps2 steps3
 up-t3-requires c =
     let args : List ℤ = c.args.t0 ∷ c.args.t1 ∷ c.args.t2 ∷ c.args.t3 ∷ c.args.t4 ∷ c.args.t5 ∷ c.args.t6 ∷ c.args.t7 ∷ [] in
     let values1 : List ℤ = read32 c.sub-t0.result ∷ read32 c.sub-t1.result ∷ read32 c.sub-t2.result ∷ read32 c.sub-t3.result ∷ read32 c.add-t4.result ∷ read32 c.sub-t5.result ∷ read32 c.add-t6.result ∷ read32 c.sub-t7.result ∷ [] in
@@ -208,7 +208,7 @@ up-t3-requires c =
 
 -- TODO clauses: y_bound, h_bound, factor
 pub up-t5-requires : goal.up-t5-requires
-unfolding steps1 values1 args steps2 values2 steps3 values3
+unfolding steps1 steps2 steps3
 up-t5-requires c =
     let args : List ℤ = c.args.t0 ∷ c.args.t1 ∷ c.args.t2 ∷ c.args.t3 ∷ c.args.t4 ∷ c.args.t5 ∷ c.args.t6 ∷ c.args.t7 ∷ [] in
     let values1 : List ℤ = read32 c.sub-t0.result ∷ read32 c.sub-t1.result ∷ read32 c.sub-t2.result ∷ read32 c.sub-t3.result ∷ read32 c.add-t4.result ∷ read32 c.sub-t5.result ∷ read32 c.add-t6.result ∷ read32 c.sub-t7.result ∷ [] in
@@ -229,7 +229,7 @@ up-t5-requires c =
 
 -- TODO clauses: y_bound, h_bound, factor
 pub down-t3-requires : goal.down-t3-requires
-unfolding steps1 values1 args steps2 values2 steps3 values3
+unfolding steps1 steps2 steps3
 down-t3-requires c =
     let args : List ℤ = c.args.t0 ∷ c.args.t1 ∷ c.args.t2 ∷ c.args.t3 ∷ c.args.t4 ∷ c.args.t5 ∷ c.args.t6 ∷ c.args.t7 ∷ [] in
     let values1 : List ℤ = read32 c.sub-t0.result ∷ read32 c.sub-t1.result ∷ read32 c.sub-t2.result ∷ read32 c.sub-t3.result ∷ read32 c.add-t4.result ∷ read32 c.sub-t5.result ∷ read32 c.add-t6.result ∷ read32 c.sub-t7.result ∷ [] in
@@ -252,7 +252,7 @@ pub halved-h5-requires : goal.halved-h5-requires
 halved-h5-requires c = tt
 
 pub sub-t7-requires-2 : goal.sub-t7-requires-2
-unfolding steps1 values1 args steps2 values2 steps3 values3
+unfolding steps1 steps2 steps3
 sub-t7-requires-2 c =
     let args : List ℤ = c.args.t0 ∷ c.args.t1 ∷ c.args.t2 ∷ c.args.t3 ∷ c.args.t4 ∷ c.args.t5 ∷ c.args.t6 ∷ c.args.t7 ∷ [] in
     let values1 : List ℤ = read32 c.sub-t0.result ∷ read32 c.sub-t1.result ∷ read32 c.sub-t2.result ∷ read32 c.sub-t3.result ∷ read32 c.add-t4.result ∷ read32 c.sub-t5.result ∷ read32 c.add-t6.result ∷ read32 c.sub-t7.result ∷ [] in
@@ -272,7 +272,7 @@ sub-t7-requires-2 c =
     omega (arith, size4)
 
 pub sub-t5-requires-2 : goal.sub-t5-requires-2
-unfolding steps1 values1 args steps2 values2 steps3 values3
+unfolding steps1 steps2 steps3
 sub-t5-requires-2 c =
     let args : List ℤ = c.args.t0 ∷ c.args.t1 ∷ c.args.t2 ∷ c.args.t3 ∷ c.args.t4 ∷ c.args.t5 ∷ c.args.t6 ∷ c.args.t7 ∷ [] in
     let values1 : List ℤ = read32 c.sub-t0.result ∷ read32 c.sub-t1.result ∷ read32 c.sub-t2.result ∷ read32 c.sub-t3.result ∷ read32 c.add-t4.result ∷ read32 c.sub-t5.result ∷ read32 c.add-t6.result ∷ read32 c.sub-t7.result ∷ [] in
@@ -292,7 +292,7 @@ sub-t5-requires-2 c =
     omega (arith, size4)
 
 pub sub-t3-requires-2 : goal.sub-t3-requires-2
-unfolding steps1 values1 args steps2 values2 steps3 values3
+unfolding steps1 steps2 steps3
 sub-t3-requires-2 c =
     let args : List ℤ = c.args.t0 ∷ c.args.t1 ∷ c.args.t2 ∷ c.args.t3 ∷ c.args.t4 ∷ c.args.t5 ∷ c.args.t6 ∷ c.args.t7 ∷ [] in
     let values1 : List ℤ = read32 c.sub-t0.result ∷ read32 c.sub-t1.result ∷ read32 c.sub-t2.result ∷ read32 c.sub-t3.result ∷ read32 c.add-t4.result ∷ read32 c.sub-t5.result ∷ read32 c.add-t6.result ∷ read32 c.sub-t7.result ∷ [] in
@@ -312,7 +312,7 @@ sub-t3-requires-2 c =
     omega (arith, size4)
 
 pub sub-t1-requires-2 : goal.sub-t1-requires-2
-unfolding steps1 values1 args steps2 values2 steps3 values3
+unfolding steps1 steps2 steps3
 sub-t1-requires-2 c =
     let args : List ℤ = c.args.t0 ∷ c.args.t1 ∷ c.args.t2 ∷ c.args.t3 ∷ c.args.t4 ∷ c.args.t5 ∷ c.args.t6 ∷ c.args.t7 ∷ [] in
     let values1 : List ℤ = read32 c.sub-t0.result ∷ read32 c.sub-t1.result ∷ read32 c.sub-t2.result ∷ read32 c.sub-t3.result ∷ read32 c.add-t4.result ∷ read32 c.sub-t5.result ∷ read32 c.add-t6.result ∷ read32 c.sub-t7.result ∷ [] in
@@ -333,7 +333,7 @@ sub-t1-requires-2 c =
 
 -- TODO clauses: y_bound, h_bound, factor
 pub up-t7-requires : goal.up-t7-requires
-unfolding steps1 values1 args steps2 values2 steps3 values3 values4 steps4 values5
+unfolding steps1 steps2 steps3 steps4
 up-t7-requires c =
     let args : List ℤ = c.args.t0 ∷ c.args.t1 ∷ c.args.t2 ∷ c.args.t3 ∷ c.args.t4 ∷ c.args.t5 ∷ c.args.t6 ∷ c.args.t7 ∷ [] in
     let values1 : List ℤ = read32 c.sub-t0.result ∷ read32 c.sub-t1.result ∷ read32 c.sub-t2.result ∷ read32 c.sub-t3.result ∷ read32 c.add-t4.result ∷ read32 c.sub-t5.result ∷ read32 c.add-t6.result ∷ read32 c.sub-t7.result ∷ [] in
@@ -362,7 +362,7 @@ up-t7-requires c =
 
 -- TODO clauses: y_bound, h_bound, factor
 pub down-t1-requires : goal.down-t1-requires
-unfolding steps1 values1 args steps2 values2 steps3 values3 values4 steps4 values5
+unfolding steps1 steps2 steps3 steps4
 down-t1-requires c =
     let args : List ℤ = c.args.t0 ∷ c.args.t1 ∷ c.args.t2 ∷ c.args.t3 ∷ c.args.t4 ∷ c.args.t5 ∷ c.args.t6 ∷ c.args.t7 ∷ [] in
     let values1 : List ℤ = read32 c.sub-t0.result ∷ read32 c.sub-t1.result ∷ read32 c.sub-t2.result ∷ read32 c.sub-t3.result ∷ read32 c.add-t4.result ∷ read32 c.sub-t5.result ∷ read32 c.add-t6.result ∷ read32 c.sub-t7.result ∷ [] in
@@ -391,7 +391,7 @@ down-t1-requires c =
 
 -- TODO clauses: y_bound, h_bound, factor
 pub up-t7-requires-2 : goal.up-t7-requires-2
-unfolding steps1 values1 args steps2 values2 steps3 values3 values4 steps4 values5
+unfolding steps1 steps2 steps3 steps4
 up-t7-requires-2 c =
     let args : List ℤ = c.args.t0 ∷ c.args.t1 ∷ c.args.t2 ∷ c.args.t3 ∷ c.args.t4 ∷ c.args.t5 ∷ c.args.t6 ∷ c.args.t7 ∷ [] in
     let values1 : List ℤ = read32 c.sub-t0.result ∷ read32 c.sub-t1.result ∷ read32 c.sub-t2.result ∷ read32 c.sub-t3.result ∷ read32 c.add-t4.result ∷ read32 c.sub-t5.result ∷ read32 c.add-t6.result ∷ read32 c.sub-t7.result ∷ [] in
@@ -420,7 +420,7 @@ up-t7-requires-2 c =
 
 -- TODO clauses: y_bound, h_bound, factor
 pub up-t5-requires-2 : goal.up-t5-requires-2
-unfolding steps1 values1 args steps2 values2 steps3 values3 values4 steps4 values5
+unfolding steps1 steps2 steps3 steps4
 up-t5-requires-2 c =
     let args : List ℤ = c.args.t0 ∷ c.args.t1 ∷ c.args.t2 ∷ c.args.t3 ∷ c.args.t4 ∷ c.args.t5 ∷ c.args.t6 ∷ c.args.t7 ∷ [] in
     let values1 : List ℤ = read32 c.sub-t0.result ∷ read32 c.sub-t1.result ∷ read32 c.sub-t2.result ∷ read32 c.sub-t3.result ∷ read32 c.add-t4.result ∷ read32 c.sub-t5.result ∷ read32 c.add-t6.result ∷ read32 c.sub-t7.result ∷ [] in
@@ -449,7 +449,7 @@ up-t5-requires-2 c =
 
 -- TODO clauses: y_bound, h_bound, factor
 pub down-t3-requires-2 : goal.down-t3-requires-2
-unfolding steps1 values1 args steps2 values2 steps3 values3 values4 steps4 values5
+unfolding steps1 steps2 steps3 steps4
 down-t3-requires-2 c =
     let args : List ℤ = c.args.t0 ∷ c.args.t1 ∷ c.args.t2 ∷ c.args.t3 ∷ c.args.t4 ∷ c.args.t5 ∷ c.args.t6 ∷ c.args.t7 ∷ [] in
     let values1 : List ℤ = read32 c.sub-t0.result ∷ read32 c.sub-t1.result ∷ read32 c.sub-t2.result ∷ read32 c.sub-t3.result ∷ read32 c.add-t4.result ∷ read32 c.sub-t5.result ∷ read32 c.add-t6.result ∷ read32 c.sub-t7.result ∷ [] in
@@ -478,7 +478,7 @@ down-t3-requires-2 c =
 
 -- TODO clauses: y_bound, h_bound, factor
 pub up-t5-requires-3 : goal.up-t5-requires-3
-unfolding steps1 values1 args steps2 values2 steps3 values3 values4 steps4 values5
+unfolding steps1 steps2 steps3 steps4
 up-t5-requires-3 c =
     let args : List ℤ = c.args.t0 ∷ c.args.t1 ∷ c.args.t2 ∷ c.args.t3 ∷ c.args.t4 ∷ c.args.t5 ∷ c.args.t6 ∷ c.args.t7 ∷ [] in
     let values1 : List ℤ = read32 c.sub-t0.result ∷ read32 c.sub-t1.result ∷ read32 c.sub-t2.result ∷ read32 c.sub-t3.result ∷ read32 c.add-t4.result ∷ read32 c.sub-t5.result ∷ read32 c.add-t6.result ∷ read32 c.sub-t7.result ∷ [] in
@@ -506,7 +506,7 @@ up-t5-requires-3 c =
     omega (arith, size5)
 
 pub returns : goal.returns
-unfolding values6 args steps1 values1 steps2 values2 steps3 values3 values4 steps4 values5 steps5
+unfolding steps1 steps2 steps3 steps4 steps5
 returns c =
     let args : List ℤ = c.args.t0 ∷ c.args.t1 ∷ c.args.t2 ∷ c.args.t3 ∷ c.args.t4 ∷ c.args.t5 ∷ c.args.t6 ∷ c.args.t7 ∷ [] in
     let values1 : List ℤ = read32 c.sub-t0.result ∷ read32 c.sub-t1.result ∷ read32 c.sub-t2.result ∷ read32 c.sub-t3.result ∷ read32 c.add-t4.result ∷ read32 c.sub-t5.result ∷ read32 c.add-t6.result ∷ read32 c.sub-t7.result ∷ [] in

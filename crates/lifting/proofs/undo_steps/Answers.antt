@@ -240,7 +240,7 @@ sub-t1-requires c =
     omega (arith, size4)
 
 pub returns : goal.returns
-unfolding values5 args steps5 values1 steps4 values2 steps3 values3 steps2 values4 steps1
+unfolding steps5 steps4 steps3 steps2 steps1
 returns c =
     let args : List ℤ = c.args.t0 ∷ c.args.t1 ∷ c.args.t2 ∷ c.args.t3 ∷ c.args.t4 ∷ c.args.t5 ∷ c.args.t6 ∷ c.args.t7 ∷ [] in
     let values1 : List ℤ = read32 c.args.t0 ∷ read32 c.up_wide-t1.result ∷ read32 c.args.t2 ∷ read32 c.up_wide-t3.result ∷ read32 c.args.t4 ∷ read32 c.down_wide-t5-2.result ∷ read32 c.args.t6 ∷ read32 c.down_wide-t7-2.result ∷ [] in

@@ -5,9 +5,12 @@ use Rattle.refusal.proofs.Chain.{refused}
 use Rattle.msssim.proofs.Accept.{sound}
 use Rattle.msssim.proofs.answer.Goals as goal
 
--- TODO clauses: value, b32_value
 pub returns-then-no-ne0 : goal.returns-then-no-ne0
-returns-then-no-ne0 c = rw (← c.refusal-no.ensures) (refused _ _ _ c.if-no-ne0.true, refused _ _ _ c.if-no-ne0.true)
+returns-then-no-ne0 c =
+    record {
+      value = rw (← c.refusal-no.ensures) (refused _ _ _ c.if-no-ne0.true);
+      b32_value = rw (← c.refusal-no.ensures) (refused _ _ _ c.if-no-ne0.true);
+    }
 
 pub score-requires : goal.score-requires
 score-requires c = sound _ _ c.refusal-no.ensures c.if-no-ne0.false

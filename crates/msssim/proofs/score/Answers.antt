@@ -49,13 +49,23 @@ score-requires c =
       b32 = omega (arith, b32-long, c.samples_needed-samples.ensures);
     }
 
--- TODO clauses: value, b32_value
 pub returns : goal.returns
 returns c =
-    let places-long : length (take c.places_needed-places.result c.args.scratch.now) ≡ c.places_needed-places.result = let n = c.places_needed-places in let enough : n.result ≤ length c.args.scratch.now = omega (arith, n.ensures, c.requires.places) in length-take-le _ _ enough in
+    let places-long : length (take c.places_needed-places.result c.args.scratch.now) ≡ c.places_needed-places.result = let n = c.places_needed-places in
+    let enough : n.result ≤ length c.args.scratch.now = omega (arith, n.ensures, c.requires.places) in
+    record {
+      value = (length-take-le _ _ enough in
     let a32-long : length (take c.samples_needed-samples.result c.args.a32.now) ≡ c.samples_needed-samples.result = let enough : c.samples_needed-samples.result ≤ length c.args.a32.now = omega (arith, c.samples_needed-samples.ensures, c.requires.a32-1) in length-take-le _ _ enough in
     let b32-long : length (take c.samples_needed-samples.result c.args.b32.now) ≡ c.samples_needed-samples.result = let enough : c.samples_needed-samples.result ≤ length c.args.b32.now = omega (arith, c.samples_needed-samples.ensures, c.requires.b32-1) in length-take-le _ _ enough in
     let e = c.score.ensures in (
       e.0,
       rw (e.1.0, places-long, e.1.1.0, a32-long, e.1.1.1, b32-long, c.places_needed-places.ensures, c.samples_needed-samples.ensures),
-    )
+    )).0;
+      b32_value = (length-take-le _ _ enough in
+    let a32-long : length (take c.samples_needed-samples.result c.args.a32.now) ≡ c.samples_needed-samples.result = let enough : c.samples_needed-samples.result ≤ length c.args.a32.now = omega (arith, c.samples_needed-samples.ensures, c.requires.a32-1) in length-take-le _ _ enough in
+    let b32-long : length (take c.samples_needed-samples.result c.args.b32.now) ≡ c.samples_needed-samples.result = let enough : c.samples_needed-samples.result ≤ length c.args.b32.now = omega (arith, c.samples_needed-samples.ensures, c.requires.b32-1) in length-take-le _ _ enough in
+    let e = c.score.ensures in (
+      e.0,
+      rw (e.1.0, places-long, e.1.1.0, a32-long, e.1.1.1, b32-long, c.places_needed-places.ensures, c.samples_needed-samples.ensures),
+    )).1;
+    }

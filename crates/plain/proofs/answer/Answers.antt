@@ -8,9 +8,12 @@ use Rattle.plain.proofs.answer.Goals as goal
 pub returns-then-no-ne0 : goal.returns-then-no-ne0
 returns-then-no-ne0 c = rw (← c.refusal-no.ensures) (refused _ _ _ c.if-no-ne0.true)
 
--- TODO clauses: accepted_pair, kernel_value
 pub score-requires : goal.score-requires
-score-requires c = sound _ _ c.refusal-no.ensures c.if-no-ne0.false
+score-requires c =
+    record {
+      accepted_pair = (sound _ _ c.refusal-no.ensures c.if-no-ne0.false).0;
+      kernel_value = (sound _ _ c.refusal-no.ensures c.if-no-ne0.false).1;
+    }
 
 pub returns : goal.returns
 returns c = rw (sym c.refusal-no.ensures ∙ c.if-no-ne0.false) c.score.ensures

@@ -6,13 +6,19 @@ use Rattle.plane.proofs.check.Goals as goal
 pub returns-then-no-ne0 : goal.returns-then-no-ne0
 returns-then-no-ne0 c = sizes_stop _ _ c.size_refusal-no.ensures _ c.if-no-ne0.true
 
--- TODO clauses: depth_value, le_width
 pub layout_refusal-no_a-requires : goal.layout_refusal-no_a-requires
-layout_refusal-no_a-requires c = sizes_say _ _ c.size_refusal-no.ensures c.if-no-ne0.false
+layout_refusal-no_a-requires c =
+    record {
+      depth_value = (sizes_say _ _ c.size_refusal-no.ensures c.if-no-ne0.false).0;
+      le_width = (sizes_say _ _ c.size_refusal-no.ensures c.if-no-ne0.false).1;
+    }
 
--- TODO clauses: depth_value, le_width
 pub layout_refusal-no_b-requires : goal.layout_refusal-no_b-requires
-layout_refusal-no_b-requires c = sizes_say _ _ c.size_refusal-no.ensures c.if-no-ne0.false
+layout_refusal-no_b-requires c =
+    record {
+      depth_value = (sizes_say _ _ c.size_refusal-no.ensures c.if-no-ne0.false).0;
+      le_width = (sizes_say _ _ c.size_refusal-no.ensures c.if-no-ne0.false).1;
+    }
 
 pub returns : goal.returns
 returns c = sizes_pass _ _ c.size_refusal-no.ensures _ c.if-no-ne0.false

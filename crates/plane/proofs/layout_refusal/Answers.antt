@@ -8,9 +8,12 @@ use Rattle.plane.proofs.layout_refusal.Goals as goal
 pub returns-then-no-ne0 : goal.returns-then-no-ne0
 returns-then-no-ne0 c = lent_stop _ _ c.lent_refusal-no.ensures c.if-no-ne0.true
 
--- TODO clauses: depth_value, long
 pub samples_suit-requires : goal.samples_suit-requires
-samples_suit-requires c = (c.requires.depth_value, lent_says _ _ c.lent_refusal-no.ensures c.if-no-ne0.false)
+samples_suit-requires c =
+    record {
+      depth_value = c.requires.depth_value;
+      long = lent_says _ _ c.lent_refusal-no.ensures c.if-no-ne0.false;
+    }
 
 pub returns-then-not-samples_suit : goal.returns-then-not-samples_suit
 returns-then-not-samples_suit c = lent_broken _ _ c.lent_refusal-no.ensures c.if-no-ne0.false

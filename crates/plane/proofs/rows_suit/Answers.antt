@@ -13,9 +13,12 @@ use Rattle.plane.proofs.rows_suit.Goals as goal
 pub loop-y-init : goal.loop-y-init
 loop-y-init c = (search rules, sym (all_none _))
 
--- TODO clauses: width_in_bounds, max_bound
 pub row_suits-ok-requires : goal.row_suits-ok-requires
-row_suits-ok-requires c = (row_inside c.args.size.width c.args.stride c.requires.long c.loop-y-test.true, c.requires.max_bound)
+row_suits-ok-requires c =
+    record {
+      width_in_bounds = row_inside c.args.size.width c.args.stride c.requires.long c.loop-y-test.true;
+      max_bound = c.requires.max_bound;
+    }
 
 pub loop-y-preserved : goal.loop-y-preserved
 loop-y-preserved c = (search rules, rw (all_more, ← c.loop-y.invariant.1, ← c.row_suits-ok.ensures))

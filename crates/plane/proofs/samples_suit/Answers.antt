@@ -17,9 +17,12 @@ returns-then-wide-max c = sym
     c.sample_max-max.ensures
     c.if-wide-max.true)
 
--- TODO clauses: long, max_bound
 pub rows_suit-requires : goal.rows_suit-requires
-rows_suit-requires c = (c.requires.long, rw c.sample_max-max.ensures (max_grows (depth_says _ _ c.requires.depth_value).1))
+rows_suit-requires c =
+    record {
+      long = c.requires.long;
+      max_bound = rw c.sample_max-max.ensures (max_grows (depth_says _ _ c.requires.depth_value).1);
+    }
 
 pub returns : goal.returns
 unfolding samples_suit

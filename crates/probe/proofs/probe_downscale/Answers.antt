@@ -4,15 +4,21 @@ use borrow.Author.Rules.{rules}
 use Rattle.probe.proofs.Accept.{sound, untouched}
 use Rattle.probe.proofs.probe_downscale.Goals as goal
 
--- TODO clauses: value, later
 pub returns-then-no-ne0 : goal.returns-then-no-ne0
-returns-then-no-ne0 c = rw (← c.refusal-no.ensures) (refl, untouched _ _ _ _ c.if-no-ne0.true)
+returns-then-no-ne0 c =
+    record {
+      value = rw (← c.refusal-no.ensures) refl;
+      later = rw (← c.refusal-no.ensures) (untouched _ _ _ _ c.if-no-ne0.true);
+    }
 
 pub downscale-requires : goal.downscale-requires
 downscale-requires c = sound _ _ c.args.longs.now (sym c.refusal-no.ensures ∙ c.if-no-ne0.false)
 
--- TODO clauses: value, later
 pub returns : goal.returns
-returns c = let e = c.refusal-no.ensures in
+returns c =
+    let e = c.refusal-no.ensures in
     let z = c.if-no-ne0.false in
-    rw (sym e ∙ z) (refl, c.downscale.ensures)
+    record {
+      value = rw (sym e ∙ z) refl;
+      later = rw (sym e ∙ z) c.downscale.ensures;
+    }

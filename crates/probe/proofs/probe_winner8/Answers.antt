@@ -6,12 +6,16 @@ use lib.ListN.{length, get_or-eq_default}
 use Rattle.probe.proofs.Winner.{any_default}
 use Rattle.probe.proofs.probe_winner8.Goals as goal
 
--- TODO clauses: value, sample_after
 pub returns-then-at-winner : goal.returns-then-at-winner
-returns-then-at-winner c = rw (← c.winner8-winner.ensures)
-    (refl, any_default c.winner8-winner.result.now c.args.at 0 _ c.if-at-winner.true)
+returns-then-at-winner c =
+    record {
+      value = rw (← c.winner8-winner.ensures) refl;
+      sample_after = rw (← c.winner8-winner.ensures) (any_default c.winner8-winner.result.now c.args.at 0 _ c.if-at-winner.true);
+    }
 
--- TODO clauses: value, sample_after
 pub returns-else-at-winner : goal.returns-else-at-winner
-returns-else-at-winner c = rw (← c.winner8-winner.ensures)
-    (refl, sym (get_or-eq_default c.winner8-winner.result.now _ c.if-at-winner.false))
+returns-else-at-winner c =
+    record {
+      value = rw (← c.winner8-winner.ensures) refl;
+      sample_after = rw (← c.winner8-winner.ensures) (sym (get_or-eq_default c.winner8-winner.result.now _ c.if-at-winner.false));
+    }

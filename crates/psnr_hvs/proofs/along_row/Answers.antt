@@ -13,10 +13,13 @@ pub loop-x-init : goal.loop-x-init
 unfolding along_row
 loop-x-init c = (search rules, sym (fold_none _ _))
 
--- TODO clauses: block_fits, bounded_pair
 pub block_at-s-requires : goal.block_at-s-requires
-block_at-s-requires c = let n = c.blocks_per_side-n.ensures in
-    (record { across = ends c.requires.block_side_le_width.0 (omega arith); down = c.requires.block_side_le_width.1 }, c.requires.bounded_pair)
+block_at-s-requires c =
+    let n = c.blocks_per_side-n.ensures in
+    record {
+      block_fits = record { across = ends c.requires.block_side_le_width.0 (omega arith); down = c.requires.block_side_le_width.1 };
+      bounded_pair = c.requires.bounded_pair;
+    }
 
 pub loop-x-preserved : goal.loop-x-preserved
 loop-x-preserved c = (search rules, rw (row_more, c.block_at-s.ensures, c.loop-x.invariant.1))

@@ -13,10 +13,13 @@ pub loop-y-init : goal.loop-y-init
 unfolding down_rows
 loop-y-init c = (search rules, sym (fold_none _ _))
 
--- TODO clauses: block_side_le_width, bounded_pair
 pub along_row-s-requires : goal.along_row-s-requires
-along_row-s-requires c = let n = c.blocks_per_side-n.ensures in
-    ((c.requires.block_side_le_width.0, ends c.requires.block_side_le_width.1 (omega arith)), c.requires.bounded_pair)
+along_row-s-requires c =
+    let n = c.blocks_per_side-n.ensures in
+    record {
+      block_side_le_width = (c.requires.block_side_le_width.0, ends c.requires.block_side_le_width.1 (omega arith));
+      bounded_pair = c.requires.bounded_pair;
+    }
 
 pub loop-y-preserved : goal.loop-y-preserved
 loop-y-preserved c = (search rules, rw (rows_more, c.along_row-s.ensures, c.loop-y.invariant.1))

@@ -7,10 +7,13 @@ use Rattle.psnr_hvs.specs.Score.{hvs_score}
 use Rattle.psnr_hvs.proofs.Taken.{bounded, blocks_few, max_square}
 use Rattle.psnr_hvs.proofs.score.Goals as goal
 
--- TODO clauses: block_side_le_width, bounded_pair
 pub down_rows-sum-requires : goal.down_rows-sum-requires
-down_rows-sum-requires c = let a = c.requires in
-    ((a.sized.width_reaches, a.sized.height_reaches), bounded a)
+down_rows-sum-requires c =
+    let a = c.requires in
+    record {
+      block_side_le_width = (a.sized.width_reaches, a.sized.height_reaches);
+      bounded_pair = bounded a;
+    }
 
 pub overflow_mul-blocks : goal.overflow_mul-blocks
 overflow_mul-blocks c =

@@ -59,7 +59,6 @@ overflow_add-at c =
     let e = ends in
     omega (arith, (start e).requires.x_lt_width, slot_inside (start e).args.ring.width (lines e) (row e) _ (some e) (start e).requires.kernel_len_bound.1)
 
--- TODO clauses: x_lt_width, from_le_upto, at_value, kernel, t_value
 pub run-t-requires : goal.run-t-requires
 run-t-requires c =
     let n : ℕ = length c.args.kernel.now in
@@ -76,13 +75,14 @@ run-t-requires c =
     let s = start e in
     let t = turned in
     let i = inside e in
-    let low = slot-low e in (
-      (s.requires.x_lt_width.0, s.requires.kernel_len_bound.1),
-      (
-        (omega (arith, t, i), omega (arith, t, i), i.2, omega (arith, t, i)),
-        (λ l. (refl, omega (arith, t, low)), (s.requires.kernel, column_none _ _ _ _ _ _ _ (omega (arith, e.before.first-from.ensures)))),
-      ),
-    )
+    let low = slot-low e in
+    record {
+      x_lt_width = (s.requires.x_lt_width.0, s.requires.kernel_len_bound.1);
+      from_le_upto = (omega (arith, t, i), omega (arith, t, i), i.2, omega (arith, t, i));
+      at_value = λ l. (refl, omega (arith, t, low));
+      kernel = s.requires.kernel;
+      t_value = column_none _ _ _ _ _ _ _ (omega (arith, e.before.first-from.ensures));
+    }
 
 -- TODO clauses: x_lt_width, from_le_upto, at_value, kernel, t_value
 pub run-requires : goal.run-requires

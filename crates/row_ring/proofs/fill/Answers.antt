@@ -15,19 +15,24 @@ use Rattle.row_ring.proofs.fill.Goals as goal
 pub loop-x-init : goal.loop-x-init
 loop-x-init c = (search rules, refl, put_none _ _ _)
 
--- TODO clauses: x_lt_width, kernel_len_bound, kernel
 pub column-t-requires : goal.column-t-requires
-column-t-requires c = (omega arith, ((omega arith, omega arith), c.requires.kernel))
+column-t-requires c =
+    record {
+      x_lt_width = omega arith;
+      kernel_len_bound = (omega arith, omega arith);
+      kernel = c.requires.kernel;
+    }
 
--- TODO clauses: at_in_bounds, fits
 pub put-requires : goal.put-requires
-put-requires c = let l = c.loop-x in
-    let r = c.args.ring in (
-      omega arith,
-      column_fits c.args.kernel.now r.height (ring_a l.s-1 r.width r.lines) (ring_b l.s-1 r.width r.lines) l.x c.args.y _
+put-requires c =
+    let l = c.loop-x in
+    let r = c.args.ring in
+    record {
+      at_in_bounds = omega arith;
+      fits = column_fits c.args.kernel.now r.height (ring_a l.s-1 r.width r.lines) (ring_b l.s-1 r.width r.lines) l.x c.args.y _
           c.column-t.ensures c.requires.kernel
-          (λ i m. ring_small_a l.s-1 r.width r.lines i l.x) (λ i m. ring_small_b l.s-1 r.width r.lines i l.x),
-    )
+          (λ i m. ring_small_a l.s-1 r.width r.lines i l.x) (λ i m. ring_small_b l.s-1 r.width r.lines i l.x);
+    }
 
 pub loop-x-preserved : goal.loop-x-preserved
 loop-x-preserved c = let l = c.loop-x in

@@ -12,11 +12,17 @@ use Rattle.row_ring.proofs.score_rows.Goals as goal
 pub loop-y-init : goal.loop-y-init
 loop-y-init c = (omega arith, omega arith, refl, sym (rows_none _ _ _ _ _ _ _ _ _ (omega arith)))
 
--- TODO clauses: y_lt_height, roomy, clean, kernel, lent_total_value
 pub score_row-t-requires : goal.score_row-t-requires
-score_row-t-requires c = let l = c.loop-y in
+score_row-t-requires c =
+    let l = c.loop-y in
     let e = ap length l.invariant.2 in
-    (omega arith, (omega (arith, e), (rw l.invariant.2 c.requires.clean, c.requires.kernel)))
+    record {
+      y_lt_height = omega arith;
+      roomy = omega (arith, e);
+      clean = rw l.invariant.2 c.requires.clean;
+      kernel = c.requires.kernel.0;
+      lent_total_value = c.requires.kernel.1;
+    }
 
 pub loop-y-preserved : goal.loop-y-preserved
 loop-y-preserved c = let l = c.loop-y in
@@ -33,7 +39,10 @@ loop-y-preserved c = let l = c.loop-y in
 pub shape_of-s : goal.shape_of-s
 shape_of-s c = ap length c.loop-y.invariant.2
 
--- TODO clauses: value, s_unchanged
 pub returns : goal.returns
-returns c = let e : c.loop-y.y ≡ c.args.upto = omega arith in
-    (rw e at c.loop-y.invariant.3, c.loop-y.invariant.2)
+returns c =
+    let e : c.loop-y.y ≡ c.args.upto = omega arith in
+    record {
+      value = rw e at c.loop-y.invariant.3;
+      s_unchanged = c.loop-y.invariant.2;
+    }

@@ -13,26 +13,32 @@ overflow_mul-to c =
     let slot : c.args.row % c.args.ring.lines * c.args.ring.width + c.args.ring.width ≤ ring_places c.args.ring = slot_inside c.args.ring.width c.args.ring.lines c.args.row (ring_places c.args.ring) (omega arith) (le_refl _) in
     omega (arith, slot)
 
--- TODO clauses: i_lt_height, long, long_2
 pub store_row-requires : goal.store_row-requires
 store_row-requires c =
     let slot : c.args.row % c.args.ring.lines * c.args.ring.width + c.args.ring.width ≤ ring_places c.args.ring = slot_inside c.args.ring.width c.args.ring.lines c.args.row (ring_places c.args.ring) (omega arith) (le_refl _) in
-    (omega (arith, slot), (c.requires.long, c.requires.long_2))
+    record {
+      i_lt_height = omega (arith, slot);
+      long = c.requires.long;
+      long_2 = c.requires.long_2;
+    }
 
--- TODO clauses: from_le_upto, roomy, clean, kernel, lent_total_value
 pub score_rows-requires : goal.score_rows-requires
 score_rows-requires c =
     let slot : c.args.row % c.args.ring.lines * c.args.ring.width + c.args.ring.width ≤ ring_places c.args.ring = slot_inside c.args.ring.width c.args.ring.lines c.args.row (ring_places c.args.ring) (omega arith) (le_refl _) in
-    let r = c.store_row in (
-      omega arith,
-      (
-        omega (arith, r.auto.1.1.1.1.1.1.1.0),
-        (λ j l. r.ensures.after j (omega (arith, slot)) ∙ c.requires.clean j l, c.requires.kernel),
-      ),
-    )
+    let r = c.store_row in
+    record {
+      from_le_upto = omega arith;
+      roomy = omega (arith, r.auto.1.1.1.1.1.1.1.0);
+      clean = λ j l. r.ensures.after j (omega (arith, slot)) ∙ c.requires.clean j l;
+      kernel = c.requires.kernel.0;
+      lent_total_value = c.requires.kernel.1;
+    }
 
--- TODO clauses: value, put
 pub returns : goal.returns
-returns c = let r = c.score_rows in
+returns c =
+    let r = c.score_rows in
     let e = c.requires.i_lt_height.1 in
-    (rw r.ensures.1 r.ensures.0, rw r.ensures.1 (rw e at c.store_row.ensures))
+    record {
+      value = rw r.ensures.1 r.ensures.0;
+      put = rw r.ensures.1 (rw e at c.store_row.ensures);
+    }

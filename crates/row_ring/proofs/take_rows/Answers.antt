@@ -22,21 +22,27 @@ loop-i-init c = (search rules, refl, c.requires.clean, sym (taken_none _ _ _ _ _
 pub overflow_add-row-in-loop-i : goal.overflow_add-row-in-loop-i
 overflow_add-row-in-loop-i c = omega (arith, side_small)
 
--- TODO clauses: i_lt_height, long, long_2, roomy, clean, kernel, lent_total_value
 pub take_row-t-requires : goal.take_row-t-requires
-take_row-t-requires c = let l = c.loop-i in
+take_row-t-requires c =
+    let l = c.loop-i in
     let off = length c.args.kernel.now / 2 in
     let row = c.args.received + l.i in
-    let long = c.requires.long (omega arith) in (
-      omega (
+    let long = c.requires.long (omega arith) in
+    record {
+      i_lt_height = omega (
         arith,
         c.scored_after-from.ensures,
         c.scored_after-upto.ensures,
         scored_grows row c.args.ring.height off (omega arith),
         scored_most (row + 1) c.args.ring.height off (omega arith),
-      ),
-      (long.0, (long.1, (omega (arith, l.invariant.1), (l.invariant.2, c.requires.kernel)))),
-    )
+      );
+      long = long.0;
+      long_2 = long.1;
+      roomy = omega (arith, l.invariant.1);
+      clean = l.invariant.2;
+      kernel = c.requires.kernel.0;
+      lent_total_value = c.requires.kernel.1;
+    }
 
 pub overflow_step-i : goal.overflow_step-i
 overflow_step-i c = omega (arith, c.loop-i-test.true, c.requires.height_bound, side_small)

@@ -5,9 +5,12 @@ use Rattle.refusal.proofs.Chain.{refused}
 use Rattle.ssim.proofs.Accept.{sound}
 use Rattle.ssim.proofs.answer.Goals as goal
 
--- TODO clauses: value, scratch_after
 pub returns-then-no-ne0 : goal.returns-then-no-ne0
-returns-then-no-ne0 c = rw (← c.refusal-no.ensures) (refused _ _ _ c.if-no-ne0.true, refused _ _ _ c.if-no-ne0.true)
+returns-then-no-ne0 c =
+    record {
+      value = rw (← c.refusal-no.ensures) (refused _ _ _ c.if-no-ne0.true);
+      scratch_after = rw (← c.refusal-no.ensures) (refused _ _ _ c.if-no-ne0.true);
+    }
 
 pub score-requires : goal.score-requires
 score-requires c = sound _ _ _ c.refusal-no.ensures c.if-no-ne0.false

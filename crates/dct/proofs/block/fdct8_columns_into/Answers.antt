@@ -14,9 +14,14 @@ use Rattle.dct.proofs.block.fdct8_columns_into.Goals as goal
 pub loop-i-init : goal.loop-i-init
 loop-i-init c = (omega arith, refl, refl)
 
--- TODO clauses: i_lt_block_side, x_len, in_bounds, all_within
 pub fdct8-requires : goal.fdct8-requires
-fdct8-requires c = (omega arith, (c.requires.x_len, (simp (length-take, length-drop) (omega arith), small_column run_limit c.args.x.now c.requires.all_within c.loop-i.i)))
+fdct8-requires c =
+    record {
+      i_lt_block_side = omega arith;
+      x_len = c.requires.x_len;
+      in_bounds = simp (length-take, length-drop) (omega arith);
+      all_within = small_column run_limit c.args.x.now c.requires.all_within c.loop-i.i;
+    }
 
 pub loop-i-preserved : goal.loop-i-preserved
 loop-i-preserved c = let l = c.loop-i in

@@ -13,9 +13,13 @@ use Rattle.dct.proofs.block.transpose.Goals as goal
 pub loop-i-init : goal.loop-i-init
 loop-i-init c = (omega arith, refl, refl)
 
--- TODO clauses: i_lt_block_side, x_len, in_bounds
 pub transpose_row-requires : goal.transpose_row-requires
-transpose_row-requires c = (omega arith, (c.requires.x_len, (simp (length-take, length-drop) (omega arith))))
+transpose_row-requires c =
+    record {
+      i_lt_block_side = omega arith;
+      x_len = c.requires.x_len;
+      in_bounds = (simp (length-take, length-drop) (omega arith));
+    }
 
 pub loop-i-preserved : goal.loop-i-preserved
 loop-i-preserved c = let l = c.loop-i in

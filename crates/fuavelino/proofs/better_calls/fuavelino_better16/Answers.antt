@@ -2,6 +2,9 @@
 use borrow.Author.Rules.{rules}
 use Rattle.fuavelino.proofs.better_calls.fuavelino_better16.Goals as goal
 
--- TODO clauses: value, sq_err_after
 pub returns : goal.returns
-returns c = rw (← c.better16-answer.ensures) (c.put_better.ensures.value, c.put_better.ensures.sq_err_after)
+returns c =
+    record {
+      value = rw (← c.better16-answer.ensures) c.put_better.ensures.value;
+      sq_err_after = rw (← c.better16-answer.ensures) c.put_better.ensures.sq_err_after;
+    }

@@ -2,6 +2,9 @@
 use borrow.Author.Rules.{rules}
 use Rattle.fuavelino.proofs.better_calls.fuavelino_better8.Goals as goal
 
--- TODO clauses: value, sq_err_after
 pub returns : goal.returns
-returns c = rw (← c.better8-answer.ensures) (c.put_better.ensures.value, c.put_better.ensures.sq_err_after)
+returns c =
+    record {
+      value = rw (← c.better8-answer.ensures) c.put_better.ensures.value;
+      sq_err_after = rw (← c.better8-answer.ensures) c.put_better.ensures.sq_err_after;
+    }

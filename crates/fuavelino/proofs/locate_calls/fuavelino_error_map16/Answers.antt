@@ -3,10 +3,20 @@ use mathlib.Core.Path.{refl}
 use borrow.Author.Rules.{rules}
 use Rattle.fuavelino.proofs.locate_calls.fuavelino_error_map16.Goals as goal
 
--- TODO clauses: value, map_after, across_after
 pub returns-in-Tiles : goal.returns-in-Tiles
-returns-in-Tiles c = let asked = c.error_map16.ensures in rw (← asked.0, c.in-Tiles.is) (refl, (asked.1, (refl, refl)))
+returns-in-Tiles c =
+    let asked = c.error_map16.ensures in
+    record {
+      value = rw (← asked.0, c.in-Tiles.is) refl;
+      map_after = rw (← asked.0, c.in-Tiles.is) asked.1;
+      across_after = rw (← asked.0, c.in-Tiles.is) (refl, refl);
+    }
 
--- TODO clauses: value, map_after, across_after
 pub returns-in-Refused : goal.returns-in-Refused
-returns-in-Refused c = let asked = c.error_map16.ensures in rw (← asked.0, c.in-Refused.is) (refl, (asked.1, (refl, refl)))
+returns-in-Refused c =
+    let asked = c.error_map16.ensures in
+    record {
+      value = rw (← asked.0, c.in-Refused.is) refl;
+      map_after = rw (← asked.0, c.in-Refused.is) asked.1;
+      across_after = rw (← asked.0, c.in-Refused.is) (refl, refl);
+    }

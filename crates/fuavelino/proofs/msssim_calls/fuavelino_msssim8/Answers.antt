@@ -2,7 +2,11 @@
 use borrow.Author.Rules.{rules}
 use Rattle.fuavelino.proofs.msssim_calls.fuavelino_msssim8.Goals as goal
 
--- TODO clauses: value, b32_value, pairs_after
 pub returns : goal.returns
-returns c = let e = c.msssim8-answer.ensures in
-    rw (← e.0) (c.put_pairs.ensures.value, (e.1, c.put_pairs.ensures.pairs_after))
+returns c =
+    let e = c.msssim8-answer.ensures in
+    record {
+      value = rw (← e.0) c.put_pairs.ensures.value;
+      b32_value = rw (← e.0) e.1;
+      pairs_after = rw (← e.0) c.put_pairs.ensures.pairs_after;
+    }

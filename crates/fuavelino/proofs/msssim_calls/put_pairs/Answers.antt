@@ -3,6 +3,9 @@ use mathlib.Core.Path.{refl}
 use borrow.Author.Rules.{rules}
 use Rattle.fuavelino.proofs.msssim_calls.put_pairs.Goals as goal
 
--- TODO clauses: value, pairs_after
 pub returns-in-Five : goal.returns-in-Five
-returns-in-Five c = rw c.in-Five.is (refl, refl)
+returns-in-Five c =
+    record {
+      value = rw c.in-Five.is refl;
+      pairs_after = rw c.in-Five.is refl;
+    }

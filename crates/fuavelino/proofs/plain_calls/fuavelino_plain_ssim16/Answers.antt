@@ -2,6 +2,9 @@
 use borrow.Author.Rules.{rules}
 use Rattle.fuavelino.proofs.plain_calls.fuavelino_plain_ssim16.Goals as goal
 
--- TODO clauses: value, ssim_after
 pub returns : goal.returns
-returns c = rw (← c.plain16-answer.ensures) (c.put_pair.ensures.value, c.put_pair.ensures.ssim_after)
+returns c =
+    record {
+      value = rw (← c.plain16-answer.ensures) c.put_pair.ensures.value;
+      ssim_after = rw (← c.plain16-answer.ensures) c.put_pair.ensures.ssim_after;
+    }

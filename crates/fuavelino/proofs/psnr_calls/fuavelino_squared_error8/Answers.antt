@@ -2,6 +2,9 @@
 use borrow.Author.Rules.{rules}
 use Rattle.fuavelino.proofs.psnr_calls.fuavelino_squared_error8.Goals as goal
 
--- TODO clauses: value, sample_max_after
 pub returns : goal.returns
-returns c = rw (← c.squared_error8-answer.ensures) (c.put_record.ensures.value, c.put_record.ensures.sample_max_after)
+returns c =
+    record {
+      value = rw (← c.squared_error8-answer.ensures) c.put_record.ensures.value;
+      sample_max_after = rw (← c.squared_error8-answer.ensures) c.put_record.ensures.sample_max_after;
+    }

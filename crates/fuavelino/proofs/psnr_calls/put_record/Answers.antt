@@ -3,14 +3,23 @@ use mathlib.Core.Path.{refl}
 use borrow.Author.Rules.{rules}
 use Rattle.fuavelino.proofs.psnr_calls.put_record.Goals as goal
 
--- TODO clauses: value, sample_max_after
 pub returns-in-Differs : goal.returns-in-Differs
-returns-in-Differs c = rw c.in-Differs.is (refl, refl)
+returns-in-Differs c =
+    record {
+      value = rw c.in-Differs.is refl;
+      sample_max_after = rw c.in-Differs.is refl;
+    }
 
--- TODO clauses: value, sample_max_after
 pub returns-in-Identical : goal.returns-in-Identical
-returns-in-Identical c = rw c.in-Identical.is (refl, refl)
+returns-in-Identical c =
+    record {
+      value = rw c.in-Identical.is refl;
+      sample_max_after = rw c.in-Identical.is refl;
+    }
 
--- TODO clauses: value, sample_max_after
 pub returns-in-Refused : goal.returns-in-Refused
-returns-in-Refused c = rw c.in-Refused.is (refl, refl)
+returns-in-Refused c =
+    record {
+      value = rw c.in-Refused.is refl;
+      sample_max_after = rw c.in-Refused.is refl;
+    }

@@ -3,10 +3,18 @@ use mathlib.Core.Path.{refl}
 use borrow.Author.Rules.{rules}
 use Rattle.fuavelino.proofs.rows_calls.put_counts.Goals as goal
 
--- TODO clauses: value, numbers_after, sums_after
 pub returns-in-Yes : goal.returns-in-Yes
-returns-in-Yes c = rw c.in-Yes.is (refl, (refl, refl))
+returns-in-Yes c =
+    record {
+      value = rw c.in-Yes.is refl;
+      numbers_after = rw c.in-Yes.is refl;
+      sums_after = rw c.in-Yes.is refl;
+    }
 
--- TODO clauses: value, numbers_after, sums_after
 pub returns-in-Refused : goal.returns-in-Refused
-returns-in-Refused c = rw c.in-Refused.is (refl, (refl, refl))
+returns-in-Refused c =
+    record {
+      value = rw c.in-Refused.is refl;
+      numbers_after = rw c.in-Refused.is refl;
+      sums_after = rw c.in-Refused.is refl;
+    }

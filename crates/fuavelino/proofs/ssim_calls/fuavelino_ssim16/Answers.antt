@@ -3,12 +3,20 @@ use mathlib.Core.Path.{refl}
 use borrow.Author.Rules.{rules}
 use Rattle.fuavelino.proofs.ssim_calls.fuavelino_ssim16.Goals as goal
 
--- TODO clauses: value, scratch_after, ssim_after, cs_after
 pub returns-in-Pair : goal.returns-in-Pair
-returns-in-Pair c = rw (← c.ssim16.ensures.value, c.in-Pair.is)
-    (refl, (c.ssim16.ensures.scratch_after, (refl, refl)))
+returns-in-Pair c =
+    record {
+      value = rw (← c.ssim16.ensures.value, c.in-Pair.is) refl;
+      scratch_after = rw (← c.ssim16.ensures.value, c.in-Pair.is) c.ssim16.ensures.scratch_after;
+      ssim_after = rw (← c.ssim16.ensures.value, c.in-Pair.is) refl;
+      cs_after = rw (← c.ssim16.ensures.value, c.in-Pair.is) refl;
+    }
 
--- TODO clauses: value, scratch_after, ssim_after, cs_after
 pub returns-in-Refused : goal.returns-in-Refused
-returns-in-Refused c = rw (← c.ssim16.ensures.value, c.in-Refused.is)
-    (refl, (c.ssim16.ensures.scratch_after, (refl, refl)))
+returns-in-Refused c =
+    record {
+      value = rw (← c.ssim16.ensures.value, c.in-Refused.is) refl;
+      scratch_after = rw (← c.ssim16.ensures.value, c.in-Refused.is) c.ssim16.ensures.scratch_after;
+      ssim_after = rw (← c.ssim16.ensures.value, c.in-Refused.is) refl;
+      cs_after = rw (← c.ssim16.ensures.value, c.in-Refused.is) refl;
+    }

@@ -42,8 +42,11 @@ loop-k-preserved c = let l = c.loop-k in
       ),
     )
 
--- TODO clauses: one_value, other_value
 pub returns : goal.returns
 unfolding energy
-returns c = let e : c.loop-k.k ≡ 64 = omega arith in
-    (rw e at c.loop-k.invariant.2 ∙ by_eights _ _, rw e at c.loop-k.invariant.3 ∙ by_eights _ _)
+returns c =
+    let e : c.loop-k.k ≡ 64 = omega arith in
+    record {
+      one_value = rw e at c.loop-k.invariant.2 ∙ by_eights _ _;
+      other_value = rw e at c.loop-k.invariant.3 ∙ by_eights _ _;
+    }

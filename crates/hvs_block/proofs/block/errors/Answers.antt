@@ -16,9 +16,12 @@ use Rattle.hvs_block.proofs.block.errors.Goals as goal
 pub loop-k-init : goal.loop-k-init
 loop-k-init c = (search rules, sym (fold_none _ _))
 
--- TODO clauses: within, within_2
 pub distance-err-requires : goal.distance-err-requires
-distance-err-requires c = (read (small_at coefficient_limit c.args.d1.now c.requires.all_within _), read (small_at coefficient_limit c.args.d2.now c.requires.all_within_2 _))
+distance-err-requires c =
+    record {
+      within = read (small_at coefficient_limit c.args.d1.now c.requires.all_within _);
+      within_2 = read (small_at coefficient_limit c.args.d2.now c.requires.all_within_2 _);
+    }
 
 pub loop-k-preserved : goal.loop-k-preserved
 loop-k-preserved c = let l = c.loop-k in

@@ -12,7 +12,11 @@ var-requires c = let t = c.quarter_sums-t.ensures in
       omega (arith, squares_most c.args.b.now c.requires.samples c.args.top c.args.left 16),
     )
 
--- TODO clauses: sum_value, squares_value, var_value
 pub returns : goal.returns
-returns c = let t = c.quarter_sums-t.ensures in
-    (t.0, (t.1, rw (t.0, t.1) at c.var.ensures ∙ sym (var_is c.args.b.now c.requires.samples c.args.top c.args.left)))
+returns c =
+    let t = c.quarter_sums-t.ensures in
+    record {
+      sum_value = t.0;
+      squares_value = t.1;
+      var_value = rw (t.0, t.1) at c.var.ensures ∙ sym (var_is c.args.b.now c.requires.samples c.args.top c.args.left);
+    }

@@ -45,7 +45,10 @@ loop-k-preserved c =
     let l = c.loop-k in
     (search rules, rw (sum_more, got, l.invariant.1), rw (sum_more, got, l.invariant.2))
 
--- TODO clauses: sum_value, squares_value
 pub returns : goal.returns
-returns c = let e : c.loop-k.k ≡ 16 = omega arith in
-    (rw e at c.loop-k.invariant.1, rw e at c.loop-k.invariant.2)
+returns c =
+    let e : c.loop-k.k ≡ 16 = omega arith in
+    record {
+      sum_value = rw e at c.loop-k.invariant.1;
+      squares_value = rw e at c.loop-k.invariant.2;
+    }

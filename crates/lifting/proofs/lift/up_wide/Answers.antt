@@ -6,9 +6,12 @@ use mir.Facts.{to_z-of_z}
 use Rattle.lifting.proofs.Size.{kept, again}
 use Rattle.lifting.proofs.lift.up_wide.Goals as goal
 
--- TODO clauses: a_bound, factor
 pub scaled_wide-requires : goal.scaled_wide-requires
-scaled_wide-requires c = (omega (arith, kept c.args.y), search rules)
+scaled_wide-requires c =
+    record {
+      a_bound = omega (arith, kept c.args.y);
+      factor = search rules;
+    }
 
 pub add-requires : goal.add-requires
 add-requires c = omega (arith, kept c.args.x, kept c.args.y)

@@ -14,10 +14,13 @@ use Rattle.locate.specs.Map.{map_places, mapped_of, map_after}
 use Rattle.locate.proofs.Accept.{map_taken, mapped_is, after_is}
 use Rattle.locate.proofs.tiles.answer.Goals as goal
 
--- TODO clauses: value, map_after
 pub returns-then-no-ne0 : goal.returns-then-no-ne0
 unfolding mapped_of map_after
-returns-then-no-ne0 c = rw (← c.refusal-no.ensures) (refused _ _ _ c.if-no-ne0.true, refused _ _ _ c.if-no-ne0.true)
+returns-then-no-ne0 c =
+    record {
+      value = rw (← c.refusal-no.ensures) (refused _ _ _ c.if-no-ne0.true);
+      map_after = rw (← c.refusal-no.ensures) (refused _ _ _ c.if-no-ne0.true);
+    }
 
 pub places-need-requires : goal.places-need-requires
 places-need-requires c =
@@ -40,14 +43,16 @@ slice_bounds-tiles-end-2 c =
     let long : length (take c.places-need.result c.args.map.now) ≡ c.places-need.result = length-take-le _ _ enough in
     sym long
 
--- TODO clauses: walkable, map_len
 pub tiles-requires : goal.tiles-requires
 tiles-requires c =
     let both : Planes = planes c.args.layout c.args.a8 c.args.a16 c.args.b8 c.args.b16 in
     let taken : AcceptedPair both 0 × (map_places both ≤ length c.args.map.now) = map_taken _ _ c.refusal-no.ensures c.if-no-ne0.false in
     let enough : c.places-need.result ≤ length c.args.map.now = omega (arith, c.places-need.ensures, taken.1) in
     let long : length (take c.places-need.result c.args.map.now) ≡ c.places-need.result = length-take-le _ _ enough in
-    (walkable taken.0, long ∙ c.places-need.ensures)
+    record {
+      walkable = walkable taken.0;
+      map_len = long ∙ c.places-need.ensures;
+    }
 
 pub tiles_along-requires : goal.tiles_along-requires
 tiles_along-requires c =
@@ -61,10 +66,11 @@ tiles_along-requires-2 c =
     let taken : AcceptedPair both 0 × (map_places both ≤ length c.args.map.now) = map_taken _ _ c.refusal-no.ensures c.if-no-ne0.false in
     taken.0.sized.height_most
 
--- TODO clauses: value, map_after
 pub returns : goal.returns
-returns c = let e = c.refusal-no.ensures in
-    let z = c.if-no-ne0.left in (
-      mapped_is _ _ e z c.tiles_along.ensures c.tiles_along-2.ensures,
-      after_is _ _ e z c.places-need.ensures c.tiles.ensures,
-    )
+returns c =
+    let e = c.refusal-no.ensures in
+    let z = c.if-no-ne0.left in
+    record {
+      value = mapped_is _ _ e z c.tiles_along.ensures c.tiles_along-2.ensures;
+      map_after = after_is _ _ e z c.places-need.ensures c.tiles.ensures;
+    }

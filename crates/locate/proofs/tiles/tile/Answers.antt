@@ -51,7 +51,6 @@ overflow_mul-i c =
     let column : c.args.i * tile_side < both.size.width = begins _ _ c.requires.j_bound.1 in
     omega (arith, column, c.requires.walkable.width_most, side_small)
 
--- TODO clauses: walkable, y_lt_height
 pub piece-sum-requires : goal.piece-sum-requires
 unfolding tile_side
 piece-sum-requires c =
@@ -61,14 +60,15 @@ piece-sum-requires c =
     let w = both.size.width in
     let h = both.size.height in
     let columns = c.tile_length-columns.ensures in
-    let rows = c.tile_length-k-end.ensures in (
-      c.requires.walkable,
-      (
+    let rows = c.tile_length-k-end.ensures in
+    record {
+      walkable = c.requires.walkable;
+      y_lt_height = (
         omega (arith, rows, ends h c.args.j (le_of_lt row)),
         omega (arith, columns, ends w c.args.i (le_of_lt column)),
         omega (arith, columns, length_most w c.args.i),
-      ),
-    )
+      );
+    }
 
 pub overflow_add-sum : goal.overflow_add-sum
 unfolding tile_side

@@ -12,9 +12,12 @@ use Rattle.locate.proofs.tiles.tile_row.Goals as goal
 pub loop-i-init : goal.loop-i-init
 loop-i-init c = (omega arith, refl, filled_none _ _)
 
--- TODO clauses: walkable, j_bound
 pub tile-requires : goal.tile-requires
-tile-requires c = (c.requires.walkable, (c.requires.j_bound.0, omega (arith, c.requires.j_bound.1)))
+tile-requires c =
+    record {
+      walkable = c.requires.walkable;
+      j_bound = (c.requires.j_bound.0, omega (arith, c.requires.j_bound.1));
+    }
 
 pub bounds-row-i : goal.bounds-row-i
 bounds-row-i c = omega (arith, c.loop-i.invariant.1)

@@ -47,18 +47,28 @@ slice_bounds-tile_row-end c =
     let room : let across = c.tiles_along-across.result in c.loop-j.j * across + across ≤ length c.loop-j.map-1 = let across = c.tiles_along-across.result in let less : suc c.loop-j.j ≤ c.tiles_along-j-end.result = omega arith in omega (arith, mul-le-mul_right across less, suc-mul c.loop-j.j across, places, c.loop-j.invariant.1) in
     omega (arith, room)
 
--- TODO clauses: walkable, j_bound
 pub tile_row-requires : goal.tile_row-requires
 tile_row-requires c =
     let places : length c.args.map.now ≡ c.tiles_along-j-end.result * c.tiles_along-across.result = c.requires.map_len ∙ sym (ap₂ (λ (a b : ℕ). a * b) c.tiles_along-j-end.ensures c.tiles_along-across.ensures) in
-    let room : let across = c.tiles_along-across.result in c.loop-j.j * across + across ≤ length c.loop-j.map-1 = let across = c.tiles_along-across.result in let less : suc c.loop-j.j ≤ c.tiles_along-j-end.result = omega arith in omega (arith, mul-le-mul_right across less, suc-mul c.loop-j.j across, places, c.loop-j.invariant.1) in
+    let room : let across = c.tiles_along-across.result in
+    record {
+      walkable = (c.loop-j.j * across + across ≤ length c.loop-j.map-1 = let across = c.tiles_along-across.result in let less : suc c.loop-j.j ≤ c.tiles_along-j-end.result = omega arith in omega (arith, mul-le-mul_right across less, suc-mul c.loop-j.j across, places, c.loop-j.invariant.1) in
     let across = c.tiles_along-across in (
       c.requires.walkable,
       (
         omega (arith, c.tiles_along-j-end.ensures),
         part_length c.loop-j.map-1 across.result across.result c.loop-j.j room ∙ across.ensures,
       ),
-    )
+    )).0;
+      j_bound = (c.loop-j.j * across + across ≤ length c.loop-j.map-1 = let across = c.tiles_along-across.result in let less : suc c.loop-j.j ≤ c.tiles_along-j-end.result = omega arith in omega (arith, mul-le-mul_right across less, suc-mul c.loop-j.j across, places, c.loop-j.invariant.1) in
+    let across = c.tiles_along-across in (
+      c.requires.walkable,
+      (
+        omega (arith, c.tiles_along-j-end.ensures),
+        part_length c.loop-j.map-1 across.result across.result c.loop-j.j room ∙ across.ensures,
+      ),
+    )).1;
+    }
 
 pub loop-j-smaller : goal.loop-j-smaller
 loop-j-smaller c = omega (arith, c.tiles_along-j-end.ensures)

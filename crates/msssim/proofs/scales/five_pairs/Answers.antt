@@ -44,29 +44,37 @@ module _ (c : Widened) where
       (second c).widen2.ensures
       (omega (arith, (second c).widen2.auto.1.1.1.1.0, s.pre.0.b32))
 
--- TODO clauses: long, width_in_bounds
 pub widen-requires : goal.widen-requires
-widen-requires c = (c.requires.sound.planes.each.0.bounded.long, omega (arith, c.requires.sound.a32-1))
+widen-requires c =
+    record {
+      long = c.requires.sound.planes.each.0.bounded.long;
+      width_in_bounds = omega (arith, c.requires.sound.a32-1);
+    }
 
--- TODO clauses: long, width_in_bounds
 pub widen-requires-2 : goal.widen-requires-2
-widen-requires-2 c = (c.requires.sound.planes.each.1.0.bounded.long, omega (arith, c.requires.sound.b32-1))
+widen-requires-2 c =
+    record {
+      long = c.requires.sound.planes.each.1.0.bounded.long;
+      width_in_bounds = omega (arith, c.requires.sound.b32-1);
+    }
 
 pub sample_max-max-requires : goal.sample_max-max-requires
 sample_max-max-requires c = let s = start c in
     omega (arith, s.requires.sound.planes.sized.depth_most, depth_small s.args.layout.size.wide)
 
--- TODO clauses: width_le_side_limit, left_bound, bounded, bounded_2
 pub pairs_from-requires : goal.pairs_from-requires
 unfolding scale_count
-pairs_from-requires c = let w : Widened = c in
+pairs_from-requires c =
+    let w : Widened = c in
     let s = start w in
     let sized = s.requires.sound.planes.sized in
     let size = s.args.layout.size in
-    rw c.sample_max-max.ensures (
-      (sized.width_most, sized.height_most, omega (arith, columns_fit size.width sized.width_least, s.requires.sound.places)),
-      ((first_fits size.wide size.depth sized.depth_most, s.requires.pairs_len), (a-bounded w, b-bounded w)),
-    )
+    record {
+      width_le_side_limit = rw c.sample_max-max.ensures (sized.width_most, sized.height_most, omega (arith, columns_fit size.width sized.width_least, s.requires.sound.places));
+      left_bound = rw c.sample_max-max.ensures (first_fits size.wide size.depth sized.depth_most, s.requires.pairs_len);
+      bounded = rw c.sample_max-max.ensures (a-bounded w);
+      bounded_2 = rw c.sample_max-max.ensures (b-bounded w);
+    }
 
 pub returns : goal.returns
 unfolding scale_count

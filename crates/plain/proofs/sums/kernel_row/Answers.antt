@@ -13,9 +13,13 @@ use Rattle.plain.proofs.sums.kernel_row.Goals as goal
 pub loop-j-init : goal.loop-j-init
 loop-j-init c = (omega arith, c.none-sum.ensures ∙ row_none _ _ _ _ _ _ _ _)
 
--- TODO clauses: x_lt_width, accepted_pair, kernel_value
 pub place-requires : goal.place-requires
-place-requires c = (omega arith, c.requires.accepted_pair)
+place-requires c =
+    record {
+      x_lt_width = omega arith;
+      accepted_pair = c.requires.accepted_pair.0;
+      kernel_value = c.requires.accepted_pair.1;
+    }
 
 pub plus-sum-requires : goal.plus-sum-requires
 plus-sum-requires c =

@@ -13,9 +13,13 @@ use Rattle.plain.proofs.sums.moments_at.Goals as goal
 pub loop-i-init : goal.loop-i-init
 loop-i-init c = (omega arith, c.none-sum.ensures ∙ rows_none _ _ _ _ _ _ _)
 
--- TODO clauses: x_lt_width, accepted_pair, kernel_value
 pub kernel_row-requires : goal.kernel_row-requires
-kernel_row-requires c = (omega arith, c.requires.accepted_pair)
+kernel_row-requires c =
+    record {
+      x_lt_width = omega arith;
+      accepted_pair = c.requires.accepted_pair.0;
+      kernel_value = c.requires.accepted_pair.1;
+    }
 
 pub plus-sum-requires : goal.plus-sum-requires
 plus-sum-requires c =

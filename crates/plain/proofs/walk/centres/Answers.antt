@@ -14,9 +14,13 @@ use Rattle.plain.proofs.walk.centres.Goals as goal
 pub loop-x-init : goal.loop-x-init
 loop-x-init c = (omega arith, sym (fold_none _ _))
 
--- TODO clauses: x_lt_width, accepted_pair, kernel_value
 pub moments_at-requires : goal.moments_at-requires
-moments_at-requires c = ((c.loop-x-test.true, c.requires.y_lt_height), c.requires.accepted_pair)
+moments_at-requires c =
+    record {
+      x_lt_width = (c.loop-x-test.true, c.requires.y_lt_height);
+      accepted_pair = c.requires.accepted_pair.0;
+      kernel_value = c.requires.accepted_pair.1;
+    }
 
 pub overflow_step-x : goal.overflow_step-x
 overflow_step-x c =

@@ -13,9 +13,13 @@ use Rattle.plain.proofs.walk.totals.Goals as goal
 pub loop-y-init : goal.loop-y-init
 loop-y-init c = (omega arith, totals_none _ _ _ _ _ _)
 
--- TODO clauses: y_lt_height, accepted_pair, kernel_value
 pub centres-t-requires : goal.centres-t-requires
-centres-t-requires c = (c.loop-y-test.true, c.requires)
+centres-t-requires c =
+    record {
+      y_lt_height = c.loop-y-test.true;
+      accepted_pair = c.requires.0;
+      kernel_value = c.requires.1;
+    }
 
 pub overflow_step-y : goal.overflow_step-y
 overflow_step-y c =

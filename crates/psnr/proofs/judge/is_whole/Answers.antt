@@ -15,10 +15,13 @@ returns-then-not-e-2 c =
     let double : T (fits binary64 c.args.e) = subst T (sym c.well_formed.0.1) tt in
     sym (high_end _ double (not-true _ c.if-not-e-2.true-raw))
 
--- TODO clauses: lower_bound, upper_bound
 pub truncating_f64_to_u64-n-requires : goal.truncating_f64_to_u64-n-requires
 unfolding neg of_bits
-truncating_f64_to_u64-n-requires c = (above _ c.if-not-e.false-raw, in_range _ (not-false _ c.if-not-e-2.false-raw))
+truncating_f64_to_u64-n-requires c =
+    record {
+      lower_bound = above _ c.if-not-e.false-raw;
+      upper_bound = in_range _ (not-false _ c.if-not-e-2.false-raw);
+    }
 
 pub float_to_bits-result : goal.float_to_bits-result
 unfolding of_bits

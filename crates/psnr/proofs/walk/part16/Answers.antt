@@ -15,7 +15,10 @@ loop-x-preserved c = let l = c.loop-x in (
   bits_next _ _ l.x l.invariant.2,
 )
 
--- TODO clauses: sum_value, bits_value
 pub returns : goal.returns
-returns c = let e : c.loop-x.x ≡ length c.args.a.now = omega arith in
-    (rw e at c.loop-x.invariant.1, rw e at c.loop-x.invariant.2)
+returns c =
+    let e : c.loop-x.x ≡ length c.args.a.now = omega arith in
+    record {
+      sum_value = rw e at c.loop-x.invariant.1;
+      bits_value = rw e at c.loop-x.invariant.2;
+    }

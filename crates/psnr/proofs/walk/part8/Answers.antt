@@ -16,7 +16,10 @@ pub loop-x-preserved : goal.loop-x-preserved
 loop-x-preserved c = let l = c.loop-x in
     (search rules, in_next _ _ l.x l.invariant.1 c.square8-sum.ensures.0, omega (arith, c.square8-sum.ensures.1, l.invariant.2))
 
--- TODO clauses: value, upper_bound
 pub returns : goal.returns
-returns c = let e : c.loop-x.x ≡ length c.args.a.now = omega arith in
-    (rw e at c.loop-x.invariant.1, rw e at c.loop-x.invariant.2)
+returns c =
+    let e : c.loop-x.x ≡ length c.args.a.now = omega arith in
+    record {
+      value = rw e at c.loop-x.invariant.1;
+      upper_bound = rw e at c.loop-x.invariant.2;
+    }

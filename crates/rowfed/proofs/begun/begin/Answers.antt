@@ -11,9 +11,12 @@ use Rattle.rowfed.proofs.Accept.{Begun, begun}
 use borrow.Author.Rules.{rules}
 use Rattle.rowfed.proofs.begun.begin.Goals as goal
 
--- TODO clauses: value, scratch_after
 pub returns-then-no-ne0 : goal.returns-then-no-ne0
-returns-then-no-ne0 c = rw (← c.refusal-no.ensures, c.no_state.ensures) (refused _ _ _ c.if-no-ne0.true, refused _ _ _ c.if-no-ne0.true)
+returns-then-no-ne0 c =
+    record {
+      value = rw (← c.refusal-no.ensures, c.no_state.ensures) (refused _ _ _ c.if-no-ne0.true);
+      scratch_after = rw (← c.refusal-no.ensures, c.no_state.ensures) (refused _ _ _ c.if-no-ne0.true);
+    }
 
 pub scratch_places-need-requires : goal.scratch_places-need-requires
 scratch_places-need-requires c =
@@ -37,13 +40,12 @@ new_state-requires c =
     let accepted : Begun c.args.size c.args.kernel.now (length c.args.scratch.now) = begun _ _ _ c.refusal-no.ensures c.if-no-ne0.false in
     (taps_count _ accepted.kernel).1
 
--- TODO clauses: value, scratch_after
 pub returns : goal.returns
 returns c =
     let accepted : Begun c.args.size c.args.kernel.now (length c.args.scratch.now) = begun _ _ _ c.refusal-no.ensures c.if-no-ne0.false in
     let enough : c.scratch_places-need.result ≤ length c.args.scratch.now = omega (arith, c.scratch_places-need.ensures, accepted.lent_enough) in
     let clear = c.clear.ensures in
-    rw (sym c.refusal-no.ensures ∙ c.if-no-ne0.false) (
-      rw c.new_state.ensures,
-      rw (clear, length-take-le _ _ enough, c.scratch_places-need.ensures),
-    )
+    record {
+      value = rw (sym c.refusal-no.ensures ∙ c.if-no-ne0.false) (rw c.new_state.ensures);
+      scratch_after = rw (sym c.refusal-no.ensures ∙ c.if-no-ne0.false) (rw (clear, length-take-le _ _ enough, c.scratch_places-need.ensures));
+    }

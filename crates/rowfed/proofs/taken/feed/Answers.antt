@@ -9,16 +9,21 @@ use Rattle.rowfed.proofs.Accept.{taken, sound_feed}
 use borrow.Author.Rules.{rules}
 use Rattle.rowfed.proofs.taken.feed.Goals as goal
 
--- TODO clauses: value, scratch_after
 pub returns-then-no-ne0 : goal.returns-then-no-ne0
-returns-then-no-ne0 c = rw (← c.refusal-no.ensures) (refused _ _ _ c.if-no-ne0.true, refused _ _ _ c.if-no-ne0.true)
+returns-then-no-ne0 c =
+    record {
+      value = rw (← c.refusal-no.ensures) (refused _ _ _ c.if-no-ne0.true);
+      scratch_after = rw (← c.refusal-no.ensures) (refused _ _ _ c.if-no-ne0.true);
+    }
 
--- TODO clauses: kernel_value, sound_feed
 pub take_held-sums-requires : goal.take_held-sums-requires
 take_held-sums-requires c =
     let group : Planes = planes c.args.layout c.args.a8 c.args.a16 c.args.b8 c.args.b16 in
     let accepted : SoundFeed c.args.state group (length c.args.scratch.now) = sound_feed _ _ _ c.requires.0 (taken _ _ _ c.refusal-no.ensures c.if-no-ne0.false) in
-    (refl, accepted)
+    record {
+      kernel_value = refl;
+      sound_feed = accepted;
+    }
 
 pub with_rows-requires : goal.with_rows-requires
 with_rows-requires c =
@@ -27,7 +32,10 @@ with_rows-requires c =
     let a = accepted in
     (a.room, a.state.height_most)
 
--- TODO clauses: value, scratch_after
 pub returns : goal.returns
-returns c = let t = c.take_held-sums.ensures in
-    rw (sym c.refusal-no.ensures ∙ c.if-no-ne0.false) (rw (c.with_rows.ensures, t.0), t.1)
+returns c =
+    let t = c.take_held-sums.ensures in
+    record {
+      value = rw (sym c.refusal-no.ensures ∙ c.if-no-ne0.false) (rw (c.with_rows.ensures, t.0));
+      scratch_after = rw (sym c.refusal-no.ensures ∙ c.if-no-ne0.false) t.1;
+    }

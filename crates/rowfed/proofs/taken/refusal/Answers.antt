@@ -8,10 +8,13 @@ use Rattle.rowfed.proofs.taken.refusal.Goals as goal
 pub returns-then-not-is_possible : goal.returns-then-not-is_possible
 returns-then-not-is_possible c = state_refuses _ _ _ (fails c.is_possible.ensures c.if-not-is_possible.true-raw)
 
--- TODO clauses: depth_value, le_width
 pub rows_refusal-no-requires : goal.rows_refusal-no-requires
-rows_refusal-no-requires c = let ok = holds c.is_possible.ensures c.if-not-is_possible.false-raw in
-    (rw c.requires.1 (depth_suits_lem _ _ ok), rw c.requires.0 (sides_say _ _ (sides_suit_lem _ _ ok)).0.0)
+rows_refusal-no-requires c =
+    let ok = holds c.is_possible.ensures c.if-not-is_possible.false-raw in
+    record {
+      depth_value = rw c.requires.1 (depth_suits_lem _ _ ok);
+      le_width = rw c.requires.0 (sides_say _ _ (sides_suit_lem _ _ ok)).0.0;
+    }
 
 pub returns-then-no-ne0 : goal.returns-then-no-ne0
 returns-then-no-ne0 c = rows_refuse _ _ _ (holds c.is_possible.ensures c.if-not-is_possible.false-raw) c.rows_refusal-no.ensures c.if-no-ne0.true

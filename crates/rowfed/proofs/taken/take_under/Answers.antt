@@ -52,7 +52,6 @@ slice_bounds-take-end-3 c =
     let fits : used ≤ length c.args.scratch.now = omega (arith, used-is, c.requires.sound_feed.state.used_few, c.requires.sound_feed.lent_enough) in
     sym (length-take-le _ _ fits)
 
--- TODO clauses: height_bound, long, roomy, kernel, lent_total_value
 pub take-requires : goal.take-requires
 take-requires c =
     let state : State = c.args.state in
@@ -60,18 +59,15 @@ take-requires c =
     let used-is : used ≡ used_places state = used_count state c.next_power.result state.kernel c.next_power.ensures refl c.requires.sound_feed.state in
     let fits : used ≤ length c.args.scratch.now = omega (arith, used-is, c.requires.sound_feed.state.used_few, c.requires.sound_feed.lent_enough) in
     let f = c.requires.sound_feed in
-    let e = c.next_power.ensures in (
-      (f.room, f.width, f.state.width_most, f.state.height_most),
-      (
-        f.long,
-        (
-          roomy state _ _ e c.requires.kernel_value f.state _ (omega (arith, used-is, length-take-le _ c.args.scratch.now fits)),
-          kernel_there state _ _ e c.requires.kernel_value f.state,
-        ),
-      ),
-    )
+    let e = c.next_power.ensures in
+    record {
+      height_bound = (f.room, f.width, f.state.width_most, f.state.height_most);
+      long = f.long;
+      roomy = roomy state _ _ e c.requires.kernel_value f.state _ (omega (arith, used-is, length-take-le _ c.args.scratch.now fits));
+      kernel = (kernel_there state _ _ e c.requires.kernel_value f.state).0;
+      lent_total_value = (kernel_there state _ _ e c.requires.kernel_value f.state).1;
+    }
 
--- TODO clauses: value, scratch_after
 pub returns : goal.returns
 returns c =
     let group : Planes = planes c.args.layout c.args.a8 c.args.a16 c.args.b8 c.args.b16 in
@@ -80,8 +76,9 @@ returns c =
     let used-is : used ≡ used_places state = used_count state c.next_power.result state.kernel c.next_power.ensures refl c.requires.sound_feed.state in
     let fits : used ≤ length c.args.scratch.now = omega (arith, used-is, c.requires.sound_feed.state.used_few, c.requires.sound_feed.lent_enough) in
     let e = taken_under state _ _ c.next_power.ensures c.requires.kernel_value c.requires.sound_feed.state group c.args.scratch.now used _ _ _ used-is fits
-    c.sample_max.ensures c.squared-max2.ensures c.take.ensures in (
-      ap (λ (k : Kept). k.totals) e,
-      ap (λ (k : Kept). k.places ++ drop used c.args.scratch.now) e
-          ∙ ap (λ (n : ℕ). (taken_in state group c.args.scratch.now).places ++ drop n c.args.scratch.now) used-is,
-    )
+    c.sample_max.ensures c.squared-max2.ensures c.take.ensures in
+    record {
+      value = ap (λ (k : Kept). k.totals) e;
+      scratch_after = ap (λ (k : Kept). k.places ++ drop used c.args.scratch.now) e
+          ∙ ap (λ (n : ℕ). (taken_in state group c.args.scratch.now).places ++ drop n c.args.scratch.now) used-is;
+    }

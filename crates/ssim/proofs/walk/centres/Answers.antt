@@ -11,9 +11,14 @@ use Rattle.ssim.proofs.walk.centres.Goals as goal
 pub loop-x-init : goal.loop-x-init
 loop-x-init c = (search rules, sym (fold_none _ _))
 
--- TODO clauses: x_lt_width, kernel, total_value, column_sums
 pub moments_at-requires : goal.moments_at-requires
-moments_at-requires c = (omega arith, c.requires.kernel)
+moments_at-requires c =
+    record {
+      x_lt_width = omega arith;
+      kernel = c.requires.kernel.0;
+      total_value = c.requires.kernel.1;
+      column_sums = c.requires.kernel.2;
+    }
 
 pub loop-x-preserved : goal.loop-x-preserved
 loop-x-preserved c = (search rules, rw (fold_more, c.step-t.ensures, c.moments_at.ensures, c.loop-x.invariant.1))

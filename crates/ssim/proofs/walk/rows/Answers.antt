@@ -32,19 +32,25 @@ loop-y-init c = (search rules, refl, c.requires.margins, sym (totals_none _ _ _ 
 pub offset_bounds-cols-start : goal.offset_bounds-cols-start
 offset_bounds-cols-start c = omega (arith, taps_room)
 
--- TODO clauses: y_lt_height, kernel, summable
 pub fill-requires : goal.fill-requires
 fill-requires c =
     let start : ℕ = 5 * (length c.args.kernel.now / 2) in
     let count : ℕ = start + 5 * c.args.grid.width - start in
     let room : start + count ≤ length c.loop-y.cols-1 = omega arith in
-    (omega (arith, part_length start count c.loop-y.cols-1 room), (c.requires.kernel, c.requires.summable (omega arith)))
+    record {
+      y_lt_height = omega (arith, part_length start count c.loop-y.cols-1 room);
+      kernel = c.requires.kernel;
+      summable = c.requires.summable (omega arith);
+    }
 
--- TODO clauses: x_lt_side, kernel, total_value
 pub weight-down-requires : goal.weight-down-requires
-weight-down-requires c = (omega arith, (c.requires.kernel, c.requires.total_value))
+weight-down-requires c =
+    record {
+      x_lt_side = omega arith;
+      kernel = c.requires.kernel;
+      total_value = c.requires.total_value;
+    }
 
--- TODO clauses: width_le_side_limit, kernel, total_value, column_sums
 pub centres-t-requires : goal.centres-t-requires
 centres-t-requires c =
     let both : OnGrid = on_grid c.args.grid c.args.a8 c.args.a16 c.args.a32 c.args.b8 c.args.b16 c.args.b32 in
@@ -57,23 +63,20 @@ centres-t-requires c =
     let same : length filled ≡ count (begun turn) = kept ∙ part_length (start (begun turn)) (count (begun turn)) turn.loop-y.cols-1 (room turn) in
     let s = begun turn in
     let l = turn.loop-y in
-    let small = s.requires.summable (omega arith) in (
-      omega (
+    let small = s.requires.summable (omega arith) in
+    record {
+      width_le_side_limit = omega (
         arith,
         same_len_mid (start s) (count s) l.cols-1 filled kept,
         weight_le s.args.kernel.now s.args.grid.height l.y s.requires.kernel,
-      ),
-      (
-        s.requires.kernel,
-        (
-          s.requires.total_value,
-          all_sums l.cols-1 filled (count s) s.args.kernel.now s.args.grid.width s.args.grid.height
-              (sample_at (both s).a)
-              (sample_at (both s).b) l.y c.fill.ensures l.invariant.2 (omega arith) (omega arith) same
-              s.requires.kernel small.first.small small.second.small,
-        ),
-      ),
-    )
+      );
+      kernel = s.requires.kernel;
+      total_value = s.requires.total_value;
+      column_sums = all_sums l.cols-1 filled (count s) s.args.kernel.now s.args.grid.width s.args.grid.height
+          (sample_at (both s).a)
+          (sample_at (both s).b) l.y c.fill.ensures l.invariant.2 (omega arith) (omega arith) same
+          s.requires.kernel small.first.small small.second.small;
+    }
 
 pub overflow_step-y : goal.overflow_step-y
 overflow_step-y c =

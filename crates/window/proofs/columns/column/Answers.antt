@@ -3,20 +3,35 @@ use borrow.Author.Rules.{rules}
 use Rattle.window.proofs.columns.column.Goals as goal
 
 -- each looks back to where all slices are known, to where those of the first plane are, and to the start
--- TODO clauses: x_lt_width, kernel, bounded, bounded_2
 pub column8-requires : goal.column8-requires
-column8-requires c = let p = rw c.in-Bytes.is at c.requires in
-    (p.0, (p.1.0, (p.1.1.first, p.1.1.second)))
+column8-requires c =
+    let p = rw c.in-Bytes.is at c.requires in
+    record {
+      x_lt_width = p.0;
+      kernel = p.1.0;
+      bounded = p.1.1.first;
+      bounded_2 = p.1.1.second;
+    }
 
--- TODO clauses: x_lt_width, kernel, bounded, bounded_2
 pub column16-requires : goal.column16-requires
-column16-requires c = let p = rw c.in-Words.is at c.requires in
-    (p.0, (p.1.0, (p.1.1.first, p.1.1.second)))
+column16-requires c =
+    let p = rw c.in-Words.is at c.requires in
+    record {
+      x_lt_width = p.0;
+      kernel = p.1.0;
+      bounded = p.1.1.first;
+      bounded_2 = p.1.1.second;
+    }
 
--- TODO clauses: x_lt_width, kernel, bounded, bounded_2
 pub column32-requires : goal.column32-requires
-column32-requires c = let p = rw c.in-Longs.is at c.requires in
-    (p.0, (p.1.0, (p.1.1.first, p.1.1.second)))
+column32-requires c =
+    let p = rw c.in-Longs.is at c.requires in
+    record {
+      x_lt_width = p.0;
+      kernel = p.1.0;
+      bounded = p.1.1.first;
+      bounded_2 = p.1.1.second;
+    }
 
 pub returns-in-Bytes : goal.returns-in-Bytes
 returns-in-Bytes c = rw c.in-Bytes.is c.column8.ensures

@@ -14,24 +14,28 @@ use Rattle.window.proofs.columns.fill.Goals as goal
 pub loop-x-init : goal.loop-x-init
 loop-x-init c = (search rules, refl, holds_none _ _ _ _ _ 0 _)
 
--- TODO clauses: x_lt_width, kernel, summable
 pub column-t-requires : goal.column-t-requires
-column-t-requires c = (omega arith, c.requires.kernel)
+column-t-requires c =
+    record {
+      x_lt_width = omega arith;
+      kernel = c.requires.kernel.0;
+      summable = c.requires.kernel.1;
+    }
 
 pub overflow_mul-x : goal.overflow_mul-x
 overflow_mul-x c = omega (arith, side_small)
 
--- TODO clauses: at_in_bounds, fits
 pub put-requires : goal.put-requires
 put-requires c =
     let both : OnGrid = on_grid c.args.grid c.args.a8 c.args.a16 c.args.a32 c.args.b8 c.args.b16 c.args.b32 in
     let x = c.loop-x.x in
-    let in-width : x < c.args.grid.width = omega arith in (
-      omega arith,
-      column_fits c.args.kernel.now c.args.grid.height (sample_at both.a) (sample_at both.b) x c.args.y _
+    let in-width : x < c.args.grid.width = omega arith in
+    record {
+      at_in_bounds = omega arith;
+      fits = column_fits c.args.kernel.now c.args.grid.height (sample_at both.a) (sample_at both.b) x c.args.y _
           c.column-t.ensures c.requires.kernel
-          (λ r l. c.requires.summable.first.small r x l in-width) (λ r l. c.requires.summable.second.small r x l in-width),
-    )
+          (λ r l. c.requires.summable.first.small r x l in-width) (λ r l. c.requires.summable.second.small r x l in-width);
+    }
 
 pub overflow_step-x : goal.overflow_step-x
 overflow_step-x c = omega (arith, side_small)
