@@ -15,7 +15,7 @@ use Rattle.dct.proofs.all_within.Given as goal
 
 abbrev pub invariant-loop-i : goal.invariant-loop-i
 invariant-loop-i l =
-    (l.i ≤ length l.x) × (Call.all_within (nat_abs (to_z w32 l.limit)) l.x ≡ Call.all_within (nat_abs (to_z w32 l.limit)) (drop l.i l.x))
+    (l.i ≤ length l.x) × (Call.all_within (nat_abs l.limit) l.x ≡ Call.all_within (nat_abs l.limit) (drop l.i l.x))
 
 abbrev pub decreases-loop-i : goal.decreases-loop-i
 decreases-loop-i l = length l.x - l.i
