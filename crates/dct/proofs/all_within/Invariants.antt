@@ -1,16 +1,9 @@
 -- `all_within` walks the list: what is passed is in range, so that the answer is that of the rest. Assumes nothing.
-use mathlib.Core.Path.{◌≡◌, refl, ◌∙◌, ap, sym}
+use mathlib.Core.Path.{◌≡◌}
 use Prim.Native.Nat.{◌≤◌, ◌-◌}
-use native.Mathlib.Omega.{arith}
-use lib.IntN.{pos, nat_abs}
-use lib.ListN.{length, drop, get_or, drop_of_length-le}
-use mir.Syntax.{w32}
-use mir.Val.{to_z}
-use mir.Facts.{to_z-of_z}
-use Rattle.lifting.specs.Inner.Operation.{read32}
+use lib.IntN.{nat_abs}
+use lib.ListN.{length, drop}
 use Rattle.dct.specs.Call as Call
-use Rattle.lifting.proofs.Size.{whole}
-use Rattle.dct.proofs.Range.{stop, next}
 use Rattle.dct.proofs.all_within.Given as goal
 
 abbrev pub invariant-loop-i : goal.invariant-loop-i
