@@ -1,7 +1,6 @@
 -- `window::row::pair` meets its contract. Assumes nothing.
 use Prim.Native.Nat.{ℕ, ◌^◌, ◌≤◌, ◌<◌}
 use native.Mathlib.Omega.{arith}
-use borrow.Author.Rules.{rules}
 use lib.Dec.{lit<}
 use Rattle.window.specs.Inner.Parts.{nth}
 use Rattle.window.proofs.Sums.Five.{cells_low}

@@ -1,11 +1,11 @@
--- `places::msssim_samples` meets its contract: what both tests say, and `msssim::samples_needed` where they pass. Assumes nothing.
+-- `fuavelino::places::fuavelino_msssim_samples` meets its contract: what both tests say, and `msssim::samples_needed` where they pass. Assumes nothing.
 use mathlib.Core.Path.{◌∙◌}
 use borrow.Author.Rules.{rules}
 use Rattle.plane.specs.Limits.{side_limit}
 use Rattle.msssim.specs.Answer.{least_side}
-use Rattle.places.specs.Places.{msssim_samples}
-use Rattle.places.proofs.Counts.{both_say, tested, given, not_given}
-use Rattle.places.proofs.msssim_samples.Goals as goal
+use Rattle.fuavelino.specs.Places.{msssim_samples}
+use Rattle.fuavelino.proofs.Counts.{both_say, tested, given, not_given}
+use Rattle.fuavelino.proofs.places.fuavelino_msssim_samples.Goals as goal
 
 pub samples_needed-requires : goal.samples_needed-requires
 unfolding side_limit

@@ -1,11 +1,11 @@
--- `places::ssim_places` meets its contract: what both tests say, and `ssim::scratch_places` where they pass. Assumes nothing.
+-- `fuavelino::places::fuavelino_ssim_places` meets its contract: what both tests say, and `ssim::scratch_places` where they pass. Assumes nothing.
 use mathlib.Core.Path.{◌∙◌}
 use borrow.Author.Rules.{rules}
 use Rattle.plane.specs.Limits.{side_limit}
 use Rattle.kernel.specs.Kernel.{most_taps}
-use Rattle.places.specs.Places.{ssim_places}
-use Rattle.places.proofs.Counts.{both_say, tested, given, not_given}
-use Rattle.places.proofs.ssim_places.Goals as goal
+use Rattle.fuavelino.specs.Places.{ssim_places}
+use Rattle.fuavelino.proofs.Counts.{both_say, tested, given, not_given}
+use Rattle.fuavelino.proofs.places.fuavelino_ssim_places.Goals as goal
 
 pub scratch_places-requires : goal.scratch_places-requires
 unfolding side_limit most_taps

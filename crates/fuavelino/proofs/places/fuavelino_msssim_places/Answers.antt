@@ -1,11 +1,11 @@
--- `places::msssim_places` meets its contract: what the test says, and `msssim::places_needed` where it passes. Assumes nothing.
+-- `fuavelino::places::fuavelino_msssim_places` meets its contract: what the test says, and `msssim::places_needed` where it passes. Assumes nothing.
 use mathlib.Core.Path.{sym, ◌∙◌}
 use borrow.Author.Rules.{rules}
 use Rattle.plane.specs.Limits.{side_limit}
 use Rattle.msssim.specs.Answer.{least_side}
-use Rattle.places.specs.Places.{msssim_places}
-use Rattle.places.proofs.Counts.{within_says, given, not_given}
-use Rattle.places.proofs.msssim_places.Goals as goal
+use Rattle.fuavelino.specs.Places.{msssim_places}
+use Rattle.fuavelino.proofs.Counts.{within_says, given, not_given}
+use Rattle.fuavelino.proofs.places.fuavelino_msssim_places.Goals as goal
 
 pub places_needed-requires : goal.places_needed-requires
 unfolding side_limit

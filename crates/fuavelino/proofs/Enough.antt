@@ -21,8 +21,8 @@ use Rattle.ssim.proofs.Accept.{taps_count}
 use Rattle.locate.specs.Map.{map_places, map_refusal}
 use Rattle.msssim.specs.Scratch.{Scratch, places_needed, samples_needed, scratch_suits}
 use Rattle.msssim.specs.Answer.{least_side, msssim_refusal}
-use Rattle.places.specs.Places.{within, ssim_places, msssim_places, msssim_samples, error_map_places}
-use Rattle.places.proofs.Counts.{given}
+use Rattle.fuavelino.specs.Places.{within, ssim_places, msssim_places, msssim_samples, error_map_places}
+use Rattle.fuavelino.proofs.Counts.{given}
 
 -- ---- tests that have other numbers than the answer passed
 abbrev pub Other : ℕ → List (ℕ × Bool) → Type 0

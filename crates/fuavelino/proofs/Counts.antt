@@ -5,7 +5,7 @@ use Prim.Native.Nat.{ℕ, ◌≤◌}
 use borrow.Author.Tests.{leb-true}
 use lib.Dec.{leb}
 use Rattle.refusal.proofs.Chain.{and_left, and_right}
-use Rattle.places.specs.Places.{within}
+use Rattle.fuavelino.specs.Places.{within}
 
 pub within_says : (least most n : ℕ) → within least most n ≡ true → (least ≤ n) × (n ≤ most)
 unfolding within

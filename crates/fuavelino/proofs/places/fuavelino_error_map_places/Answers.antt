@@ -1,10 +1,10 @@
--- `places::error_map_places` meets its contract: what both tests say, and `locate::tiles::places` where they pass. Assumes nothing.
+-- `fuavelino::places::fuavelino_error_map_places` meets its contract: what both tests say, and `locate::tiles::places` where they pass. Assumes nothing.
 use mathlib.Core.Path.{◌∙◌}
 use borrow.Author.Rules.{rules}
 use Rattle.plane.specs.Limits.{side_limit}
-use Rattle.places.specs.Places.{error_map_places}
-use Rattle.places.proofs.Counts.{both_say, tested, given, not_given}
-use Rattle.places.proofs.error_map_places.Goals as goal
+use Rattle.fuavelino.specs.Places.{error_map_places}
+use Rattle.fuavelino.proofs.Counts.{both_say, tested, given, not_given}
+use Rattle.fuavelino.proofs.places.fuavelino_error_map_places.Goals as goal
 
 pub places-requires : goal.places-requires
 unfolding side_limit
