@@ -1,0 +1,20 @@
+-- `idct8_each_row` passes each row back to its row: after i rounds the first i rows are written. Assumes nothing.
+use mathlib.Core.Path.{◌≡◌, refl, ◌∙◌, ap}
+use mathlib.Core.List.{List, ◌++◌}
+use Prim.Native.Nat.{◌≤◌, ◌*◌, ◌-◌}
+use native.Mathlib.Omega.{arith}
+use lib.IntN.{ℤ}
+use lib.ListN.{length, drop, length-take, length-drop}
+use borrow.Rule.Slice.PartMut.{put_mid, same_len_mid}
+use Rattle.dct.proofs.Blocks.{small_row, rows_more, rows_all}
+use Rattle.dct.proofs.Round.{length_idct8}
+use Rattle.dct.specs.Block.{idct8, row, rows}
+use Rattle.lifting.specs.Inner.Operation.{undo_limit}
+use Rattle.dct.proofs.block.idct8_each_row.Given as goal
+
+abbrev pub invariant-loop-i : goal.invariant-loop-i
+invariant-loop-i l =
+    (l.i ≤ 8) × (length l.out ≡ length l.initial.out) × (l.out ≡ rows (λ k. idct8 (row k l.x)) l.i ++ drop (8 * l.i) l.initial.out)
+
+abbrev pub decreases-loop-i : goal.decreases-loop-i
+decreases-loop-i l = 8 - l.i

@@ -1,0 +1,18 @@
+-- `transpose` exchanges rows and columns: after i rounds the first i rows are written. Assumes nothing.
+use mathlib.Core.Path.{◌≡◌, refl, ◌∙◌, ap}
+use mathlib.Core.List.{List, ◌++◌}
+use Prim.Native.Nat.{◌≤◌, ◌*◌, ◌-◌}
+use native.Mathlib.Omega.{arith}
+use lib.IntN.{ℤ}
+use lib.ListN.{length, drop, length-take, length-drop}
+use borrow.Rule.Slice.PartMut.{put_mid, same_len_mid}
+use Rattle.dct.proofs.Blocks.{rows_more, rows_all}
+use Rattle.dct.specs.Block.{column, rows, transposed}
+use Rattle.dct.proofs.block.transpose.Given as goal
+
+abbrev pub invariant-loop-i : goal.invariant-loop-i
+invariant-loop-i l =
+    (l.i ≤ 8) × (length l.out ≡ length l.initial.out) × (l.out ≡ rows (λ k. column k l.x) l.i ++ drop (8 * l.i) l.initial.out)
+
+abbrev pub decreases-loop-i : goal.decreases-loop-i
+decreases-loop-i l = 8 - l.i

@@ -1,0 +1,27 @@
+-- `downscale::clear` meets its contract. Assumes nothing.
+use mathlib.Core.Path.{◌≡◌, refl}
+use mathlib.Core.List.{◌++◌, append-nil}
+use Prim.Native.Nat.{◌≤◌, ◌-◌}
+use native.Mathlib.Nat.{le_refl}
+use native.Mathlib.Omega.{arith}
+use borrow.Author.Fill.{fill_more}
+use borrow.Author.Rules.{rules}
+use lib.ListN.{length, replicate, drop, length-set, drop_of_length-le}
+use Rattle.downscale.proofs.clear.Goals as goal
+
+pub loop-i-init : goal.loop-i-init
+loop-i-init c = (search rules, refl, refl)
+
+pub loop-i-preserved : goal.loop-i-preserved
+loop-i-preserved c = (
+  search rules,
+  simp length-set c.loop-i.invariant.1,
+  rw c.loop-i.invariant.2 (fill_more _ 0 _ c.loop-i-test.true),
+)
+
+pub shape_of-longs : goal.shape_of-longs
+shape_of-longs c = c.loop-i.invariant.1
+
+pub returns : goal.returns
+returns c = let e : c.loop-i.i ≡ length c.args.longs.now = omega arith in
+    rw (c.loop-i.invariant.2, e, drop_of_length-le _ (le_refl _), append-nil)

@@ -1,0 +1,21 @@
+-- `quarter_sums` adds the samples of a quarter, and their squares. Assumes nothing.
+use borrow.Author.Rules.{rules}
+use native.Mathlib.Nat.{mul-le-mul}
+use lib.IntN.{nat_abs}
+use Rattle.hvs_block.proofs.Sizes.{read_sample, sample_read}
+use mathlib.Core.Path.{◌≡◌, sym, ap, ◌∙◌}
+use Prim.Native.Nat.{◌-◌, ◌≤◌, ◌^◌}
+use native.Mathlib.Omega.{arith}
+use Rattle.plane.specs.Sums.{sum_to}
+use Rattle.plane.proofs.Sums.{sum_none, sum_more}
+use Rattle.hvs_block.specs.Inner.Levels.{level_in, squares}
+use Rattle.hvs_block.proofs.Levels.{sum_most, squares_most}
+use Rattle.hvs_block.proofs.Numbers.{sample_at_lem, sample_small}
+use Rattle.hvs_block.proofs.variance.quarter_sums.Given as goal
+
+abbrev pub invariant-loop-k : goal.invariant-loop-k
+invariant-loop-k l =
+    (l.k ≤ 16) × (l.sum ≡ sum_to (level_in l.b l.top l.left) l.k) × (l.squares ≡ squares (level_in l.b l.top l.left) l.k)
+
+abbrev pub decreases-loop-k : goal.decreases-loop-k
+decreases-loop-k l = 16 - l.k

@@ -1,0 +1,14 @@
+-- `locate::first::alike16` meets its contract. The loop's invariant: the flag is the test of the samples passed. Assumes nothing.
+use mathlib.Core.Path.{◌≡◌, sym}
+use Prim.Native.Nat.{◌-◌, ◌≤◌}
+use native.Mathlib.Omega.{arith}
+use borrow.Author.Rules.{rules}
+use Rattle.locate.specs.Inner.Walk.{alike_from}
+use Rattle.locate.proofs.Places.{alike_none, alike_more}
+use Rattle.locate.proofs.first.alike16.Given as goal
+
+abbrev pub invariant-loop-x : goal.invariant-loop-x
+invariant-loop-x l = (l.x ≤ l.n) × (l.ok ≡ alike_from l.a l.b l.from_a l.from_b l.x)
+
+abbrev pub decreases-loop-x : goal.decreases-loop-x
+decreases-loop-x l = l.n - l.x

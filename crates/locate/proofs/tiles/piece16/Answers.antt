@@ -1,0 +1,42 @@
+-- `locate::tiles::piece16` meets its contract. The loop's invariant: the sum is that of the samples passed, and no larger than so many
+-- of the largest squares. Assumes nothing.
+use mathlib.Core.Path.{◌≡◌, sym}
+use Prim.Native.Nat.{◌*◌, ◌-◌, ◌≤◌}
+use native.Mathlib.Omega.{arith}
+use borrow.Author.Rules.{rules}
+use Rattle.psnr.specs.Inner.Walk.{word_most, squares_from}
+use Rattle.psnr.proofs.Squares.{squares_none}
+use Rattle.locate.specs.Map.{tile_side}
+use Rattle.locate.proofs.Sums.{sample_more}
+use Rattle.locate.proofs.tiles.piece16.Goals as goal
+
+pub loop-x-init : goal.loop-x-init
+loop-x-init c = (search rules, sym (squares_none _ _ _ _), search rules)
+
+pub overflow_add-from_a : goal.overflow_add-from_a
+overflow_add-from_a c = omega (arith, c.requires.0)
+
+pub offset_bounds-a-from_a : goal.offset_bounds-a-from_a
+offset_bounds-a-from_a c = omega (arith, c.requires.0)
+
+pub overflow_add-from_b : goal.overflow_add-from_b
+overflow_add-from_b c = omega (arith, c.requires.1)
+
+pub offset_bounds-b-from_b : goal.offset_bounds-b-from_b
+offset_bounds-b-from_b c = omega (arith, c.requires.1)
+
+pub overflow_add-sum : goal.overflow_add-sum
+unfolding tile_side
+overflow_add-sum c = omega (arith, c.square16.ensures.1, c.loop-x.invariant.2, c.requires.2)
+
+pub loop-x-preserved : goal.loop-x-preserved
+loop-x-preserved c = (
+  search rules,
+  sample_more _ _ _ _ _ c.loop-x.invariant.1 c.square16.ensures.0,
+  omega (arith, c.square16.ensures.1, c.loop-x.invariant.2),
+)
+
+pub returns : goal.returns
+unfolding tile_side
+returns c = let e : c.loop-x.x ≡ c.args.n = omega arith in
+    (rw e at c.loop-x.invariant.1, omega (arith, c.loop-x.invariant.2, c.requires.2))

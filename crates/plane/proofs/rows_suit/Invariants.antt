@@ -1,0 +1,18 @@
+-- `plane::rows_suit` meets its contract. The loop's invariant: the flag is the test of the rows passed. Assumes nothing.
+use mathlib.Core.Path.{◌≡◌, sym}
+use Prim.Native.Nat.{◌≤◌, ◌-◌}
+use native.Mathlib.Omega.{arith}
+use borrow.Author.Rules.{rules}
+use Rattle.plane.specs.Plane.{all_to}
+use Rattle.plane.specs.Inner.Lent.{plane_in}
+use Rattle.plane.specs.Tests.{row_suits}
+use Rattle.plane.proofs.All.{all_none, all_more}
+use Rattle.plane.proofs.Rows.{row_inside}
+use Rattle.plane.proofs.rows_suit.Given as goal
+
+abbrev pub invariant-loop-y : goal.invariant-loop-y
+invariant-loop-y l =
+    (l.y ≤ l.size.height) × (l.ok ≡ all_to (row_suits l.max l.size.width (plane_in l.size l.bytes l.words l.stride)) l.y)
+
+abbrev pub decreases-loop-y : goal.decreases-loop-y
+decreases-loop-y l = l.size.height - l.y

@@ -1,0 +1,17 @@
+-- `block_at` loads two blocks and takes them in. Assumes nothing.
+use Rattle.psnr_hvs.proofs.Blocks.{block_length, block_samples}
+use borrow.Author.Rules.{rules}
+use Rattle.psnr_hvs.proofs.block.block_at.Goals as goal
+
+pub with_block-requires : goal.with_block-requires
+with_block-requires c =
+    let one = c.loaded-p1.ensures in
+    let two = c.loaded-p2.ensures in
+    record {
+      p1_len = (rw one (block_length _ _ _), rw two (block_length _ _ _));
+      samples = rw one (block_samples _ _ _ _ c.requires.bounded_pair.first c.requires.block_fits);
+      samples_2 = rw two (block_samples _ _ _ _ c.requires.bounded_pair.second c.requires.block_fits);
+    }
+
+pub returns : goal.returns
+returns c = rw (c.with_block.ensures, c.loaded-p2.ensures, c.loaded-p1.ensures)

@@ -1,0 +1,17 @@
+-- `row_ring::score_rows` meets its contract. Assumes nothing.
+use mathlib.Core.Path.{◌≡◌, refl, sym, ap, ◌∙◌}
+use Prim.Native.Nat.{◌-◌, ◌≤◌}
+use native.Mathlib.Omega.{arith}
+use borrow.Author.Rules.{rules}
+use lib.ListN.{length}
+use Rattle.row_ring.specs.Ring.{ring_a, ring_b}
+use Rattle.row_ring.specs.Taken.{rows_from}
+use Rattle.row_ring.proofs.Rows.{rows_none, rows_more}
+use Rattle.row_ring.proofs.score_rows.Given as goal
+
+abbrev pub invariant-loop-y : goal.invariant-loop-y
+invariant-loop-y l = (l.from ≤ l.y) × (l.y ≤ l.upto) × (l.s ≡ l.initial.s)
+    × (l.t ≡ rows_from l.max2 l.kernel l.ring.width l.ring.height (ring_a l.initial.s l.ring.width l.ring.lines) (ring_b l.initial.s l.ring.width l.ring.lines) l.initial.t l.from (l.y - l.from))
+
+abbrev pub decreases-loop-y : goal.decreases-loop-y
+decreases-loop-y l = l.upto - l.y

@@ -1,0 +1,44 @@
+-- `row_ring::take_row` meets its contract. Assumes nothing.
+use mathlib.Core.Path.{◌≡◌, ◌∙◌}
+use Prim.Native.Nat.{ℕ, ◌+◌, ◌*◌, ◌%◌, ◌≤◌}
+use native.Mathlib.Nat.{le_refl}
+use native.Mathlib.Omega.{arith}
+use borrow.Author.Rules.{rules}
+use Rattle.row_ring.specs.Ring.{ring_places}
+use Rattle.row_ring.proofs.Rings.{slot_inside}
+use Rattle.row_ring.proofs.take_row.Goals as goal
+
+pub overflow_mul-to : goal.overflow_mul-to
+overflow_mul-to c =
+    let slot : c.args.row % c.args.ring.lines * c.args.ring.width + c.args.ring.width ≤ ring_places c.args.ring = slot_inside c.args.ring.width c.args.ring.lines c.args.row (ring_places c.args.ring) (omega arith) (le_refl _) in
+    omega (arith, slot)
+
+pub store_row-requires : goal.store_row-requires
+store_row-requires c =
+    let slot : c.args.row % c.args.ring.lines * c.args.ring.width + c.args.ring.width ≤ ring_places c.args.ring = slot_inside c.args.ring.width c.args.ring.lines c.args.row (ring_places c.args.ring) (omega arith) (le_refl _) in
+    record {
+      i_lt_height = omega (arith, slot);
+      long = c.requires.long;
+      long_2 = c.requires.long_2;
+    }
+
+pub score_rows-requires : goal.score_rows-requires
+score_rows-requires c =
+    let slot : c.args.row % c.args.ring.lines * c.args.ring.width + c.args.ring.width ≤ ring_places c.args.ring = slot_inside c.args.ring.width c.args.ring.lines c.args.row (ring_places c.args.ring) (omega arith) (le_refl _) in
+    let r = c.store_row in
+    record {
+      from_le_upto = omega arith;
+      roomy = omega (arith, r.auto.1.1.1.1.1.1.1.0);
+      clean = λ j l. r.ensures.after j (omega (arith, slot)) ∙ c.requires.clean j l;
+      kernel = c.requires.kernel.0;
+      lent_total_value = c.requires.kernel.1;
+    }
+
+pub returns : goal.returns
+returns c =
+    let r = c.score_rows in
+    let e = c.requires.i_lt_height.1 in
+    record {
+      value = rw r.ensures.1 r.ensures.0;
+      put = rw r.ensures.1 (rw e at c.store_row.ensures);
+    }

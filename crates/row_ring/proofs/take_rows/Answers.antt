@@ -1,0 +1,76 @@
+-- `row_ring::take_rows` meets its contract: the rows before i are taken. Assumes nothing.
+use mathlib.Core.Path.{◌≡◌, refl, sym, ◌∙◌}
+use Prim.Native.Nat.{ℕ, ◌+◌, ◌-◌, ◌*◌, ◌/◌, ◌≤◌, ◌<◌}
+use native.Mathlib.Nat.{le_refl}
+use native.Mathlib.Omega.{arith}
+use borrow.Author.Rules.{rules}
+use lib.ListN.{length}
+use Rattle.plane.specs.Plane.{Planes}
+use Rattle.plane.specs.Inner.Lent.{planes, planes_in}
+use Rattle.plane.proofs.Limits.{side_small}
+use Rattle.row_ring.specs.Taken.{taken_of, Kept}
+use Rattle.row_ring.specs.Ring.{ring_places}
+use Rattle.row_ring.specs.Inner.Places.{Clean}
+use Rattle.row_ring.proofs.Rings.{slot_inside}
+use Rattle.row_ring.proofs.Rows.{scored_most, scored_grows}
+use Rattle.row_ring.proofs.Taken.{taken_none, taken_more}
+use Rattle.row_ring.proofs.take_rows.Goals as goal
+
+pub loop-i-init : goal.loop-i-init
+loop-i-init c = (search rules, refl, c.requires.clean, sym (taken_none _ _ _ _ _ _))
+
+pub overflow_add-row-in-loop-i : goal.overflow_add-row-in-loop-i
+overflow_add-row-in-loop-i c = omega (arith, side_small)
+
+pub take_row-t-requires : goal.take_row-t-requires
+take_row-t-requires c =
+    let l = c.loop-i in
+    let off = length c.args.kernel.now / 2 in
+    let row = c.args.received + l.i in
+    let long = c.requires.long (omega arith) in
+    record {
+      i_lt_height = omega (
+        arith,
+        c.scored_after-from.ensures,
+        c.scored_after-upto.ensures,
+        scored_grows row c.args.ring.height off (omega arith),
+        scored_most (row + 1) c.args.ring.height off (omega arith),
+      );
+      long = long.0;
+      long_2 = long.1;
+      roomy = omega (arith, l.invariant.1);
+      clean = l.invariant.2;
+      kernel = c.requires.kernel.0;
+      lent_total_value = c.requires.kernel.1;
+    }
+
+pub overflow_step-i : goal.overflow_step-i
+overflow_step-i c = omega (arith, c.loop-i-test.true, c.requires.height_bound, side_small)
+
+pub loop-i-preserved : goal.loop-i-preserved
+loop-i-preserved c =
+    let group : Planes = planes c.args.layout c.args.a8 c.args.a16 c.args.b8 c.args.b16 in
+    let before : Kept = record { places = c.args.s.now; totals = c.args.t } in
+    let some-lines : 0 < c.args.ring.lines = omega (arith, c.requires.roomy.0, c.requires.kernel.odd) in
+    let l = c.loop-i in
+    let ring = c.args.ring in
+    let r = c.take_row-t in
+    let new = r.new.1.1.1.1.1.1.1.1.1.1.1.1.1.0 in
+    let kept = r.auto.1.1.1.1.1.1.1.1.1.1.1.1.1.0 in
+    let n = ring_places ring in
+    let some = some-lines in
+    let low = slot_inside ring.width ring.lines (c.args.received + l.i) n some (le_refl n) in (
+      omega (arith, c.loop-i-test.true),
+      kept ∙ l.invariant.1,
+      λ j m. r.ensures.1.after j (omega (arith, low)) ∙ l.invariant.2 j m,
+      taken_more c.args.max2 c.args.kernel.now ring group c.args.received before l.i l.s-1 new l.t _ _ _ l.invariant.3
+          r.ensures.1 kept r.ensures.0 c.scored_after-from.ensures c.scored_after-upto.ensures
+          some (omega (arith, l.invariant.1, c.requires.roomy.1)),
+    )
+
+pub shape_of-s : goal.shape_of-s
+shape_of-s c = c.loop-i.invariant.1
+
+pub returns : goal.returns
+returns c = let e : c.loop-i.i ≡ c.args.layout.size.height = omega arith in
+    rw e at c.loop-i.invariant.3

@@ -1,0 +1,116 @@
+-- `ssim::walk::rows` meets its contract: the rows above y are scored, and the margins are zero. Assumes nothing.
+use mathlib.Core.Path.{◌≡◌, refl, sym, ◌∙◌}
+use mathlib.Core.List.{List}
+use Prim.Native.Nat.{ℕ, ◌+◌, ◌≤◌, ◌-◌, ◌*◌, ◌/◌}
+use native.Mathlib.Omega.{arith}
+use borrow.Author.Rules.{rules}
+use borrow.Rule.Slice.PartMut.{mid_of, same_len_mid}
+use lib.IntN.{ℤ}
+use lib.ListN.{length}
+use Rattle.plane.specs.Plane.{sample_at}
+use Rattle.plane.proofs.Limits.{side_small}
+use Rattle.window.specs.Inner.Columns.{OnGrid, on_grid, on_grid_in, Margins}
+use Rattle.kernel.proofs.Says.{taps_room}
+use Rattle.window.proofs.Sums.Windows.{weight_le}
+use Rattle.window.proofs.Sums.Held.{part_length, all_sums, margins_kept}
+use Rattle.ssim.specs.Inner.Walk.{totals_on}
+use Rattle.ssim.proofs.Same.{totals_none, totals_more}
+use Rattle.ssim.proofs.walk.rows.Goals as goal
+
+pub overflow_mul-start : goal.overflow_mul-start
+overflow_mul-start c = omega (arith, side_small, taps_room)
+
+pub overflow_mul-end : goal.overflow_mul-end
+overflow_mul-end c = omega (arith, side_small, taps_room)
+
+pub overflow_add-end : goal.overflow_add-end
+overflow_add-end c = omega (arith, side_small, taps_room)
+
+pub loop-y-init : goal.loop-y-init
+loop-y-init c = (search rules, refl, c.requires.margins, sym (totals_none _ _ _ _ _ _))
+
+pub offset_bounds-cols-start : goal.offset_bounds-cols-start
+offset_bounds-cols-start c = omega (arith, taps_room)
+
+pub fill-requires : goal.fill-requires
+fill-requires c =
+    let start : ℕ = 5 * (length c.args.kernel.now / 2) in
+    let count : ℕ = start + 5 * c.args.grid.width - start in
+    let room : start + count ≤ length c.loop-y.cols-1 = omega arith in
+    record {
+      y_lt_height = omega (arith, part_length start count c.loop-y.cols-1 room);
+      kernel = c.requires.kernel;
+      summable = c.requires.summable (omega arith);
+    }
+
+pub weight-down-requires : goal.weight-down-requires
+weight-down-requires c =
+    record {
+      x_lt_side = omega arith;
+      kernel = c.requires.kernel;
+      total_value = c.requires.total_value;
+    }
+
+pub centres-t-requires : goal.centres-t-requires
+centres-t-requires c =
+    let both : OnGrid = on_grid c.args.grid c.args.a8 c.args.a16 c.args.a32 c.args.b8 c.args.b16 c.args.b32 in
+    let start : ℕ = 5 * (length c.args.kernel.now / 2) in
+    let count : ℕ = start + 5 * c.args.grid.width - start in
+    let room : start + count ≤ length c.loop-y.cols-1 = omega arith in
+    let turn : tie.At-loop invariant-loop decreases-loop = c in
+    let filled : List ℤ = c.fill.new.1.1.1.1.1.1.1.1.1.0 in
+    let kept : length filled ≡ length (mid_of (start (begun turn)) (count (begun turn)) turn.loop-y.cols-1) = c.fill.auto.1.1.1.1.1.1.1.1.1.0 in
+    let same : length filled ≡ count (begun turn) = kept ∙ part_length (start (begun turn)) (count (begun turn)) turn.loop-y.cols-1 (room turn) in
+    let s = begun turn in
+    let l = turn.loop-y in
+    let small = s.requires.summable (omega arith) in
+    record {
+      width_le_side_limit = omega (
+        arith,
+        same_len_mid (start s) (count s) l.cols-1 filled kept,
+        weight_le s.args.kernel.now s.args.grid.height l.y s.requires.kernel,
+      );
+      kernel = s.requires.kernel;
+      total_value = s.requires.total_value;
+      column_sums = all_sums l.cols-1 filled (count s) s.args.kernel.now s.args.grid.width s.args.grid.height
+          (sample_at (both s).a)
+          (sample_at (both s).b) l.y c.fill.ensures l.invariant.2 (omega arith) (omega arith) same
+          s.requires.kernel small.first.small small.second.small;
+    }
+
+pub overflow_step-y : goal.overflow_step-y
+overflow_step-y c =
+    let turn : tie.At-loop invariant-loop decreases-loop = c in
+    let s = begun turn in
+    omega (arith, side_small, s.requires.width_le_side_limit)
+
+pub loop-y-preserved : goal.loop-y-preserved
+loop-y-preserved c =
+    let both : OnGrid = on_grid c.args.grid c.args.a8 c.args.a16 c.args.a32 c.args.b8 c.args.b16 c.args.b32 in
+    let start : ℕ = 5 * (length c.args.kernel.now / 2) in
+    let count : ℕ = start + 5 * c.args.grid.width - start in
+    let room : start + count ≤ length c.loop-y.cols-1 = omega arith in
+    let turn : tie.At-loop invariant-loop decreases-loop = c in
+    let filled : List ℤ = c.fill.new.1.1.1.1.1.1.1.1.1.0 in
+    let kept : length filled ≡ length (mid_of (start (begun turn)) (count (begun turn)) turn.loop-y.cols-1) = c.fill.auto.1.1.1.1.1.1.1.1.1.0 in
+    let same : length filled ≡ count (begun turn) = kept ∙ part_length (start (begun turn)) (count (begun turn)) turn.loop-y.cols-1 (room turn) in
+    let s = begun turn in
+    let l = turn.loop-y in (
+      search rules,
+      same_len_mid (start s) (count s) l.cols-1 filled kept ∙ l.invariant.1,
+      margins_kept l.cols-1 filled (count s) s.args.kernel.now s.args.grid.width s.args.grid.height
+          (sample_at (both s).a)
+          (sample_at (both s).b) l.y c.fill.ensures l.invariant.2 (omega arith) (omega arith) same,
+      rw (c.centres-t.ensures, c.weight-down.ensures, l.invariant.3)
+          (totals_more s.args.max2 s.args.kernel.now s.args.grid.width s.args.grid.height
+          (sample_at (both s).a)
+          (sample_at (both s).b)
+          l.cols-1 filled (count s) l.y c.fill.ensures l.invariant.2 (omega arith) (omega arith) same),
+    )
+
+pub shape_of-cols : goal.shape_of-cols
+shape_of-cols c = c.loop-y.invariant.1
+
+pub returns : goal.returns
+returns c = let e : c.loop-y.y ≡ c.args.grid.height = omega arith in
+    rw e at c.loop-y.invariant.3
