@@ -127,8 +127,8 @@ def public_files(source):
 
 def sources(root, *kinds):
     """The files of these kinds in the crates, but for what the kit keeps in `out`."""
-    for kind in kinds:
-        yield from sorted(path for path in root.glob(f"crates/*/**/*.{kind}") if path.relative_to(root).parts[2] != "out")
+    folders = sorted(path for path in root.glob("crates/*/*") if path.name != "out")
+    return [path for kind in kinds for folder in folders for path in sorted(folder.glob(f"**/*.{kind}"))]
 
 
 def libraries(root):
