@@ -164,6 +164,7 @@ pub fn of_summed(s: Summed) -> Decibels
 }
 
 // Of a lent run of records.
+#[tactic(auto, using(crate::proofs::Series::series_summed))]
 pub fn of_series(records: &[Record]) -> Decibels
     ensures { result ≡ series_decibels records.now }
 {

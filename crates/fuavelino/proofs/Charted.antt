@@ -23,7 +23,7 @@ use Rattle.ssim.specs.Scratch.{scratch_places}
 use Rattle.ssim.specs.Answer.{lent_tests, pair_or9, ssim_score, ssim_refusal, ssim_of}
 use Rattle.fuavelino.specs.Kernel.{kernel_number, count_written}
 use Rattle.fuavelino.specs.Ssim.{ssim_number}
-use Rattle.places.proofs.Enough.{others, plane_others}
+use Rattle.fuavelino.proofs.Enough.{others, plane_others}
 
 -- ---- a lawful kernel is not refused with 7
 after_lawful : (t : Bool) → first_broken ((kernel_no, true) ∷ (scratch_no, t) ∷ []) ≡ kernel_no → ⊥

@@ -5,6 +5,7 @@ pub mod Hvs
 pub mod Kernel
 pub mod Locate
 pub mod Msssim
+pub mod Places
 pub mod Psnr
 pub mod Root
 pub mod Rows

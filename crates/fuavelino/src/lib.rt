@@ -18,7 +18,7 @@ pub mod hvs_calls;
 pub mod kernel_calls;
 pub mod locate_calls;
 pub mod msssim_calls;
-pub mod places_calls;
+pub mod places;
 pub mod plain_calls;
 pub mod psnr_calls;
 pub mod rows_calls;

@@ -3,6 +3,7 @@ use mathlib.Core.Path.{◌≡◌, refl}
 use mathlib.Core.List.{List, [], ◌∷◌, ◌++◌, append_assoc}
 use Prim.Native.Nat.{ℕ, zero, suc, ◌+◌, ◌≤◌, ◌<◌, ◌^◌}
 use native.Mathlib.Nat.{not-suc-le-zero, le_of_suc-le-suc}
+use native.Mathlib.Numerals.{add-one}
 use native.Mathlib.Omega.{arith}
 use lib.Dec.{lit≤}
 use lib.ListN.{length, get_or, take, drop, length-append}
@@ -14,12 +15,16 @@ starts_head : (from : ℕ) (rows : List Row) → get_or (starts_from from rows) 
 starts_head from [] = refl
 starts_head from (row ∷ later) = refl
 
+ends_suc : (rows : List Row) (from k : ℕ) → k < length rows
+    → get_or (starts_from from rows) (suc k) 0 ≡ get_or (starts_from from rows) k 0 + length (get_or (kernels_in rows) k [])
+ends_suc [] from k l = absurd (not-suc-le-zero l)
+ends_suc (row ∷ later) from zero l = starts_head _ later
+ends_suc (row ∷ later) from (suc k) l = ends_suc later _ k (le_of_suc-le-suc l)
+
 -- a row ends where the next one starts
 pub ends : (rows : List Row) (from k : ℕ) → k < length rows
-    → get_or (starts_from from rows) (suc k) 0 ≡ get_or (starts_from from rows) k 0 + length (get_or (kernels_in rows) k [])
-ends [] from k l = absurd (not-suc-le-zero l)
-ends (row ∷ later) from zero l = starts_head _ later
-ends (row ∷ later) from (suc k) l = ends later _ k (le_of_suc-le-suc l)
+    → get_or (starts_from from rows) (k + 1) 0 ≡ get_or (starts_from from rows) k 0 + length (get_or (kernels_in rows) k [])
+ends rows from k l = rw add-one (ends_suc rows from k l)
 
 -- all of it stands among the taps of all, and from its start on its own taps, then those of the later ones
 abbrev Stands : List Row → List ℕ → ℕ → Type 0
@@ -44,10 +49,10 @@ pub cut : (rows : List Row) (k : ℕ) → k < length rows
     → take (length (get_or (kernels_in rows) k [])) (drop (get_or (starts_from 0 rows) k 0) (all_taps rows)) ≡ get_or (kernels_in rows) k []
 cut rows k l = rw (stands rows [] k l).1 (take-append_seam _ _)
 
--- there are few rows, and few taps
-pub rows_room : length chart ≤ 2 ^ 32
+-- there are fourteen rows, and few taps
+pub rows_count : length chart ≡ 14
 unfolding chart
-rows_room = lit≤ tt
+rows_count = refl
 
 pub taps_room : length (all_taps chart) ≤ 2 ^ 32
 unfolding chart

@@ -1,5 +1,6 @@
 mod Copy
 mod Places
 mod Flat
+mod Row
 pub mod Answer
 pub mod Lawful

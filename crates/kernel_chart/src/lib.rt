@@ -42,6 +42,7 @@ fn tap_at(i: usize) -> u16
 }
 
 // Which row has this height, counted from 0; as many as there are where none has.
+#[tactic(auto, using(crate::proofs::Flat::rows_count, crate::proofs::Places::place_steps))]
 fn find(height: usize) -> usize
     ensures { result ≡ place_in chart height }
 {
@@ -54,6 +55,7 @@ fn find(height: usize) -> usize
 }
 
 // Writes n taps, of all from a place on, to the first places of `taps`, where these are enough.
+#[tactic(auto, using(crate::proofs::Flat::taps_room))]
 fn put(from: usize, n: usize, taps: &mut [u16]) -> Charted
     requires { from + n ≤ length (all_taps chart) }
     ensures value { result ≡ answer_by (room_refusal n (length taps.old)) n }
@@ -70,6 +72,7 @@ fn put(from: usize, n: usize, taps: &mut [u16]) -> Charted
 }
 
 // The kernel for planes of this height, to the first places of `taps`.
+#[tactic(auto, using(crate::proofs::Row::row_facts))]
 pub fn kernel_for(height: usize, taps: &mut [u16]) -> Charted
     ensures value { result ≡ charted_of height taps.old }
     ensures taps_after { taps.new ≡ taps_after height taps.old }

@@ -113,7 +113,7 @@ module _ (p : Planes) where
       → (y : ℕ) → y < n → SmallRow sample_limit size.width q y
   unfolding row_suits
   row_small r q n s y l x k =
-      let depth = le_trans (depth_says size.wide size.depth r.depth_suits).1 (deepest size.wide) in
+      let depth = le_trans (depth_says size.wide size.depth r.depth_suits_lem).1 (deepest size.wide) in
       le_trans (none_at max _ size.width (all_at _ n s y l) x k) (max_grows depth)
 
   pub rows_below : Readable p → (y : ℕ) → y ≤ size.height → suit_to y ≡ true → error_to p y < total_limit

@@ -1,6 +1,6 @@
 -- Which doubles are whole numbers from 0 to `exact_limit`: one is whole exactly where it comes back, bit for bit, from the whole number that is
 -- left when its fraction is cut off. Assumes nothing.
-use Rattle.std.proofs.Common.{◌≡◌, ℕ, ◌+◌, ◌*◌, ◌/◌, ◌^◌, ◌<◌, ◌≤◌, Bool, true, false, not, T, eqb, pos, sym, refl, ap, ◌∙◌, subst, lt_of_le_of_lt, arith, lit<, lit≤, le→leb, lt→ltb, leb→le, ltb-false, eq-eqb, ne_eqb}
+use Rattle.std.proofs.Common.{◌≡◌, ℕ, ◌+◌, ◌*◌, ◌/◌, ◌^◌, ◌≤◌, Bool, true, false, not, T, eqb, pos, sym, refl, ap, ◌∙◌, subst, lt_of_le_of_lt, arith, lit<, lit≤, le→leb, lt→ltb, leb→le, ltb-false, eq-eqb, ne_eqb}
 use mathlib.Core.Bool.{and-false}
 use native.Mathlib.Nat.{div-le_of_le-mul}
 use borrow.Author.Tests.{not-false}

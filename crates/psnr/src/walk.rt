@@ -17,6 +17,7 @@ pub enum Walked {
 }
 
 // (a - b)², of bytes and of words.
+#[tactic(auto, unfolding(crate::specs::Squared::square_of))]
 pub fn square8(a: u8, b: u8) -> u32
     ensures { (result ≡ square_of a b) × (result ≤ word_most) }
 {
@@ -24,6 +25,7 @@ pub fn square8(a: u8, b: u8) -> u32
     (d as u32) * (d as u32)
 }
 
+#[tactic(auto, unfolding(crate::specs::Squared::square_of))]
 pub fn square16(a: u16, b: u16) -> u32
     ensures { (result ≡ square_of a b) × (result ≤ word_most * word_most) }
 {

@@ -13,9 +13,11 @@ mod ssim_rows;
 mod table;
 mod tell;
 
-fn main() {
-    root::replay_others();
-    series::replay();
-    rows::replay_plain();
-    rows::replay_scores();
+use std::io;
+
+fn main(rt: HostRuntime) -> io::Result<()> {
+    root::replay_others(&rt)?;
+    series::replay(&rt)?;
+    rows::replay_plain(&rt)?;
+    rows::replay_scores(&rt)
 }

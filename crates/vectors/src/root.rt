@@ -3,6 +3,7 @@ ghost use Rattle.std.specs.Prelude.{◌<◌};
 
 use crate::{table, tell};
 use number::Rooted;
+use std::io;
 
 // Number i of the table.
 fn entry(i: usize) -> f64 {
@@ -24,12 +25,12 @@ pub fn pair_is(i: usize) -> bool
     root_is(entry(2 * i), entry(2 * i + 1))
 }
 
-pub fn replay_others() {
+pub fn replay_others(rt: &impl Print) -> io::Result<()> {
     let infinity = 1.0 / 0.0;
     let list = [
         root_is(infinity, -1.0),
         root_is(-infinity, -1.0),
         root_is(0.0 / 0.0, -1.0),
     ];
-    tell::held(b"infinities and not a number: ", &list);
+    tell::held(rt, "infinities and not a number", &list)
 }

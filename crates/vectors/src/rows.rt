@@ -3,6 +3,7 @@ ghost use Rattle.std.specs.Prelude.{◌≤◌, ◌<◌};
 
 use crate::{dct_rows, hvs_rows, msssim_rows, planes, psnr_rows, root, ssim_rows, table, tell};
 use plane::Size;
+use std::io;
 
 // The families that have a table.
 #[derive(Clone, Copy)]
@@ -125,29 +126,30 @@ fn right_ones(family: Family, first: usize, end: usize) -> usize
     right
 }
 
-fn replay(name: &[u8], family: Family, first: usize, end: usize)
+fn replay(rt: &impl Print, name: &str, family: Family, first: usize, end: usize) -> io::Result<()>
     requires { (first ≤ end) × (end ≤ 4096) }
 {
-    tell::line(name, right_ones(family, first, end), end - first);
+    tell::line(rt, name, right_ones(family, first, end), end - first)
 }
 
 // SCOPE's numbers that are run are among these: the root of 2; depths 8, 9, 12, 13 and sides of 16,384 and 16,385 in the plane
 // checks; the kernel 128 0 128 in SSIM; side 7 in PSNR-HVS; sides 15 and 16 in MS-SSIM. Totals are in src/series.rt: planes of the
 // largest error, 2^53 and one more.
-pub fn replay_plain() {
-    replay(b"roots: ", Family::Root, 0, table::PAIRS);
-    replay(b"transforms: ", Family::Transform, 0, table::BLOCKS);
-    replay(b"plane checks: ", Family::Check, 0, table::CHECKS);
+pub fn replay_plain(rt: &impl Print) -> io::Result<()> {
+    replay(rt, "roots", Family::Root, 0, table::PAIRS)?;
+    replay(rt, "transforms", Family::Transform, 0, table::BLOCKS)?;
+    replay(rt, "plane checks", Family::Check, 0, table::CHECKS)?;
     replay(
-        b"squared errors: ",
+        rt,
+        "squared errors",
         Family::SquaredError,
         table::CHECKS,
         table::SQUARED,
-    );
+    )
 }
 
-pub fn replay_scores() {
-    replay(b"SSIM: ", Family::Ssim, table::SQUARED, table::SSIM);
-    replay(b"PSNR-HVS: ", Family::PsnrHvs, table::SSIM, table::HVS);
-    replay(b"MS-SSIM: ", Family::MsSsim, table::HVS, table::MSSSIM);
+pub fn replay_scores(rt: &impl Print) -> io::Result<()> {
+    replay(rt, "SSIM", Family::Ssim, table::SQUARED, table::SSIM)?;
+    replay(rt, "PSNR-HVS", Family::PsnrHvs, table::SSIM, table::HVS)?;
+    replay(rt, "MS-SSIM", Family::MsSsim, table::HVS, table::MSSSIM)
 }

@@ -2,6 +2,7 @@
 use crate::tell;
 use psnr::judge::COUNT_LIMIT;
 use psnr::{Record, Run, Summed, Total};
+use std::io;
 
 // The largest sample of depth 12.
 const MAX: u32 = 4095;
@@ -80,7 +81,7 @@ fn spoils(sq_err: f64, n: u64, sample_max: u32) -> bool {
 }
 
 // One, two and three planes of the largest error; the totals 2^53 and one more.
-fn totals() {
+fn totals(rt: &impl Print) -> io::Result<()> {
     let list = [
         sums_to(largest(1), 0, MOST, 268435456, MAX),
         sums_to(largest(2), 0, 9002801745100800.0, 536870912, MAX),
@@ -95,22 +96,22 @@ fn totals() {
         sums_to(three(4397509640193.0), refusal::TOTAL, 0.0, 0, 0),
         sums_to(two(0.0, 3, 255), 0, 9.0, 5, 255),
     ];
-    tell::held(b"series: ", &list);
+    tell::held(rt, "series", &list)
 }
 
 // No record, the most and one more; and a largest sample that no depth has.
-fn counts() {
+fn counts(rt: &impl Print) -> io::Result<()> {
     let list = [
         sums_to(equal(0, 1), refusal::RECORD, 0.0, 0, 0),
         sums_to(equal(65536, 1), 0, 0.0, 327680, 1),
         sums_to(equal(65537, 1), refusal::RECORD, 0.0, 0, 0),
         sums_to(equal(1, 254), refusal::RECORD, 0.0, 0, 0),
     ];
-    tell::held(b"series of equal records: ", &list);
+    tell::held(rt, "series of equal records", &list)
 }
 
 // Records that spoil a series.
-fn spoiled() {
+fn spoiled(rt: &impl Print) -> io::Result<()> {
     let list = [
         spoils(-0.0, 3, 255),
         spoils(0.5, 3, 255),
@@ -120,7 +121,7 @@ fn spoiled() {
         spoils(1.0, COUNT_LIMIT + 1, 255),
         spoils(1.0, 3, 127),
     ];
-    tell::held(b"spoiled series: ", &list);
+    tell::held(rt, "spoiled series", &list)
 }
 
 // Records of two frames, each with its plane.
@@ -138,7 +139,7 @@ fn falls(f: u32, p: u32, g: u32, q: u32) -> bool {
 }
 
 // Frames and planes that rise, that do not, and a plane that no frame has.
-fn ordered() {
+fn ordered(rt: &impl Print) -> io::Result<()> {
     let list = [
         rises(0, 2, 1, 0),
         rises(5, 1, 5, 2),
@@ -150,12 +151,12 @@ fn ordered() {
         falls(0, 0, 1, 3),
         falls(0, 3, 1, 0),
     ];
-    tell::held(b"frames and planes: ", &list);
+    tell::held(rt, "frames and planes", &list)
 }
 
-pub fn replay() {
-    totals();
-    counts();
-    spoiled();
-    ordered();
+pub fn replay(rt: &impl Print) -> io::Result<()> {
+    totals(rt)?;
+    counts(rt)?;
+    spoiled(rt)?;
+    ordered(rt)
 }

@@ -1,12 +1,9 @@
 // What the replays share: the line that each prints, parts of what is lent, and numbers compared.
 use crate::table;
+use std::io;
 
-pub fn line(name: &[u8], right: usize, all: usize) {
-    io::write_all(1, name);
-    io::print_decimal(1, right as u64);
-    io::write_all(1, b" of ");
-    io::print_decimal(1, all as u64);
-    io::write_all(1, b"\n");
+pub fn line(rt: &impl Print, name: &str, right: usize, all: usize) -> io::Result<()> {
+    println!(rt; "{name}: {right} of {all}")
 }
 
 // How many of `list` hold.
@@ -22,8 +19,8 @@ fn count(list: &[bool]) -> usize {
     right
 }
 
-pub fn held(name: &[u8], list: &[bool]) {
-    line(name, count(list), list.len());
+pub fn held(rt: &impl Print, name: &str, list: &[bool]) -> io::Result<()> {
+    line(rt, name, count(list), list.len())
 }
 
 // A part of bytes, and nothing where they are not there.

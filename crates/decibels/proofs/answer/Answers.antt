@@ -2,7 +2,6 @@
 use mathlib.Core.Path.{◌≡◌, refl, ap, ◌∙◌}
 use Prim.Native.Nat.{ℕ, zero, suc, ◌+◌, ◌*◌, ◌^◌}
 use native.Mathlib.Omega.{arith}
-use borrow.Author.Rules.{rules}
 use Rattle.decibels.specs.declared.Decibels.TheVariants.{Hundredths}
 use Rattle.decibels.specs.Hundredths.{place_count, power_of, place_of, hundredths_of}
 use Rattle.decibels.specs.Answer.{decibels_of}

@@ -1,6 +1,5 @@
 -- `decibels::of_summed` meets its contract. Assumes nothing.
 use mathlib.Core.Path.{◌≡◌, sym, ap, ◌∙◌}
-use borrow.Author.Rules.{rules}
 use Rattle.psnr.specs.declared.Total.{Total}
 use Rattle.psnr.specs.declared.Summed.{Summed}
 use Rattle.psnr.specs.declared.Summed.TheVariants.{Differs, Identical}

@@ -1,7 +1,6 @@
 -- `decibels::of_total` meets its contract. Assumes nothing.
 use mathlib.Core.Path.{◌≡◌, sym, subst}
 use mathlib.Core.Bool.{true}
-use borrow.Author.Rules.{rules}
 use lib.Dec.{T}
 use Rattle.refusal.proofs.Chain.{fails, holds}
 use Rattle.decibels.specs.Answer.{total_suits, total_decibels}

@@ -1,7 +1,7 @@
 -- `decibels::place` meets its contract. The invariant: the entry at low fits, and that at high, where there is one, does not. The measure is their
 -- distance. Assumes nothing.
 use mathlib.Core.Path.{◌≡◌, refl, sym}
-use Prim.Native.Nat.{◌+◌, ◌-◌, ◌*◌, ◌≤◌, ◌<◌}
+use Prim.Native.Nat.{◌+◌}
 use native.Mathlib.Nat.{mul_comm, mul-le-mul, lt_of_le_of_lt}
 use native.Mathlib.Omega.{arith}
 use borrow.Author.Rules.{rules}
@@ -20,6 +20,10 @@ times-most-requires c = product_room c.requires.error_bound.1 (omega arith)
 pub loop-low-init : goal.loop-low-init
 unfolding place_count chart_unit
 loop-low-init c = (omega arith, omega arith, rw c.times-most.ensures (mul-le-mul c.requires.error_bound.0 entry_first), λ l. absurd (omega arith))
+
+pub overflow_add-mid : goal.overflow_add-mid
+unfolding place_count
+overflow_add-mid c = search rules
 
 pub entry-requires : goal.entry-requires
 entry-requires c = (c.requires.entries_value, omega arith)

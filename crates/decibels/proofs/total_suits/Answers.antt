@@ -4,7 +4,6 @@ use mathlib.Core.Bool.{true, false, not, ◌&&◌, and-false}
 use Prim.Native.Nat.{ℕ, ◌*◌, ◌≤◌}
 use native.Mathlib.Decide.{dec_le}
 use native.Mathlib.Omega.{arith}
-use borrow.Author.Rules.{rules}
 use borrow.Author.Tests.{not-true, not-false, le-leb, lt-leb, lt-ltb, le-ltb}
 use lib.Dec.{T, leb, ltb}
 use Rattle.refusal.proofs.Chain.{fails, holds}

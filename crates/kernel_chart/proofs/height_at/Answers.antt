@@ -8,6 +8,10 @@ pub offset_bounds-k : goal.offset_bounds-k
 unfolding chart
 offset_bounds-k c = omega (arith, c.requires)
 
+pub bounds-k : goal.bounds-k
+unfolding chart
+bounds-k c = omega (arith, c.requires)
+
 pub returns : goal.returns
 unfolding chart
 returns c = refl

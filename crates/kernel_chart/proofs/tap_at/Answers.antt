@@ -8,6 +8,10 @@ pub offset_bounds-i : goal.offset_bounds-i
 unfolding chart
 offset_bounds-i c = omega (arith, c.requires)
 
+pub bounds-i : goal.bounds-i
+unfolding chart
+bounds-i c = omega (arith, c.requires)
+
 pub returns : goal.returns
 unfolding chart
 returns c = refl

@@ -1,5 +1,5 @@
 -- `psnr::add_record` meets its contract. Assumes nothing.
-use Rattle.std.proofs.Common.{◌≡◌, ◌<◌, ◌≤◌, true, false, T, sym, subst, rules, le-ltb, lt-ltb}
+use Rattle.std.proofs.Common.{◌≡◌, ◌<◌, ◌≤◌, true, false, T, sym, subst, le-ltb, lt-ltb}
 use mathlib.Core.Bool.{and-false}
 use Rattle.refusal.proofs.Chain.{fails, holds}
 use Rattle.psnr.specs.declared.Record.{Record}

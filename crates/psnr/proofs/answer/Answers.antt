@@ -1,5 +1,5 @@
 -- `psnr::answer` meets its contract: 1 to 5 are judged first, 6 on the walk, 10 last. Assumes nothing.
-use Rattle.std.proofs.Common.{◌≡◌, ℕ, zero, suc, sym, refl, ◌∙◌, le_refl, le_of_lt, arith, rules}
+use Rattle.std.proofs.Common.{◌≡◌, ℕ, zero, suc, sym, refl, ◌∙◌, le_refl, le_of_lt, arith}
 use Rattle.refusal.proofs.Chain.{refused, fails, holds}
 use Rattle.plane.specs.Plane.{Planes}
 use Rattle.plane.specs.Tests.{pair_refusal}

@@ -1,5 +1,4 @@
 -- `psnr::rises` meets its contract. Assumes nothing.
-use Rattle.std.proofs.Common.{rules}
 use Rattle.psnr.specs.Inner.Fold.{rises}
 use Rattle.psnr.proofs.rises.Goals as goal
 

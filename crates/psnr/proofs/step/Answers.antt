@@ -1,5 +1,5 @@
 -- `psnr::step` meets its contract. Assumes nothing.
-use Rattle.std.proofs.Common.{sym, ap, ◌∙◌, rules}
+use Rattle.std.proofs.Common.{sym, ap, ◌∙◌}
 use Rattle.psnr.specs.declared.Run.{Run}
 use Rattle.psnr.specs.Inner.Fold.{run_step}
 use Rattle.psnr.proofs.step.Goals as goal

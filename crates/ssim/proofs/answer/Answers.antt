@@ -1,6 +1,5 @@
 -- `ssim::answer` meets its contract. Assumes nothing.
 use mathlib.Core.Path.{sym, ◌∙◌}
-use borrow.Author.Rules.{rules}
 use Rattle.refusal.proofs.Chain.{refused}
 use Rattle.ssim.proofs.Accept.{sound}
 use Rattle.ssim.proofs.answer.Goals as goal
@@ -15,6 +14,7 @@ returns-then-no-ne0 c =
 pub score-requires : goal.score-requires
 score-requires c = sound _ _ _ c.refusal-no.ensures c.if-no-ne0.false
 
--- TODO clauses: value, scratch_after
 pub returns : goal.returns
-returns c = rw (sym c.refusal-no.ensures ∙ c.if-no-ne0.false) c.score.ensures
+returns c =
+    let none = sym c.refusal-no.ensures ∙ c.if-no-ne0.false in
+    record { value = rw none c.score.ensures.value; scratch_after = rw none c.score.ensures.scratch_after }

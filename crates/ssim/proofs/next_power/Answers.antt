@@ -1,11 +1,9 @@
 -- `ssim::next_power` meets its contract. Assumes nothing.
 use mathlib.Core.Path.{◌≡◌, sym}
-use Prim.Native.Nat.{ℕ, ◌≤◌, ◌-◌, ◌*◌}
 use native.Mathlib.Omega.{arith}
 use borrow.Author.Rules.{rules}
-use Rattle.number.specs.Steps.{fold_to}
 use Rattle.number.proofs.Folds.{fold_more, fold_none}
-use Rattle.ssim.specs.Scratch.{doubled_below, next_power}
+use Rattle.ssim.specs.Scratch.{next_power}
 use Rattle.ssim.proofs.Powers.{doubled_le}
 use Rattle.ssim.proofs.next_power.Goals as goal
 

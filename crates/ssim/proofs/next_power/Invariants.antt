@@ -1,12 +1,8 @@
 -- `ssim::next_power` meets its contract. Assumes nothing.
-use mathlib.Core.Path.{◌≡◌, sym}
+use mathlib.Core.Path.{◌≡◌}
 use Prim.Native.Nat.{ℕ, ◌≤◌, ◌-◌, ◌*◌}
-use native.Mathlib.Omega.{arith}
-use borrow.Author.Rules.{rules}
 use Rattle.number.specs.Steps.{fold_to}
-use Rattle.number.proofs.Folds.{fold_more, fold_none}
-use Rattle.ssim.specs.Scratch.{doubled_below, next_power}
-use Rattle.ssim.proofs.Powers.{doubled_le}
+use Rattle.ssim.specs.Scratch.{doubled_below}
 use Rattle.ssim.proofs.next_power.Given as goal
 
 abbrev pub invariant-loop-i : goal.invariant-loop-i

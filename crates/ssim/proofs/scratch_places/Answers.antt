@@ -1,7 +1,6 @@
 -- `ssim::scratch_places` meets its contract. Assumes nothing.
 use native.Mathlib.Nat.{mul-le-mul}
 use native.Mathlib.Omega.{arith}
-use borrow.Author.Rules.{rules}
 use Prim.Native.Nat.{◌≤◌, ◌*◌, ◌^◌}
 use Rattle.plane.proofs.Limits.{side_small}
 use Rattle.kernel.proofs.Says.{taps_room}

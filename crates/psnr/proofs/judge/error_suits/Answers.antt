@@ -1,5 +1,5 @@
 -- `psnr::judge::error_suits` meets its contract. Assumes nothing.
-use Rattle.std.proofs.Common.{T, sym, subst, rules}
+use Rattle.std.proofs.Common.{T, sym, subst}
 use Rattle.refusal.proofs.Chain.{fails, holds}
 use Rattle.psnr.specs.Record.{error_suits}
 use Rattle.psnr.proofs.judge.error_suits.Goals as goal

@@ -1,5 +1,4 @@
 -- `psnr::judge::joins` meets its contract. Assumes nothing.
-use Rattle.std.proofs.Common.{rules}
 use Rattle.psnr.specs.Record.{joins}
 use Rattle.psnr.proofs.judge.joins.Goals as goal
 

@@ -1,8 +1,7 @@
 -- `psnr::judge::max_suits` meets its contract. Assumes nothing.
-use Rattle.std.proofs.Common.{◌≡◌, ℕ, ◌+◌, ◌-◌, ◌≤◌, true, eqb, sym, arith, rules}
+use Rattle.std.proofs.Common.{◌≡◌, true, sym, arith, rules}
 use Rattle.plane.specs.Limits.{most_depth}
-use Rattle.plane.specs.Plane.{max_of}
-use Rattle.psnr.specs.Record.{some_to, max_suits}
+use Rattle.psnr.specs.Record.{max_suits}
 use Rattle.psnr.proofs.Records.{some_none, some_more}
 use Rattle.psnr.proofs.judge.max_suits.Goals as goal
 

@@ -1,5 +1,5 @@
 -- `psnr::judge::record_suits` meets its contract. Assumes nothing.
-use Rattle.std.proofs.Common.{◌≡◌, true, rules}
+use Rattle.std.proofs.Common.{◌≡◌, true}
 use mathlib.Core.Bool.{and-false}
 use Rattle.refusal.proofs.Chain.{fails, holds}
 use Rattle.psnr.specs.Record.{count_suits, max_suits, record_suits}

@@ -1,12 +1,8 @@
 -- `psnr::walk::part16` meets its contract. The loop's invariant: the sum, modulo 2^32, and the bits are those of the samples passed.
 -- Assumes nothing.
-use Rattle.std.proofs.Common.{◌≡◌, ◌-◌, ◌%◌, ◌^◌, ◌≤◌, length, sym, arith, rules}
+use Rattle.std.proofs.Common.{◌≡◌, ◌%◌, ◌^◌, ◌≤◌, length}
 use Rattle.psnr.specs.Inner.Walk.{squares_in, bits_in}
-use Rattle.psnr.proofs.Parts.{in_none, in_wrapped, bits_none, bits_next}
 use Rattle.psnr.proofs.walk.part16.Given as goal
 
 abbrev pub invariant-loop-x : goal.invariant-loop-x
 invariant-loop-x l = (l.x ≤ length l.a) × (l.sum ≡ squares_in l.a l.b l.x % 2 ^ 32) × (l.bits ≡ bits_in l.a l.b l.x)
-
-abbrev pub decreases-loop-x : goal.decreases-loop-x
-decreases-loop-x l = length l.a - l.x

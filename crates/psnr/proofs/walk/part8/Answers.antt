@@ -1,8 +1,7 @@
 -- `psnr::walk::part8` meets its contract. The loop's invariant: the sum is that of the samples passed, and no larger than so many words.
 -- Assumes nothing.
-use Rattle.std.proofs.Common.{◌≡◌, ◌-◌, ◌*◌, ◌≤◌, length, sym, arith, rules}
+use Rattle.std.proofs.Common.{◌≡◌, length, sym, arith, rules}
 use Rattle.plane.proofs.Limits.{side_small}
-use Rattle.psnr.specs.Inner.Walk.{word_most, squares_in}
 use Rattle.psnr.proofs.Parts.{in_none, in_next}
 use Rattle.psnr.proofs.walk.part8.Goals as goal
 

@@ -1,13 +1,8 @@
 -- `psnr::walk::part8` meets its contract. The loop's invariant: the sum is that of the samples passed, and no larger than so many words.
 -- Assumes nothing.
-use Rattle.std.proofs.Common.{◌≡◌, ◌-◌, ◌*◌, ◌≤◌, length, sym, arith, rules}
-use Rattle.plane.proofs.Limits.{side_small}
+use Rattle.std.proofs.Common.{◌≡◌, ◌*◌, ◌≤◌, length}
 use Rattle.psnr.specs.Inner.Walk.{word_most, squares_in}
-use Rattle.psnr.proofs.Parts.{in_none, in_next}
 use Rattle.psnr.proofs.walk.part8.Given as goal
 
 abbrev pub invariant-loop-x : goal.invariant-loop-x
 invariant-loop-x l = (l.x ≤ length l.a) × (l.sum ≡ squares_in l.a l.b l.x) × (l.sum ≤ l.x * word_most)
-
-abbrev pub decreases-loop-x : goal.decreases-loop-x
-decreases-loop-x l = length l.a - l.x

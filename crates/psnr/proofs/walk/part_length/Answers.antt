@@ -1,5 +1,5 @@
 -- `psnr::walk::part_length` meets its contract. Assumes nothing.
-use Rattle.std.proofs.Common.{arith, rules}
+use Rattle.std.proofs.Common.{arith}
 use Rattle.psnr.proofs.Parts.{depth_half, part_shifted}
 use Rattle.psnr.proofs.walk.part_length.Goals as goal
 

@@ -5,7 +5,7 @@ use Rattle.plane.specs.Plane.{max_of}
 use Rattle.plane.proofs.Depth.{depth_small}
 use Rattle.plane.proofs.Limits.{side_small}
 use Rattle.plane.proofs.Rows.{cut}
-use Rattle.psnr.specs.Inner.Walk.{squares_in, bits_in, part_length, pair_suits, row_walked}
+use Rattle.psnr.specs.Inner.Walk.{bits_in, part_length, row_walked}
 use Rattle.psnr.proofs.Parts.{cut_pair, in_none, in_cut, depth_half, part_some, suits_none, suits_small}
 use Rattle.psnr.proofs.Parts.{cut_suits, cut_breaks, cut_whole, found_above, found_sum}
 use Rattle.psnr.proofs.walk.row16.Goals as goal

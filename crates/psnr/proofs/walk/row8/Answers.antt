@@ -1,5 +1,4 @@
 -- `psnr::walk::row8` meets its contract. Assumes nothing.
-use Rattle.std.proofs.Common.{rules}
 use Rattle.refusal.proofs.Chain.{fails, holds}
 use Rattle.psnr.specs.Inner.Walk.{row_walked}
 use Rattle.psnr.proofs.Parts.{found_broken, found_sum}

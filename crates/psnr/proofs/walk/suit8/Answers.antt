@@ -1,5 +1,5 @@
 -- `psnr::walk::suit8` meets its contract, also where it reads nothing. Assumes nothing.
-use Rattle.std.proofs.Common.{false, ◌&&◌, length, sym, ap, ◌∙◌, ap₂, arith, rules}
+use Rattle.std.proofs.Common.{false, ◌&&◌, length, sym, ap, ◌∙◌, ap₂, arith}
 use Rattle.plane.specs.Plane.{at}
 use Rattle.plane.specs.Tests.{none_above}
 use Rattle.plane.proofs.Depth.{depth_small}

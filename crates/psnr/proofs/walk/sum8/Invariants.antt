@@ -1,10 +1,7 @@
 -- `psnr::walk::sum8` meets its contract. The loop's invariant: the sum is that of the parts passed, and no larger than so many words.
 -- Assumes nothing.
-use Rattle.std.proofs.Common.{◌≡◌, ℕ, ◌+◌, ◌-◌, ◌*◌, ◌≤◌, length, sym, le_refl, arith, rules}
-use Rattle.plane.proofs.Limits.{side_small}
-use Rattle.plane.proofs.Rows.{cut_length}
+use Rattle.std.proofs.Common.{◌≡◌, ◌-◌, ◌*◌, ◌≤◌}
 use Rattle.psnr.specs.Inner.Walk.{word_most, squares_in}
-use Rattle.psnr.proofs.Parts.{cut_pair, in_none, in_cut}
 use Rattle.psnr.proofs.walk.sum8.Given as goal
 
 abbrev pub invariant-loop-x : goal.invariant-loop-x

@@ -1,5 +1,4 @@
 -- `ssim::centre::pair` meets its contract. Assumes nothing.
-use borrow.Author.Rules.{rules}
 use Rattle.ssim.proofs.centre.pair.Goals as goal
 
 pub returns-then-finite : goal.returns-then-finite

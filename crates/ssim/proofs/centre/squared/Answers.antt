@@ -2,7 +2,6 @@
 use Prim.Native.Nat.{◌^◌, ◌-◌, ◌≤◌}
 use native.Mathlib.Nat.{mul-le-mul}
 use native.Mathlib.Omega.{arith}
-use borrow.Author.Rules.{rules}
 use Rattle.ssim.proofs.centre.squared.Goals as goal
 
 pub overflow_mul-max : goal.overflow_mul-max

@@ -1,5 +1,4 @@
 -- `ssim::centre::step` meets its contract: the six numbers are converted, and the steps are those of the definition. Assumes nothing.
-use borrow.Author.Rules.{rules}
 use Rattle.ssim.specs.Score.{with_centre}
 use Rattle.ssim.proofs.centre.step.Goals as goal
 

@@ -1,11 +1,8 @@
 -- `ssim::walk::centres` meets its contract. Assumes nothing.
 use mathlib.Core.Path.{◌≡◌, sym}
-use Prim.Native.Nat.{◌≤◌, ◌-◌}
 use native.Mathlib.Omega.{arith}
 use borrow.Author.Rules.{rules}
 use Rattle.number.proofs.Folds.{fold_more, fold_none}
-use Rattle.window.specs.Inner.Columns.{moments_in}
-use Rattle.ssim.specs.Score.{row_of}
 use Rattle.ssim.proofs.walk.centres.Goals as goal
 
 pub loop-x-init : goal.loop-x-init
@@ -15,9 +12,9 @@ pub moments_at-requires : goal.moments_at-requires
 moments_at-requires c =
     record {
       x_lt_width = omega arith;
-      kernel = c.requires.kernel.0;
-      total_value = c.requires.kernel.1;
-      column_sums = c.requires.kernel.2;
+      kernel = c.requires.kernel;
+      total_value = c.requires.total_value;
+      column_sums = c.requires.column_sums;
     }
 
 pub loop-x-preserved : goal.loop-x-preserved

@@ -1,9 +1,6 @@
 -- `ssim::walk::centres` meets its contract. Assumes nothing.
-use mathlib.Core.Path.{◌≡◌, sym}
+use mathlib.Core.Path.{◌≡◌}
 use Prim.Native.Nat.{◌≤◌, ◌-◌}
-use native.Mathlib.Omega.{arith}
-use borrow.Author.Rules.{rules}
-use Rattle.number.proofs.Folds.{fold_more, fold_none}
 use Rattle.window.specs.Inner.Columns.{moments_in}
 use Rattle.ssim.specs.Score.{row_of}
 use Rattle.ssim.proofs.walk.centres.Given as goal

@@ -1,13 +1,9 @@
 -- `ssim::walk::clear` meets its contract. Assumes nothing.
-use mathlib.Core.Path.{◌≡◌, refl}
-use mathlib.Core.List.{◌++◌, append-nil}
+use mathlib.Core.Path.{◌≡◌}
+use mathlib.Core.List.{◌++◌}
 use Prim.Native.Nat.{◌≤◌, ◌-◌}
-use native.Mathlib.Nat.{le_refl}
-use native.Mathlib.Omega.{arith}
-use borrow.Author.Rules.{rules}
 use lib.IntN.{pos}
-use lib.ListN.{length, replicate, drop, length-set, drop_of_length-le}
-use Rattle.ssim.proofs.Zeros.{fill_more}
+use lib.ListN.{length, replicate, drop}
 use Rattle.ssim.proofs.walk.clear.Given as goal
 
 abbrev pub invariant-loop-i : goal.invariant-loop-i

@@ -9,11 +9,10 @@ use lib.IntN.{ℤ}
 use lib.ListN.{length}
 use Rattle.plane.specs.Plane.{sample_at}
 use Rattle.plane.proofs.Limits.{side_small}
-use Rattle.window.specs.Inner.Columns.{OnGrid, on_grid, on_grid_in, Margins}
+use Rattle.window.specs.Inner.Columns.{OnGrid, on_grid}
 use Rattle.kernel.proofs.Says.{taps_room}
 use Rattle.window.proofs.Sums.Windows.{weight_le}
 use Rattle.window.proofs.Sums.Held.{part_length, all_sums, margins_kept}
-use Rattle.ssim.specs.Inner.Walk.{totals_on}
 use Rattle.ssim.proofs.Same.{totals_none, totals_more}
 use Rattle.ssim.proofs.walk.rows.Goals as goal
 
@@ -36,9 +35,9 @@ pub fill-requires : goal.fill-requires
 fill-requires c =
     let start : ℕ = 5 * (length c.args.kernel.now / 2) in
     let count : ℕ = start + 5 * c.args.grid.width - start in
-    let room : start + count ≤ length c.loop-y.cols-1 = omega arith in
+    let room : start + count ≤ length c.loop-y.cols = omega arith in
     record {
-      y_lt_height = omega (arith, part_length start count c.loop-y.cols-1 room);
+      y_lt_height = omega (arith, part_length start count c.loop-y.cols room);
       kernel = c.requires.kernel;
       summable = c.requires.summable (omega arith);
     }
@@ -56,56 +55,37 @@ centres-t-requires c =
     let both : OnGrid = on_grid c.args.grid c.args.a8 c.args.a16 c.args.a32 c.args.b8 c.args.b16 c.args.b32 in
     let start : ℕ = 5 * (length c.args.kernel.now / 2) in
     let count : ℕ = start + 5 * c.args.grid.width - start in
-    let room : start + count ≤ length c.loop-y.cols-1 = omega arith in
-    let turn : tie.At-loop invariant-loop decreases-loop = c in
-    let filled : List ℤ = c.fill.new.1.1.1.1.1.1.1.1.1.0 in
-    let kept : length filled ≡ length (mid_of (start (begun turn)) (count (begun turn)) turn.loop-y.cols-1) = c.fill.auto.1.1.1.1.1.1.1.1.1.0 in
-    let same : length filled ≡ count (begun turn) = kept ∙ part_length (start (begun turn)) (count (begun turn)) turn.loop-y.cols-1 (room turn) in
-    let s = begun turn in
-    let l = turn.loop-y in
-    let small = s.requires.summable (omega arith) in
+    let old : List ℤ = c.loop-y.cols in
+    let filled : List ℤ = c.fill.new.cols in
+    let room : start + count ≤ length old = omega arith in
+    let kept : length filled ≡ length (mid_of start count old) = c.fill.auto.cols in
+    let same : length filled ≡ count = kept ∙ part_length start count old room in
+    let small = c.requires.summable (omega arith) in
     record {
-      width_le_side_limit = omega (
-        arith,
-        same_len_mid (start s) (count s) l.cols-1 filled kept,
-        weight_le s.args.kernel.now s.args.grid.height l.y s.requires.kernel,
-      );
-      kernel = s.requires.kernel;
-      total_value = s.requires.total_value;
-      column_sums = all_sums l.cols-1 filled (count s) s.args.kernel.now s.args.grid.width s.args.grid.height
-          (sample_at (both s).a)
-          (sample_at (both s).b) l.y c.fill.ensures l.invariant.2 (omega arith) (omega arith) same
-          s.requires.kernel small.first.small small.second.small;
+      width_le_side_limit = omega (arith, same_len_mid start count old filled kept, weight_le c.args.kernel.now c.args.grid.height c.loop-y.y c.requires.kernel);
+      kernel = c.requires.kernel;
+      total_value = c.requires.total_value;
+      column_sums = all_sums old filled count c.args.kernel.now c.args.grid.width c.args.grid.height (sample_at both.a) (sample_at both.b)
+          c.loop-y.y c.fill.ensures c.loop-y.invariant.2 (omega arith) (omega arith) same c.requires.kernel small.first.small small.second.small;
     }
-
-pub overflow_step-y : goal.overflow_step-y
-overflow_step-y c =
-    let turn : tie.At-loop invariant-loop decreases-loop = c in
-    let s = begun turn in
-    omega (arith, side_small, s.requires.width_le_side_limit)
 
 pub loop-y-preserved : goal.loop-y-preserved
 loop-y-preserved c =
     let both : OnGrid = on_grid c.args.grid c.args.a8 c.args.a16 c.args.a32 c.args.b8 c.args.b16 c.args.b32 in
     let start : ℕ = 5 * (length c.args.kernel.now / 2) in
     let count : ℕ = start + 5 * c.args.grid.width - start in
-    let room : start + count ≤ length c.loop-y.cols-1 = omega arith in
-    let turn : tie.At-loop invariant-loop decreases-loop = c in
-    let filled : List ℤ = c.fill.new.1.1.1.1.1.1.1.1.1.0 in
-    let kept : length filled ≡ length (mid_of (start (begun turn)) (count (begun turn)) turn.loop-y.cols-1) = c.fill.auto.1.1.1.1.1.1.1.1.1.0 in
-    let same : length filled ≡ count (begun turn) = kept ∙ part_length (start (begun turn)) (count (begun turn)) turn.loop-y.cols-1 (room turn) in
-    let s = begun turn in
-    let l = turn.loop-y in (
+    let old : List ℤ = c.loop-y.cols in
+    let filled : List ℤ = c.fill.new.cols in
+    let room : start + count ≤ length old = omega arith in
+    let kept : length filled ≡ length (mid_of start count old) = c.fill.auto.cols in
+    let same : length filled ≡ count = kept ∙ part_length start count old room in (
       search rules,
-      same_len_mid (start s) (count s) l.cols-1 filled kept ∙ l.invariant.1,
-      margins_kept l.cols-1 filled (count s) s.args.kernel.now s.args.grid.width s.args.grid.height
-          (sample_at (both s).a)
-          (sample_at (both s).b) l.y c.fill.ensures l.invariant.2 (omega arith) (omega arith) same,
-      rw (c.centres-t.ensures, c.weight-down.ensures, l.invariant.3)
-          (totals_more s.args.max2 s.args.kernel.now s.args.grid.width s.args.grid.height
-          (sample_at (both s).a)
-          (sample_at (both s).b)
-          l.cols-1 filled (count s) l.y c.fill.ensures l.invariant.2 (omega arith) (omega arith) same),
+      same_len_mid start count old filled kept ∙ c.loop-y.invariant.1,
+      margins_kept old filled count c.args.kernel.now c.args.grid.width c.args.grid.height (sample_at both.a) (sample_at both.b)
+          c.loop-y.y c.fill.ensures c.loop-y.invariant.2 (omega arith) (omega arith) same,
+      rw (c.centres-t.ensures, c.weight-down.ensures, c.loop-y.invariant.3)
+          (totals_more c.args.max2 c.args.kernel.now c.args.grid.width c.args.grid.height (sample_at both.a) (sample_at both.b)
+          old filled count c.loop-y.y c.fill.ensures c.loop-y.invariant.2 (omega arith) (omega arith) same),
     )
 
 pub shape_of-cols : goal.shape_of-cols

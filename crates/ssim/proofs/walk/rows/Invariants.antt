@@ -1,20 +1,9 @@
 -- `ssim::walk::rows` meets its contract: the rows above y are scored, and the margins are zero. Assumes nothing.
-use mathlib.Core.Path.{◌≡◌, refl, sym, ◌∙◌}
-use mathlib.Core.List.{List}
-use Prim.Native.Nat.{ℕ, ◌+◌, ◌≤◌, ◌-◌, ◌*◌, ◌/◌}
-use native.Mathlib.Omega.{arith}
-use borrow.Author.Rules.{rules}
-use borrow.Rule.Slice.PartMut.{mid_of, same_len_mid}
-use lib.IntN.{ℤ}
+use mathlib.Core.Path.{◌≡◌}
+use Prim.Native.Nat.{◌≤◌, ◌-◌}
 use lib.ListN.{length}
-use Rattle.plane.specs.Plane.{sample_at}
-use Rattle.plane.proofs.Limits.{side_small}
-use Rattle.window.specs.Inner.Columns.{OnGrid, on_grid, on_grid_in, Margins}
-use Rattle.kernel.proofs.Says.{taps_room}
-use Rattle.window.proofs.Sums.Windows.{weight_le}
-use Rattle.window.proofs.Sums.Held.{part_length, all_sums, margins_kept}
+use Rattle.window.specs.Inner.Columns.{on_grid_in, Margins}
 use Rattle.ssim.specs.Inner.Walk.{totals_on}
-use Rattle.ssim.proofs.Same.{totals_none, totals_more}
 use Rattle.ssim.proofs.walk.rows.Given as goal
 
 abbrev pub invariant-loop-y : goal.invariant-loop-y

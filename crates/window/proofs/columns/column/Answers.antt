@@ -1,36 +1,34 @@
 -- `window::columns::column` meets its contract. Assumes nothing.
-use borrow.Author.Rules.{rules}
 use Rattle.window.proofs.columns.column.Goals as goal
 
--- each looks back to where all slices are known, to where those of the first plane are, and to the start
 pub column8-requires : goal.column8-requires
 column8-requires c =
     let p = rw c.in-Bytes.is at c.requires in
     record {
-      x_lt_width = p.0;
-      kernel = p.1.0;
-      bounded = p.1.1.first;
-      bounded_2 = p.1.1.second;
+      x_lt_width = p.x_lt_width;
+      kernel = p.kernel;
+      bounded = p.summable.first;
+      bounded_2 = p.summable.second;
     }
 
 pub column16-requires : goal.column16-requires
 column16-requires c =
     let p = rw c.in-Words.is at c.requires in
     record {
-      x_lt_width = p.0;
-      kernel = p.1.0;
-      bounded = p.1.1.first;
-      bounded_2 = p.1.1.second;
+      x_lt_width = p.x_lt_width;
+      kernel = p.kernel;
+      bounded = p.summable.first;
+      bounded_2 = p.summable.second;
     }
 
 pub column32-requires : goal.column32-requires
 column32-requires c =
     let p = rw c.in-Longs.is at c.requires in
     record {
-      x_lt_width = p.0;
-      kernel = p.1.0;
-      bounded = p.1.1.first;
-      bounded_2 = p.1.1.second;
+      x_lt_width = p.x_lt_width;
+      kernel = p.kernel;
+      bounded = p.summable.first;
+      bounded_2 = p.summable.second;
     }
 
 pub returns-in-Bytes : goal.returns-in-Bytes

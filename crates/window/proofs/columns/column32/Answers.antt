@@ -1,12 +1,7 @@
 -- `window::columns::column32` meets its contract, by the laws of Column. Assumes nothing.
-use Prim.Native.Nat.{◌≤◌, ◌-◌}
-use mathlib.Core.Path.{◌≡◌}
 use native.Mathlib.Omega.{arith}
-use borrow.Author.Rules.{rules}
-use Rattle.plane.specs.Plane.{plane_of, sample_at}
 use Rattle.plane.proofs.Limits.{side_small}
 use Rattle.plane.proofs.Rows as rows
-use Rattle.window.specs.Inner.Columns.{column_to}
 use Rattle.kernel.proofs.Says.{taps_room}
 use Rattle.window.proofs.Sums.Column.{column_none, column_more, column_room, column_all}
 use Rattle.window.proofs.columns.column32.Goals as goal

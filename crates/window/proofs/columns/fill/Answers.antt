@@ -1,12 +1,11 @@
 -- `window::columns::fill` meets its contract: the columns before x stand there. Assumes nothing.
-use mathlib.Core.Path.{◌≡◌, refl, ◌∙◌}
-use Prim.Native.Nat.{◌≤◌, ◌<◌, ◌-◌, ◌*◌}
+use mathlib.Core.Path.{◌≡◌, refl}
+use Prim.Native.Nat.{◌<◌}
 use native.Mathlib.Omega.{arith}
 use borrow.Author.Rules.{rules}
-use lib.ListN.{length}
 use Rattle.plane.specs.Plane.{sample_at}
 use Rattle.plane.proofs.Limits.{side_small}
-use Rattle.window.specs.Inner.Columns.{OnGrid, on_grid, on_grid_in, HoldsRow}
+use Rattle.window.specs.Inner.Columns.{OnGrid, on_grid}
 use Rattle.window.proofs.Sums.Column.{column_fits}
 use Rattle.window.proofs.Sums.Held.{holds_none, holds_more}
 use Rattle.window.proofs.columns.fill.Goals as goal
@@ -18,8 +17,8 @@ pub column-t-requires : goal.column-t-requires
 column-t-requires c =
     record {
       x_lt_width = omega arith;
-      kernel = c.requires.kernel.0;
-      summable = c.requires.kernel.1;
+      kernel = c.requires.kernel;
+      summable = c.requires.summable;
     }
 
 pub overflow_mul-x : goal.overflow_mul-x
@@ -45,8 +44,8 @@ loop-x-preserved c =
     let both : OnGrid = on_grid c.args.grid c.args.a8 c.args.a16 c.args.a32 c.args.b8 c.args.b16 c.args.b32 in
     let l = c.loop-x in (
       search rules,
-      c.put.auto.1.1.0 ∙ l.invariant.1,
-      holds_more c.args.kernel.now c.args.grid.height (sample_at both.a) (sample_at both.b) c.args.y l.x l.cols-1 _ _
+      search rules,
+      holds_more c.args.kernel.now c.args.grid.height (sample_at both.a) (sample_at both.b) c.args.y l.x l.cols _ _
           c.put.ensures c.column-t.ensures l.invariant.2 (omega arith),
     )
 

@@ -1,14 +1,8 @@
 -- `window::columns::fill` meets its contract: the columns before x stand there. Assumes nothing.
-use mathlib.Core.Path.{◌≡◌, refl, ◌∙◌}
-use Prim.Native.Nat.{◌≤◌, ◌<◌, ◌-◌, ◌*◌}
-use native.Mathlib.Omega.{arith}
-use borrow.Author.Rules.{rules}
+use mathlib.Core.Path.{◌≡◌}
+use Prim.Native.Nat.{◌≤◌, ◌-◌, ◌*◌}
 use lib.ListN.{length}
-use Rattle.plane.specs.Plane.{sample_at}
-use Rattle.plane.proofs.Limits.{side_small}
-use Rattle.window.specs.Inner.Columns.{OnGrid, on_grid, on_grid_in, HoldsRow}
-use Rattle.window.proofs.Sums.Column.{column_fits}
-use Rattle.window.proofs.Sums.Held.{holds_none, holds_more}
+use Rattle.window.specs.Inner.Columns.{on_grid_in, HoldsRow}
 use Rattle.window.proofs.columns.fill.Given as goal
 
 abbrev pub invariant-loop-x : goal.invariant-loop-x

@@ -1,5 +1,4 @@
 -- `window::columns::grid_of` meets its contract. Assumes nothing.
-use borrow.Author.Rules.{rules}
 use Rattle.window.proofs.columns.grid_of.Goals as goal
 
 pub returns : goal.returns

@@ -1,6 +1,5 @@
 -- `window::columns::past` meets its contract. Assumes nothing.
 use native.Mathlib.Omega.{arith}
-use borrow.Author.Rules.{rules}
 use Rattle.plane.proofs.Limits.{side_small}
 use Rattle.kernel.proofs.Says.{taps_room}
 use Rattle.window.proofs.columns.past.Goals as goal

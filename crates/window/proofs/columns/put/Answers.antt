@@ -1,6 +1,5 @@
 -- `window::columns::put` meets its contract. Assumes nothing.
 use native.Mathlib.Omega.{arith}
-use borrow.Author.Rules.{rules}
 use lib.ListN.{length-set}
 use mir.Syntax.{w64}
 use mir.ValLaws.{to_z_pos}

@@ -1,13 +1,9 @@
 -- `window::row::along` meets its contract: k pairs are summed, and the middle. Assumes nothing.
-use mathlib.Core.Path.{◌≡◌, sym, ◌∙◌}
-use Prim.Native.Nat.{ℕ, ◌≤◌, ◌-◌, ◌+◌, ◌*◌, ◌/◌}
-use native.Mathlib.Omega.{arith}
-use borrow.Author.Rules.{rules}
+use mathlib.Core.Path.{◌≡◌}
+use Prim.Native.Nat.{◌≤◌, ◌-◌, ◌/◌}
 use lib.ListN.{length}
 use Rattle.window.specs.Inner.Parts.{folds_of}
 use Rattle.window.specs.Inner.Columns.{cell_of}
-use Rattle.window.proofs.Sums.Five.{nth_five}
-use Rattle.window.proofs.Sums.Folded.{folds_none, folds_more, folds_all, middle_room, folds_room}
 use Rattle.window.proofs.row.along.Given as goal
 
 abbrev pub invariant-loop-k : goal.invariant-loop-k

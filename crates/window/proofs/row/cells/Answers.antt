@@ -1,7 +1,6 @@
 -- `window::row::cells` meets its contract. Assumes nothing.
 use native.Mathlib.Nat.{add-zero}
 use native.Mathlib.Omega.{arith}
-use borrow.Author.Rules.{rules}
 use Rattle.window.proofs.row.cells.Goals as goal
 
 pub get-requires : goal.get-requires

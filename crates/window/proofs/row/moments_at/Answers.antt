@@ -1,7 +1,6 @@
 -- `window::row::moments_at` meets its contract. Assumes nothing.
 use native.Mathlib.Nat.{mul-le-mul}
 use native.Mathlib.Omega.{arith}
-use borrow.Author.Rules.{rules}
 use Rattle.window.specs.Inner.Columns.{moments_in}
 use Rattle.kernel.proofs.Says.{total_room}
 use Rattle.window.proofs.Sums.Windows.{weight_le}

@@ -1,6 +1,5 @@
 -- `window::row::tapped` meets its contract: for each of the five there is room. Assumes nothing.
 use native.Mathlib.Omega.{arith}
-use borrow.Author.Rules.{rules}
 use lib.Dec.{lit<}
 use Rattle.window.proofs.row.tapped.Goals as goal
 

@@ -1,19 +1,14 @@
 -- `window::row::taps_inside` meets its contract. Assumes nothing.
-use mathlib.Core.Path.{◌≡◌, sym, ◌∙◌}
-use Prim.Native.Nat.{ℕ, ◌≤◌, ◌-◌}
+use mathlib.Core.Path.{sym, ◌∙◌}
+use Prim.Native.Nat.{ℕ}
 use native.Mathlib.Omega.{arith}
-use borrow.Author.Rules.{rules}
 use native.Mathlib.Nat.{mul-one, le_refl}
-use Rattle.window.specs.Inner.Parts.{part_of}
 use Rattle.kernel.proofs.Says.{total_room}
 use Rattle.window.proofs.Sums.Windows.{part_more, part_first, part_last, part_room}
 use Rattle.window.proofs.row.taps_inside.Goals as goal
 
 pub loop-k-init : goal.loop-k-init
 loop-k-init c = (omega arith, omega arith, sym (part_first _ _ _ _ _ (omega arith)))
-
-pub overflow_cast-sum : goal.overflow_cast-sum
-overflow_cast-sum c = omega (arith, c.shared_slice_known-in-loop-k-1.given c.loop-k.k)
 
 pub overflow_add-sum : goal.overflow_add-sum
 overflow_add-sum c = let room = part_room _ _ (λ (i : ℕ). 1) _ 1 _ _ c.requires.kernel (λ k a m n. le_refl 1) c.loop-k.invariant.2

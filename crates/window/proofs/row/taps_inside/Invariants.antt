@@ -1,12 +1,7 @@
 -- `window::row::taps_inside` meets its contract. Assumes nothing.
-use mathlib.Core.Path.{◌≡◌, sym, ◌∙◌}
+use mathlib.Core.Path.{◌≡◌}
 use Prim.Native.Nat.{ℕ, ◌≤◌, ◌-◌}
-use native.Mathlib.Omega.{arith}
-use borrow.Author.Rules.{rules}
-use native.Mathlib.Nat.{mul-one, le_refl}
 use Rattle.window.specs.Inner.Parts.{part_of}
-use Rattle.kernel.proofs.Says.{total_room}
-use Rattle.window.proofs.Sums.Windows.{part_more, part_first, part_last, part_room}
 use Rattle.window.proofs.row.taps_inside.Given as goal
 
 abbrev pub invariant-loop-k : goal.invariant-loop-k

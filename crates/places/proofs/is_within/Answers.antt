@@ -1,8 +1,0 @@
--- `places::is_within` meets its contract, which is the code. Assumes nothing.
-use mathlib.Core.Path.{refl}
-use Rattle.places.specs.Places.{within}
-use Rattle.places.proofs.is_within.Goals as goal
-
-pub returns : goal.returns
-unfolding within
-returns c = refl
