@@ -1,7 +1,7 @@
 -- Three planes judged two at a time, the original beside each candidate: of the two refusals the lower is that of all three, and so the two
 -- findings make the answer. Assumes nothing.
-use mathlib.Core.Path.{◌≡◌, refl, sym, ap, ◌∙◌}
-use mathlib.Core.List.{List, [], ◌∷◌}
+use mathlib.Core.Path.{◌≡◌, refl, sym, ◌∙◌}
+use mathlib.Core.List.{[], ◌∷◌}
 use Prim.Native.Nat.{ℕ, zero, suc, min}
 use native.Mathlib.Nat.{suc-min-suc, min_comm, min-le_left, min-le_right, min-eq_left, min-eq_right, le-min, le_refl, le_trans, le_antisymm}
 use native.Mathlib.Omega.{arith}
@@ -11,10 +11,9 @@ use Rattle.plane.specs.Plane.{Plane}
 use Rattle.plane.specs.Tests.{size_tests, layout_tests, plane_refusal, pair_refusal}
 use Rattle.plane.specs.Inner.Lent.{lower_of}
 use Rattle.plane.proofs.Several.{one_more, sizes_stop, sizes_pass, lower_least}
-use Rattle.better.specs.declared.Better.{Better}
 use Rattle.better.specs.declared.Better.TheVariants.{Refused}
 use Rattle.better.specs.declared.Judged.TheVariants as Judged
-use Rattle.better.specs.Better.{Contest, first_pair, second_pair, first_error, second_error, smaller_of, better_refusal, better_of}
+use Rattle.better.specs.Better.{Contest, first_pair, second_pair, first_error, second_error, smaller_of, better_of}
 use Rattle.better.specs.Inner.Judged.{judged_of, decided}
 
 -- ---- the lower of two refusals that share one

@@ -3,7 +3,7 @@
 use mathlib.Core.Path.{◌≡◌, refl, sym, ap, ◌∙◌}
 use mathlib.Core.Bool.{Bool, true, false, cond}
 use mathlib.Core.List.{List, [], ◌∷◌}
-use Prim.Native.Nat.{ℕ, zero, suc, min, ◌+◌, ◌*◌, ◌-◌, ◌≤◌, ◌<◌}
+use Prim.Native.Nat.{ℕ, zero, suc, ◌≤◌, ◌<◌}
 use native.Mathlib.Nat.{le_of_lt}
 use native.Mathlib.Omega.{arith}
 use borrow.Author.Tests.{lt-ltb, le-ltb, ltb-true, ltb-false}
@@ -14,7 +14,6 @@ use Rattle.refusal.specs.First.{by_refusal}
 use Rattle.number.specs.Steps.{double}
 use Rattle.plane.specs.declared.Size.{Size}
 use Rattle.plane.specs.Plane.{Plane}
-use Rattle.plane.specs.Tests.{plane_refusal, pair_refusal}
 use Rattle.plane.specs.Inner.Lent.{lower_of}
 use Rattle.plane.specs.Inner.Lawful.{Lawful, Sized, Equivalent}
 use Rattle.plane.proofs.Accept.{accepted}

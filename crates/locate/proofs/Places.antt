@@ -2,14 +2,17 @@
 use mathlib.Core.Path.{◌≡◌, refl}
 use mathlib.Core.Bool.{Bool, true, false, not, ◌&&◌}
 use mathlib.Core.List.{List}
-use Prim.Native.Nat.{ℕ, zero, suc, ◌+◌, ◌-◌, ◌*◌, ◌<◌}
+use Prim.Native.Nat.{ℕ, zero, suc, ◌+◌, ◌-◌, ◌*◌, ◌≤◌, ◌<◌}
 use native.Mathlib.Nat.{add-suc, add-zero}
 use native.Mathlib.Numerals.{add-one}
 use native.Mathlib.Omega.{arith}
 use borrow.Author.Tests.{eq-eqb, ne_eqb}
 use lib.Dec.{eqb}
+use lib.ListN.{length}
 use Rattle.plane.specs.Plane.{Planes}
 use Rattle.plane.proofs.All.{all_none, all_more, all_at}
+use Rattle.plane.proofs.Rows.{row_inside}
+use Rattle.psnr.specs.Inner.Walk.{Walkable}
 use Rattle.locate.specs.declared.Located.TheVariants.{At, Alike}
 use Rattle.locate.specs.Where.{differ_at, along_to, down_to}
 use Rattle.locate.specs.Inner.Walk.{same_at, alike_from}
@@ -77,3 +80,11 @@ pub row_alike : (p : Planes) (y n : ℕ) → alike_from p.a.samples p.b.samples 
     → along_to (differ_at p) y n ≡ Alike
 unfolding alike_from
 row_alike p y n e = along_quiet (differ_at p) y n (λ x l. rw (all_at _ n e x l))
+
+-- ---- each row ends inside its plane
+module _ {p : Planes} (w : Walkable p) (y : ℕ) (l : y < p.size.height) where
+  pub first_row : y * p.a.stride + p.size.width ≤ length p.a.samples
+  first_row = row_inside _ _ w.bounded.first.long l
+
+  pub second_row : y * p.b.stride + p.size.width ≤ length p.b.samples
+  second_row = row_inside _ _ w.bounded.second.long l

@@ -1,8 +1,8 @@
 -- The map, row of tiles by row of tiles. Assumes nothing.
 use mathlib.Core.Path.{◌≡◌, sym, ap, ◌∙◌}
 use mathlib.Core.List.{List, ◌++◌, append_assoc}
-use Prim.Native.Nat.{ℕ, zero, suc, ◌+◌, ◌-◌, ◌*◌, ◌≤◌}
-use native.Mathlib.Nat.{zero-mul, suc-mul}
+use Prim.Native.Nat.{ℕ, zero, suc, ◌+◌, ◌-◌, ◌*◌, ◌≤◌, ◌<◌}
+use native.Mathlib.Nat.{mul-le-mul_right, zero-mul, suc-mul}
 use native.Mathlib.Numerals.{add-one}
 use native.Mathlib.Omega.{arith}
 use borrow.Rule.Slice.PartMut.{put_mid, post_of}
@@ -12,6 +12,10 @@ use Rattle.number.specs.Steps.{list_to}
 use Rattle.number.proofs.Lists.{list_length}
 use Rattle.plane.specs.Plane.{Planes}
 use Rattle.locate.specs.Map.{across_of, tile_error, map_to}
+
+-- row j of d rows of n
+pub row_room : (j n d : ℕ) → j < d → j * n + n ≤ d * n
+row_room j n d l = omega (arith, mul-le-mul_right n l, suc-mul j n)
 
 module _ (p : Planes) where
   pub map_length : (n : ℕ) → length (map_to p n) ≡ n * across_of p

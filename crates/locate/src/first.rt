@@ -33,6 +33,7 @@ fn alike16(a: &[u16], b: &[u16], from_a: usize, from_b: usize, n: usize) -> bool
 }
 
 // Of bytes: both walks are left at the first place. A row that agrees is passed over as a whole.
+#[tactic(auto, using(crate::proofs::Places::first_row, crate::proofs::Places::second_row, crate::proofs::Places::along_none, crate::proofs::Places::along_more, crate::proofs::Places::down_none, crate::proofs::Places::down_more, crate::proofs::Places::row_alike, crate::proofs::Places::found,))]
 fn first8(a: &[u8], b: &[u8], layout: Layout) -> Located
     requires { Walkable (laid layout a.now b.now) }
     ensures { result ≡ first_difference (laid layout a.now b.now) }
@@ -55,6 +56,7 @@ fn first8(a: &[u8], b: &[u8], layout: Layout) -> Located
 }
 
 // The same of words.
+#[tactic(auto, using(crate::proofs::Places::first_row, crate::proofs::Places::second_row, crate::proofs::Places::along_none, crate::proofs::Places::along_more, crate::proofs::Places::down_none, crate::proofs::Places::down_more, crate::proofs::Places::row_alike, crate::proofs::Places::found,))]
 fn first16(a: &[u16], b: &[u16], layout: Layout) -> Located
     requires { Walkable (laid layout a.now b.now) }
     ensures { result ≡ first_difference (laid layout a.now b.now) }

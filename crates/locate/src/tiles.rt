@@ -32,6 +32,7 @@ pub fn places(width: usize, height: usize) -> usize
 }
 
 // How many of a side's samples lie in tile k.
+#[tactic(auto, unfolding(crate::specs::Map::tile_side, crate::specs::Map::tile_length))]
 fn tile_length(side: usize, k: usize) -> usize
     requires { k * tile_side ≤ side }
     ensures { result ≡ tile_length side k }
@@ -138,6 +139,7 @@ fn tile_row(
 }
 
 // All rows of tiles, one after another, into as many places as there are tiles.
+#[tactic(auto, using(crate::proofs::Rows::map_none, crate::proofs::Rows::map_more))]
 fn tiles(a8: &[u8], a16: &[u16], b8: &[u8], b16: &[u16], layout: Layout, map: &mut [u64])
     requires walkable { Walkable (planes layout a8 a16 b8 b16) }
     requires map_len { length map.old ≡ map_places (planes layout a8 a16 b8 b16) }

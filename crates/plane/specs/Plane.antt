@@ -1,5 +1,5 @@
 -- SCOPE, "What a plane may be". Definitions only.
-use Rattle.std.specs.Prelude.{Bool, true, false, ◌&&◌, List, [], ◌∷◌, ℕ, zero, suc, ◌+◌, ◌*◌, ◌-◌, ◌^◌, get_or}
+use Rattle.std.specs.Prelude.{Bool, true, ◌&&◌, List, [], ◌∷◌, ℕ, zero, suc, ◌+◌, ◌*◌, ◌-◌, ◌^◌, get_or}
 use Rattle.std.specs.Borrow.{Bor}
 use Rattle.plane.specs.Limits.{most_depth}
 use Rattle.plane.specs.declared.Size.{Size}

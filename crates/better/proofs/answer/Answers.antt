@@ -1,6 +1,5 @@
 -- `better::answer` meets its contract: by both findings. Assumes nothing.
 use mathlib.Core.Path.{ap₂, ◌∙◌}
-use borrow.Author.Rules.{rules}
 use Rattle.better.specs.Inner.Judged.{decided}
 use Rattle.better.proofs.Judging.{decided_better}
 use Rattle.better.proofs.answer.Goals as goal

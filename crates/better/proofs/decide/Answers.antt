@@ -1,6 +1,5 @@
 -- `better::decide` meets its contract: by what each finding is. Assumes nothing.
 use mathlib.Core.Path.{ap}
-use borrow.Author.Rules.{rules}
 use Rattle.better.specs.declared.Better.TheVariants.{Refused}
 use Rattle.better.proofs.decide.Goals as goal
 

@@ -1,5 +1,4 @@
 -- `better::smaller` meets its contract. Assumes nothing.
-use borrow.Author.Rules.{rules}
 use borrow.Author.Tests.{lt-ltb, le-ltb}
 use Rattle.better.proofs.smaller.Goals as goal
 

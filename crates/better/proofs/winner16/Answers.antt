@@ -1,5 +1,4 @@
 -- `better::winner16` meets its contract: by what `better16` answered. Assumes nothing.
-use borrow.Author.Rules.{rules}
 use Rattle.better.proofs.winner16.Goals as goal
 
 pub returns-in-First : goal.returns-in-First

@@ -1,5 +1,4 @@
 -- `better::winner8` meets its contract: by what `better8` answered. Assumes nothing.
-use borrow.Author.Rules.{rules}
 use Rattle.better.proofs.winner8.Goals as goal
 
 pub returns-in-First : goal.returns-in-First

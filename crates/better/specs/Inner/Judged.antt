@@ -9,7 +9,6 @@ use Rattle.plane.specs.Tests.{pair_refusal}
 use Rattle.plane.specs.Inner.Lent.{lower_of, lent}
 use Rattle.psnr.specs.Squared.{squared_error_score}
 use Rattle.better.specs.declared.Better.{Better}
-use Rattle.better.specs.declared.Better.TheVariants as Better
 use Rattle.better.specs.declared.Judged.{Judged}
 use Rattle.better.specs.declared.Judged.TheVariants.{Apart, Refused}
 use Rattle.better.specs.Better.{Contest, smaller_of}

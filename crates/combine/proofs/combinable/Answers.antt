@@ -1,5 +1,4 @@
 -- `combine::combinable` meets its contract. Assumes nothing.
-use borrow.Author.Rules.{rules}
 use Rattle.combine.specs.Combine.{combinable}
 use Rattle.combine.proofs.combinable.Goals as goal
 

@@ -1,5 +1,4 @@
 -- `combine::hvs` meets its contract: test by test. Assumes nothing.
-use borrow.Author.Rules.{rules}
 use Rattle.refusal.proofs.Chain.{fails, holds}
 use Rattle.combine.proofs.Answers.{hvs_score_lem, hvs_infinite}
 use Rattle.combine.proofs.hvs.Goals as goal

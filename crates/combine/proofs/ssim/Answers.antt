@@ -1,5 +1,4 @@
 -- `combine::ssim` meets its contract: test by test. Assumes nothing.
-use borrow.Author.Rules.{rules}
 use Rattle.refusal.proofs.Chain.{fails, holds}
 use Rattle.combine.proofs.Answers.{ssim_sum, ssim_infinite}
 use Rattle.combine.proofs.ssim.Goals as goal

@@ -1,5 +1,4 @@
 -- `combine::visual_score` meets its contract. Assumes nothing.
-use borrow.Author.Rules.{rules}
 use Rattle.combine.specs.Combine.{visual_score}
 use Rattle.combine.proofs.visual_score.Goals as goal
 

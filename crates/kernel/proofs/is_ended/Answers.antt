@@ -1,5 +1,4 @@
 -- `kernel::is_ended` meets its contract. Assumes nothing.
-use borrow.Author.Rules.{rules}
 use mathlib.Core.Path.{refl}
 use Rattle.kernel.specs.Kernel.{ended}
 use Rattle.kernel.proofs.is_ended.Goals as goal

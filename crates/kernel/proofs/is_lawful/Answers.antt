@@ -2,7 +2,6 @@
 use mathlib.Core.Path.{◌≡◌, sym, ◌∙◌}
 use mathlib.Core.Bool.{true}
 use native.Mathlib.Omega.{arith}
-use borrow.Author.Rules.{rules}
 use Rattle.kernel.specs.Kernel.{lawful, lent_total, odd_count, taps_suit, sums_to, mirrored, middled}
 use Rattle.kernel.proofs.Says.{odd_says}
 use Rattle.kernel.proofs.is_lawful.Goals as goal

@@ -1,5 +1,4 @@
 -- `kernel::is_middled` meets its contract. Assumes nothing.
-use borrow.Author.Rules.{rules}
 use mathlib.Core.Path.{refl}
 use Rattle.kernel.specs.Kernel.{middled}
 use Rattle.kernel.proofs.is_middled.Goals as goal

@@ -1,13 +1,10 @@
 -- `kernel::is_mirrored` meets its contract. Assumes nothing.
 use mathlib.Core.Path.{◌≡◌, sym}
-use Prim.Native.Nat.{ℕ, ◌≤◌, ◌-◌}
 use native.Mathlib.Omega.{arith}
 use borrow.Author.Rules.{rules}
-use lib.Dec.{eqb}
 use lib.ListN.{length}
-use Rattle.plane.specs.Plane.{all_to}
 use Rattle.plane.proofs.All.{all_none, all_more}
-use Rattle.kernel.specs.Kernel.{tap, mirrored}
+use Rattle.kernel.specs.Kernel.{mirrored}
 use Rattle.kernel.proofs.is_mirrored.Goals as goal
 
 pub loop-k-init : goal.loop-k-init

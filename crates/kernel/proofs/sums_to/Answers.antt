@@ -1,10 +1,9 @@
 -- `kernel::sums_to` meets its contract. Assumes nothing.
 use mathlib.Core.Path.{◌≡◌, sym}
-use Prim.Native.Nat.{ℕ, ◌≤◌, ◌<◌, ◌-◌}
+use Prim.Native.Nat.{ℕ, ◌≤◌, ◌<◌}
 use native.Mathlib.Omega.{arith}
 use borrow.Author.Rules.{rules}
 use lib.ListN.{length}
-use Rattle.plane.specs.Sums.{sum_to}
 use Rattle.plane.proofs.Sums.{sum_none, sum_more, sum_bound}
 use Rattle.kernel.proofs.Says.{taps_room}
 use Rattle.kernel.specs.Kernel.{tap, sums_to}

@@ -1,5 +1,5 @@
 -- `number::root` meets its contract. Assumes nothing.
-use Rattle.std.proofs.Common.{◌≡◌, ℕ, ◌+◌, ◌-◌, ◌*◌, ◌/◌, ◌%◌, ◌^◌, ◌<◌, true, false, not, T, sym, refl, ap, ◌∙◌, subst, arith, rules}
+use Rattle.std.proofs.Common.{◌≡◌, ℕ, ◌+◌, ◌-◌, ◌*◌, ◌/◌, ◌%◌, ◌^◌, ◌<◌, true, false, not, T, sym, refl, ap, ◌∙◌, subst, arith}
 use borrow.Author.Tests.{not-true, not-false}
 use lib.Count.{count_leading_zeros}
 use lib.Ieee.{Float, nan, inf, fin, binary64, is_nan, to_bits, of_bits, units}

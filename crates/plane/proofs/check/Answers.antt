@@ -1,5 +1,4 @@
 -- `plane::check` meets its contract: the tests of the sizes decide where they refuse, else those of the planes. Assumes nothing.
-use borrow.Author.Rules.{rules}
 use Rattle.plane.proofs.Several.{one_more, sizes_stop, sizes_pass, sizes_say}
 use Rattle.plane.proofs.check.Goals as goal
 

@@ -1,6 +1,5 @@
 -- `plane::check_unread` meets its contract: the tests of the sizes decide where they refuse, else those of how the planes are lent.
 -- Assumes nothing.
-use borrow.Author.Rules.{rules}
 use Rattle.plane.proofs.Several.{sizes_stop, sizes_pass, sizes_say}
 use Rattle.plane.proofs.Unread.{lent_both}
 use Rattle.plane.proofs.check_unread.Goals as goal

@@ -1,6 +1,5 @@
 -- `plane::layout_refusal` meets its contract: the tests of how the plane is lent decide where they refuse, else that of what stands in it.
 -- Assumes nothing.
-use borrow.Author.Rules.{rules}
 use Rattle.refusal.proofs.Chain.{fails, holds}
 use Rattle.plane.proofs.Unread.{lent_stop, lent_says, lent_broken, lent_passed}
 use Rattle.plane.proofs.layout_refusal.Goals as goal

@@ -1,7 +1,6 @@
 -- `plane::lent_refusal` meets its contract: each way out is taken by the first test that fails. Assumes nothing.
 use mathlib.Core.Path.{◌≡◌}
 use mathlib.Core.Bool.{true}
-use borrow.Author.Rules.{rules}
 use Rattle.refusal.proofs.Chain.{fails, holds}
 use Rattle.plane.specs.Tests.{stride_suits}
 use Rattle.plane.specs.Inner.Unread.{lent_tests}

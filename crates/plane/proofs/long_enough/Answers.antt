@@ -3,7 +3,6 @@ use native.Mathlib.Omega.{arith}
 use Prim.Native.Nat.{◌-◌}
 use native.Mathlib.Nat.{div-le_self}
 use Rattle.plane.proofs.Rows.{too_short, by_division}
-use borrow.Author.Rules.{rules}
 use Rattle.plane.proofs.long_enough.Goals as goal
 
 pub returns-then-n-width : goal.returns-then-n-width

@@ -5,7 +5,6 @@ use mathlib.Core.Bool.{true}
 use Prim.Native.Nat.{◌+◌, ◌*◌, ◌^◌, ◌<◌}
 use native.Mathlib.Nat.{le_refl}
 use native.Mathlib.Omega.{arith}
-use borrow.Author.Rules.{rules}
 use Rattle.plane.proofs.Depth.{max_small, byte_small}
 use Rattle.plane.proofs.Rows.{count_fits, part_suits}
 use Rattle.plane.proofs.row_suits.Goals as goal

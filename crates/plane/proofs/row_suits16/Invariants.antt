@@ -1,12 +1,9 @@
 -- `plane::row_suits16` meets its contract. The loop's invariant: the flag is the test of the samples passed. Assumes nothing.
-use mathlib.Core.Path.{◌≡◌, sym}
+use mathlib.Core.Path.{◌≡◌}
 use Prim.Native.Nat.{◌≤◌, ◌-◌}
-use native.Mathlib.Omega.{arith}
-use borrow.Author.Rules.{rules}
 use lib.ListN.{length}
 use Rattle.plane.specs.Plane.{at}
 use Rattle.plane.specs.Tests.{none_above}
-use Rattle.plane.proofs.All.{none_none, none_more}
 use Rattle.plane.proofs.row_suits16.Given as goal
 
 abbrev pub invariant-loop-x : goal.invariant-loop-x

@@ -1,13 +1,9 @@
 -- `plane::rows_suit` meets its contract. The loop's invariant: the flag is the test of the rows passed. Assumes nothing.
-use mathlib.Core.Path.{◌≡◌, sym}
+use mathlib.Core.Path.{◌≡◌}
 use Prim.Native.Nat.{◌≤◌, ◌-◌}
-use native.Mathlib.Omega.{arith}
-use borrow.Author.Rules.{rules}
 use Rattle.plane.specs.Plane.{all_to}
 use Rattle.plane.specs.Inner.Lent.{plane_in}
 use Rattle.plane.specs.Tests.{row_suits}
-use Rattle.plane.proofs.All.{all_none, all_more}
-use Rattle.plane.proofs.Rows.{row_inside}
 use Rattle.plane.proofs.rows_suit.Given as goal
 
 abbrev pub invariant-loop-y : goal.invariant-loop-y

@@ -1,7 +1,6 @@
 -- `plane::sample_max` meets its contract. Assumes nothing.
 use native.Mathlib.Omega.{arith}
 use Rattle.plane.proofs.Depth.{shifted}
-use borrow.Author.Rules.{rules}
 use Rattle.plane.proofs.sample_max.Goals as goal
 
 pub overflow_sub-result : goal.overflow_sub-result

@@ -1,10 +1,7 @@
 -- `row_ring::fill` meets its contract: the columns before x stand there, and the ring is as it was. Assumes nothing.
 use mathlib.Core.Path.{◌≡◌, refl, ◌∙◌}
-use Prim.Native.Nat.{◌+◌, ◌*◌, ◌-◌, ◌<◌, ◌≤◌}
 use native.Mathlib.Omega.{arith}
 use borrow.Author.Rules.{rules}
-use lib.ListN.{length}
-use Rattle.window.specs.Inner.Columns.{column_at, Put}
 use Rattle.window.proofs.Sums.Column.{column_fits}
 use Rattle.window.proofs.Sums.Stores.{put_none, put_column}
 use Rattle.row_ring.specs.Ring.{ring_a, ring_b}
@@ -29,9 +26,9 @@ put-requires c =
     let r = c.args.ring in
     record {
       at_in_bounds = omega arith;
-      fits = column_fits c.args.kernel.now r.height (ring_a l.s-1 r.width r.lines) (ring_b l.s-1 r.width r.lines) l.x c.args.y _
+      fits = column_fits c.args.kernel.now r.height (ring_a l.s r.width r.lines) (ring_b l.s r.width r.lines) l.x c.args.y _
           c.column-t.ensures c.requires.kernel
-          (λ i m. ring_small_a l.s-1 r.width r.lines i l.x) (λ i m. ring_small_b l.s-1 r.width r.lines i l.x);
+          (λ i m. ring_small_a l.s r.width r.lines i l.x) (λ i m. ring_small_b l.s r.width r.lines i l.x);
     }
 
 pub loop-x-preserved : goal.loop-x-preserved
@@ -40,11 +37,11 @@ loop-x-preserved c = let l = c.loop-x in
     let old = c.args.s.now in
     let put = c.put in (
       omega arith,
-      put.auto.1.1.0 ∙ l.invariant.1,
-      put_column c.args.kernel.now r.height (ring_a old r.width r.lines) (ring_b old r.width r.lines) c.args.y l.x old l.s-1 _
+      put.auto.cols ∙ l.invariant.1,
+      put_column c.args.kernel.now r.height (ring_a old r.width r.lines) (ring_b old r.width r.lines) c.args.y l.x old l.s _
           c.args.to _ l.invariant.2 put.ensures
           (c.column-t.ensures
-          ∙ column_still old l.s-1 r.width r.lines c.args.to (omega arith) (omega arith) l.invariant.2.before c.args.kernel.now r.height l.x
+          ∙ column_still old l.s r.width r.lines c.args.to (omega arith) (omega arith) l.invariant.2.before c.args.kernel.now r.height l.x
           c.args.y (omega arith))
           (omega arith),
     )

@@ -1,15 +1,9 @@
 -- `row_ring::fill` meets its contract: the columns before x stand there, and the ring is as it was. Assumes nothing.
-use mathlib.Core.Path.{◌≡◌, refl, ◌∙◌}
-use Prim.Native.Nat.{◌+◌, ◌*◌, ◌-◌, ◌<◌, ◌≤◌}
-use native.Mathlib.Omega.{arith}
-use borrow.Author.Rules.{rules}
+use mathlib.Core.Path.{◌≡◌}
+use Prim.Native.Nat.{◌*◌, ◌-◌, ◌≤◌}
 use lib.ListN.{length}
 use Rattle.window.specs.Inner.Columns.{column_at, Put}
-use Rattle.window.proofs.Sums.Column.{column_fits}
-use Rattle.window.proofs.Sums.Stores.{put_none, put_column}
 use Rattle.row_ring.specs.Ring.{ring_a, ring_b}
-use Rattle.row_ring.proofs.Rings.{ring_small_a, ring_small_b}
-use Rattle.row_ring.proofs.Scored.{column_still}
 use Rattle.row_ring.proofs.fill.Given as goal
 
 abbrev pub invariant-loop-x : goal.invariant-loop-x

@@ -1,13 +1,8 @@
 -- `row_ring::run` meets its contract: the taps before k are in. Assumes nothing.
-use mathlib.Core.Path.{◌≡◌, ◌∙◌}
-use Prim.Native.Nat.{ℕ, ◌≤◌, ◌<◌, ◌-◌, ◌+◌, ◌/◌, ◌%◌, ◌*◌}
-use native.Mathlib.Omega.{arith}
-use borrow.Author.Rules.{rules}
-use lib.ListN.{length}
-use Rattle.window.specs.Inner.Columns.{at_z, column_to}
-use Rattle.window.proofs.Sums.Column.{column_more, column_room}
-use Rattle.row_ring.specs.Ring.{first_of, second_of, place_at, ring_a, ring_b}
-use Rattle.row_ring.proofs.Rings.{slot_inside, along, read_first, read_second, ring_small_a, ring_small_b}
+use mathlib.Core.Path.{◌≡◌}
+use Prim.Native.Nat.{◌≤◌, ◌-◌}
+use Rattle.window.specs.Inner.Columns.{column_to}
+use Rattle.row_ring.specs.Ring.{ring_a, ring_b}
 use Rattle.row_ring.proofs.run.Given as goal
 
 abbrev pub invariant-loop-k : goal.invariant-loop-k

@@ -14,7 +14,6 @@ use Rattle.row_ring.specs.declared.Ring.{Ring}
 use Rattle.row_ring.specs.Ring.{ring_places, ring_a, ring_b}
 use Rattle.row_ring.proofs.Rings.{ring_small_a, ring_small_b}
 use Rattle.row_ring.proofs.Scored.{rest_length, ready, row_scored, row_cleared}
-use borrow.Author.Rules.{rules}
 use Rattle.row_ring.proofs.score_row.Goals as goal
 
 pub weight-down-requires : goal.weight-down-requires
@@ -33,8 +32,8 @@ centres-r-requires c =
     let ring : Ring = c.args.ring in
     let viewA : ℕ → ℕ → ℕ = ring_a old ring.width ring.lines in
     let viewB : ℕ → ℕ → ℕ = ring_b old ring.width ring.lines in
-    let filled : List ℤ = c.fill.new.1.1.1.1.0 in
-    let kept : length filled ≡ length old = c.fill.auto.1.1.1.1.0 in
+    let filled : List ℤ = c.fill.new.s in
+    let kept : length filled ≡ length old = c.fill.auto.s in
     let ker = c.args.kernel.now in
     let r = ring in
     record {
@@ -57,8 +56,8 @@ returns c =
     let ring : Ring = c.args.ring in
     let viewA : ℕ → ℕ → ℕ = ring_a old ring.width ring.lines in
     let viewB : ℕ → ℕ → ℕ = ring_b old ring.width ring.lines in
-    let filled : List ℤ = c.fill.new.1.1.1.1.0 in
-    let kept : length filled ≡ length old = c.fill.auto.1.1.1.1.0 in
+    let filled : List ℤ = c.fill.new.s in
+    let kept : length filled ≡ length old = c.fill.auto.s in
     let ker = c.args.kernel.now in
     let r = ring in
     let to = ring_places r + 5 * (length ker / 2) in
@@ -68,8 +67,8 @@ returns c =
     record {
       value = rw (c.centres-r.ensures, c.weight-down.ensures)
           (row_scored old filled ker r.width r.height c.args.y (ring_places r) viewA viewB c.requires.clean c.fill.ensures _ _);
-      s_unchanged = ext_get_or (pos 0) _ _ (same_len_mid to k filled cleared.new.0 cleared.auto.0 ∙ kept) (λ i l.
+      s_unchanged = ext_get_or (pos 0) _ _ (same_len_mid to k filled cleared.new.s cleared.auto.s ∙ kept) (λ i l.
           row_cleared old filled ker r.width r.height c.args.y (ring_places r) viewA viewB c.requires.clean c.fill.ensures to k
-          (length (take k (drop to filled))) cleared.new.0 refl (omega arith) room
-          (cleared.auto.0 ∙ part_length to k filled room) cleared.ensures i);
+          (length (take k (drop to filled))) cleared.new.s refl (omega arith) room
+          (cleared.auto.s ∙ part_length to k filled room) cleared.ensures i);
     }

@@ -1,11 +1,8 @@
 -- `row_ring::score_rows` meets its contract. Assumes nothing.
 use mathlib.Core.Path.{◌≡◌, refl, sym, ap, ◌∙◌}
-use Prim.Native.Nat.{◌-◌, ◌≤◌}
 use native.Mathlib.Omega.{arith}
-use borrow.Author.Rules.{rules}
 use lib.ListN.{length}
 use Rattle.row_ring.specs.Ring.{ring_a, ring_b}
-use Rattle.row_ring.specs.Taken.{rows_from}
 use Rattle.row_ring.proofs.Rows.{rows_none, rows_more}
 use Rattle.row_ring.proofs.score_rows.Goals as goal
 
@@ -20,8 +17,8 @@ score_row-t-requires c =
       y_lt_height = omega arith;
       roomy = omega (arith, e);
       clean = rw l.invariant.2 c.requires.clean;
-      kernel = c.requires.kernel.0;
-      lent_total_value = c.requires.kernel.1;
+      kernel = c.requires.kernel;
+      lent_total_value = c.requires.lent_total_value;
     }
 
 pub loop-y-preserved : goal.loop-y-preserved
@@ -30,8 +27,8 @@ loop-y-preserved c = let l = c.loop-y in
     let score = c.score_row-t in (
       omega arith,
       omega arith,
-      score.ensures.1 ∙ l.invariant.2,
-      rw (score.ensures.0, l.invariant.2, l.invariant.3)
+      score.ensures.s_unchanged ∙ l.invariant.2,
+      rw (score.ensures.value, l.invariant.2, l.invariant.3)
           (sym (rows_more c.args.max2 c.args.kernel.now r.width r.height (ring_a c.args.s.now r.width r.lines)
           (ring_b c.args.s.now r.width r.lines) c.args.t c.args.from l.y (omega arith))),
     )

@@ -1,12 +1,8 @@
 -- `row_ring::score_rows` meets its contract. Assumes nothing.
-use mathlib.Core.Path.{◌≡◌, refl, sym, ap, ◌∙◌}
+use mathlib.Core.Path.{◌≡◌}
 use Prim.Native.Nat.{◌-◌, ◌≤◌}
-use native.Mathlib.Omega.{arith}
-use borrow.Author.Rules.{rules}
-use lib.ListN.{length}
 use Rattle.row_ring.specs.Ring.{ring_a, ring_b}
 use Rattle.row_ring.specs.Taken.{rows_from}
-use Rattle.row_ring.proofs.Rows.{rows_none, rows_more}
 use Rattle.row_ring.proofs.score_rows.Given as goal
 
 abbrev pub invariant-loop-y : goal.invariant-loop-y

@@ -1,14 +1,13 @@
 -- `row_ring::store_row` meets its contract. Assumes nothing.
 use mathlib.Core.Path.{◌≡◌, refl, ◌∙◌}
 use mathlib.Core.List.{List}
-use Prim.Native.Nat.{ℕ, ◌+◌, ◌-◌, ◌*◌, ◌≤◌}
+use Prim.Native.Nat.{ℕ, ◌+◌, ◌*◌, ◌≤◌}
 use native.Mathlib.Omega.{arith}
 use borrow.Author.Rules.{rules}
 use lib.ListN.{length}
 use Rattle.plane.specs.Plane.{at}
 use Rattle.plane.specs.Inner.Lent.{samples_of}
 use Rattle.plane.proofs.Rows.{count_fits, row_inside}
-use Rattle.window.specs.Inner.Columns.{Put}
 use Rattle.window.proofs.Sums.Stores.{put_none, put_next}
 use Rattle.row_ring.specs.Ring.{packed_of}
 use Rattle.row_ring.proofs.store_row.Goals as goal
@@ -56,7 +55,7 @@ loop-x-preserved c =
     let l = c.loop-x in
     let r = c.put in (
       omega arith,
-      r.auto.1.1.1.0 ∙ l.invariant.1,
+      r.auto.s ∙ l.invariant.1,
       put_next _ _ _ _ _ both _ l.invariant.2 r.ensures
           (rw (c.sample.ensures, c.sample-in-loop-x.ensures)) (omega arith),
     )

@@ -1,15 +1,11 @@
 -- `row_ring::store_row` meets its contract. Assumes nothing.
-use mathlib.Core.Path.{◌≡◌, refl, ◌∙◌}
+use mathlib.Core.Path.{◌≡◌}
 use mathlib.Core.List.{List}
-use Prim.Native.Nat.{ℕ, ◌+◌, ◌-◌, ◌*◌, ◌≤◌}
-use native.Mathlib.Omega.{arith}
-use borrow.Author.Rules.{rules}
+use Prim.Native.Nat.{ℕ, ◌+◌, ◌-◌, ◌≤◌}
 use lib.ListN.{length}
 use Rattle.plane.specs.Plane.{at}
 use Rattle.plane.specs.Inner.Lent.{samples_of}
-use Rattle.plane.proofs.Rows.{count_fits, row_inside}
 use Rattle.window.specs.Inner.Columns.{Put}
-use Rattle.window.proofs.Sums.Stores.{put_none, put_next}
 use Rattle.row_ring.specs.Ring.{packed_of}
 use Rattle.row_ring.proofs.store_row.Given as goal
 

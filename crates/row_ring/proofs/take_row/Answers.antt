@@ -1,9 +1,8 @@
 -- `row_ring::take_row` meets its contract. Assumes nothing.
-use mathlib.Core.Path.{◌≡◌, ◌∙◌}
-use Prim.Native.Nat.{ℕ, ◌+◌, ◌*◌, ◌%◌, ◌≤◌}
+use mathlib.Core.Path.{◌∙◌}
+use Prim.Native.Nat.{◌+◌, ◌*◌, ◌%◌, ◌≤◌}
 use native.Mathlib.Nat.{le_refl}
 use native.Mathlib.Omega.{arith}
-use borrow.Author.Rules.{rules}
 use Rattle.row_ring.specs.Ring.{ring_places}
 use Rattle.row_ring.proofs.Rings.{slot_inside}
 use Rattle.row_ring.proofs.take_row.Goals as goal
@@ -28,10 +27,10 @@ score_rows-requires c =
     let r = c.store_row in
     record {
       from_le_upto = omega arith;
-      roomy = omega (arith, r.auto.1.1.1.1.1.1.1.0);
+      roomy = omega (arith, r.auto.s);
       clean = λ j l. r.ensures.after j (omega (arith, slot)) ∙ c.requires.clean j l;
-      kernel = c.requires.kernel.0;
-      lent_total_value = c.requires.kernel.1;
+      kernel = c.requires.kernel;
+      lent_total_value = c.requires.lent_total_value;
     }
 
 pub returns : goal.returns
@@ -39,6 +38,6 @@ returns c =
     let r = c.score_rows in
     let e = c.requires.i_lt_height.1 in
     record {
-      value = rw r.ensures.1 r.ensures.0;
-      put = rw r.ensures.1 (rw e at c.store_row.ensures);
+      value = rw r.ensures.s_unchanged r.ensures.value;
+      put = rw r.ensures.s_unchanged (rw e at c.store_row.ensures);
     }

@@ -1,16 +1,15 @@
 -- `row_ring::take_rows` meets its contract: the rows before i are taken. Assumes nothing.
 use mathlib.Core.Path.{◌≡◌, refl, sym, ◌∙◌}
-use Prim.Native.Nat.{ℕ, ◌+◌, ◌-◌, ◌*◌, ◌/◌, ◌≤◌, ◌<◌}
+use Prim.Native.Nat.{◌+◌, ◌/◌, ◌<◌}
 use native.Mathlib.Nat.{le_refl}
 use native.Mathlib.Omega.{arith}
 use borrow.Author.Rules.{rules}
 use lib.ListN.{length}
 use Rattle.plane.specs.Plane.{Planes}
-use Rattle.plane.specs.Inner.Lent.{planes, planes_in}
+use Rattle.plane.specs.Inner.Lent.{planes}
 use Rattle.plane.proofs.Limits.{side_small}
-use Rattle.row_ring.specs.Taken.{taken_of, Kept}
+use Rattle.row_ring.specs.Taken.{Kept}
 use Rattle.row_ring.specs.Ring.{ring_places}
-use Rattle.row_ring.specs.Inner.Places.{Clean}
 use Rattle.row_ring.proofs.Rings.{slot_inside}
 use Rattle.row_ring.proofs.Rows.{scored_most, scored_grows}
 use Rattle.row_ring.proofs.Taken.{taken_none, taken_more}
@@ -40,8 +39,8 @@ take_row-t-requires c =
       long_2 = long.1;
       roomy = omega (arith, l.invariant.1);
       clean = l.invariant.2;
-      kernel = c.requires.kernel.0;
-      lent_total_value = c.requires.kernel.1;
+      kernel = c.requires.kernel;
+      lent_total_value = c.requires.lent_total_value;
     }
 
 pub overflow_step-i : goal.overflow_step-i
@@ -55,16 +54,16 @@ loop-i-preserved c =
     let l = c.loop-i in
     let ring = c.args.ring in
     let r = c.take_row-t in
-    let new = r.new.1.1.1.1.1.1.1.1.1.1.1.1.1.0 in
-    let kept = r.auto.1.1.1.1.1.1.1.1.1.1.1.1.1.0 in
+    let new = r.new.s in
+    let kept = r.auto.s in
     let n = ring_places ring in
     let some = some-lines in
     let low = slot_inside ring.width ring.lines (c.args.received + l.i) n some (le_refl n) in (
       omega (arith, c.loop-i-test.true),
       kept ∙ l.invariant.1,
-      λ j m. r.ensures.1.after j (omega (arith, low)) ∙ l.invariant.2 j m,
-      taken_more c.args.max2 c.args.kernel.now ring group c.args.received before l.i l.s-1 new l.t _ _ _ l.invariant.3
-          r.ensures.1 kept r.ensures.0 c.scored_after-from.ensures c.scored_after-upto.ensures
+      λ j m. r.ensures.put.after j (omega (arith, low)) ∙ l.invariant.2 j m,
+      taken_more c.args.max2 c.args.kernel.now ring group c.args.received before l.i l.s new l.t _ _ _ l.invariant.3
+          r.ensures.put kept r.ensures.value c.scored_after-from.ensures c.scored_after-upto.ensures
           some (omega (arith, l.invariant.1, c.requires.roomy.1)),
     )
 

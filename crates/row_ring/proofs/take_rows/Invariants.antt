@@ -1,19 +1,10 @@
 -- `row_ring::take_rows` meets its contract: the rows before i are taken. Assumes nothing.
-use mathlib.Core.Path.{◌≡◌, refl, sym, ◌∙◌}
-use Prim.Native.Nat.{ℕ, ◌+◌, ◌-◌, ◌*◌, ◌/◌, ◌≤◌, ◌<◌}
-use native.Mathlib.Nat.{le_refl}
-use native.Mathlib.Omega.{arith}
-use borrow.Author.Rules.{rules}
+use mathlib.Core.Path.{◌≡◌}
+use Prim.Native.Nat.{◌-◌, ◌≤◌}
 use lib.ListN.{length}
-use Rattle.plane.specs.Plane.{Planes}
-use Rattle.plane.specs.Inner.Lent.{planes, planes_in}
-use Rattle.plane.proofs.Limits.{side_small}
-use Rattle.row_ring.specs.Taken.{taken_of, Kept}
-use Rattle.row_ring.specs.Ring.{ring_places}
+use Rattle.plane.specs.Inner.Lent.{planes_in}
+use Rattle.row_ring.specs.Taken.{taken_of}
 use Rattle.row_ring.specs.Inner.Places.{Clean}
-use Rattle.row_ring.proofs.Rings.{slot_inside}
-use Rattle.row_ring.proofs.Rows.{scored_most, scored_grows}
-use Rattle.row_ring.proofs.Taken.{taken_none, taken_more}
 use Rattle.row_ring.proofs.take_rows.Given as goal
 
 abbrev pub invariant-loop-i : goal.invariant-loop-i

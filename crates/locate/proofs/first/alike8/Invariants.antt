@@ -1,10 +1,7 @@
 -- `locate::first::alike8` meets its contract. The loop's invariant: the flag is the test of the samples passed. Assumes nothing.
-use mathlib.Core.Path.{◌≡◌, sym}
+use mathlib.Core.Path.{◌≡◌}
 use Prim.Native.Nat.{◌-◌, ◌≤◌}
-use native.Mathlib.Omega.{arith}
-use borrow.Author.Rules.{rules}
 use Rattle.locate.specs.Inner.Walk.{alike_from}
-use Rattle.locate.proofs.Places.{alike_none, alike_more}
 use Rattle.locate.proofs.first.alike8.Given as goal
 
 abbrev pub invariant-loop-x : goal.invariant-loop-x

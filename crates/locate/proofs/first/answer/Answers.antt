@@ -1,6 +1,5 @@
 -- `locate::first::answer` meets its contract. Assumes nothing.
 use mathlib.Core.Path.{sym, ◌∙◌}
-use borrow.Author.Rules.{rules}
 use Rattle.refusal.proofs.Chain.{refused}
 use Rattle.plane.proofs.Accept.{accepted}
 use Rattle.psnr.proofs.Squares.{walkable}

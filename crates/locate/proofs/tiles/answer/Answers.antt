@@ -2,7 +2,6 @@
 use mathlib.Core.Path.{◌≡◌, sym, ◌∙◌}
 use Prim.Native.Nat.{◌≤◌}
 use native.Mathlib.Omega.{arith}
-use borrow.Author.Rules.{rules}
 use lib.ListN.{length, take}
 use lib.Seq.{length-take-le}
 use Rattle.refusal.proofs.Chain.{refused}
@@ -69,7 +68,7 @@ tiles_along-requires-2 c =
 pub returns : goal.returns
 returns c =
     let e = c.refusal-no.ensures in
-    let z = c.if-no-ne0.left in
+    let z = c.if-no-ne0.false in
     record {
       value = mapped_is _ _ e z c.tiles_along.ensures c.tiles_along-2.ensures;
       map_after = after_is _ _ e z c.places-need.ensures c.tiles.ensures;

@@ -1,7 +1,6 @@
 -- `locate::tiles::piece` meets its contract, whichever width it is of. Assumes nothing.
 use Prim.Native.Nat.{◌+◌, ◌*◌, ◌^◌, ◌≤◌, ◌<◌}
 use native.Mathlib.Omega.{arith}
-use borrow.Author.Rules.{rules}
 use lib.ListN.{length}
 use Rattle.plane.specs.Plane.{Planes}
 use Rattle.plane.specs.Inner.Lent.{planes}

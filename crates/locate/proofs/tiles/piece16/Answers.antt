@@ -1,10 +1,8 @@
 -- `locate::tiles::piece16` meets its contract. The loop's invariant: the sum is that of the samples passed, and no larger than so many
 -- of the largest squares. Assumes nothing.
 use mathlib.Core.Path.{◌≡◌, sym}
-use Prim.Native.Nat.{◌*◌, ◌-◌, ◌≤◌}
 use native.Mathlib.Omega.{arith}
 use borrow.Author.Rules.{rules}
-use Rattle.psnr.specs.Inner.Walk.{word_most, squares_from}
 use Rattle.psnr.proofs.Squares.{squares_none}
 use Rattle.locate.specs.Map.{tile_side}
 use Rattle.locate.proofs.Sums.{sample_more}

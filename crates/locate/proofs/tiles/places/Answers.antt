@@ -1,6 +1,5 @@
 -- `locate::tiles::places` meets its contract. Assumes nothing.
 use native.Mathlib.Nat.{le_trans}
-use borrow.Author.Rules.{rules}
 use Rattle.plane.proofs.Limits.{area_fits}
 use Rattle.locate.proofs.Sides.{along_most}
 use Rattle.locate.proofs.tiles.places.Goals as goal

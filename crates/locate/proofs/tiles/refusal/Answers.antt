@@ -1,6 +1,5 @@
 -- `locate::tiles::refusal` meets its contract. Assumes nothing.
 use mathlib.Core.Path.{sym, ◌∙◌}
-use borrow.Author.Rules.{rules}
 use Rattle.plane.proofs.Accept.{accepted}
 use Rattle.locate.proofs.Accept.{planes_refuse, places_refuse, none_refuses}
 use Rattle.locate.proofs.tiles.refusal.Goals as goal

@@ -1,17 +1,10 @@
 -- `locate::tiles::tile` meets its contract. The loop's invariant: the sum is that of the rows passed, and no larger than so many of the
 -- largest. Assumes nothing.
-use mathlib.Core.Path.{◌≡◌, sym, ap, ◌∙◌}
-use Prim.Native.Nat.{ℕ, ◌+◌, ◌*◌, ◌-◌, ◌≤◌, ◌<◌}
-use native.Mathlib.Nat.{le_of_lt}
-use native.Mathlib.Omega.{arith}
-use borrow.Author.Rules.{rules}
-use Rattle.plane.specs.Plane.{Planes}
-use Rattle.plane.specs.Inner.Lent.{planes_in, planes}
-use Rattle.plane.proofs.Limits.{side_small}
-use Rattle.locate.specs.Map.{tile_side, tile_length, piece_error, tile_error_to}
+use mathlib.Core.Path.{◌≡◌}
+use Prim.Native.Nat.{◌*◌, ◌-◌, ◌≤◌}
+use Rattle.plane.specs.Inner.Lent.{planes_in}
+use Rattle.locate.specs.Map.{tile_length, tile_error_to}
 use Rattle.locate.specs.Inner.Walk.{piece_most}
-use Rattle.locate.proofs.Sides.{begins, ends, length_most}
-use Rattle.locate.proofs.Sums.{tile_none, row_more}
 use Rattle.locate.proofs.tiles.tile.Given as goal
 
 abbrev pub invariant-loop-k : goal.invariant-loop-k

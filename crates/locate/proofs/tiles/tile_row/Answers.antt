@@ -1,12 +1,9 @@
 -- `locate::tiles::tile_row` meets its contract. Assumes nothing.
 use mathlib.Core.Path.{◌≡◌, refl}
-use Prim.Native.Nat.{◌-◌, ◌≤◌}
 use native.Mathlib.Omega.{arith}
-use borrow.Author.Rules.{rules}
-use lib.ListN.{length, length-set}
-use Rattle.number.proofs.Lists.{Filled, filled_none, filled_more, filled_all}
-use Rattle.plane.specs.Inner.Lent.{planes_in}
-use Rattle.locate.specs.Map.{tiles_along, tile_error}
+use lib.ListN.{length-set}
+use Rattle.number.proofs.Lists.{filled_none, filled_more, filled_all}
+use Rattle.locate.specs.Map.{tiles_along}
 use Rattle.locate.proofs.tiles.tile_row.Goals as goal
 
 pub loop-i-init : goal.loop-i-init

@@ -1,12 +1,10 @@
 -- `locate::tiles::tile_row` meets its contract. Assumes nothing.
-use mathlib.Core.Path.{◌≡◌, refl}
+use mathlib.Core.Path.{◌≡◌}
 use Prim.Native.Nat.{◌-◌, ◌≤◌}
-use native.Mathlib.Omega.{arith}
-use borrow.Author.Rules.{rules}
-use lib.ListN.{length, length-set}
-use Rattle.number.proofs.Lists.{Filled, filled_none, filled_more, filled_all}
+use lib.ListN.{length}
+use Rattle.number.proofs.Lists.{Filled}
 use Rattle.plane.specs.Inner.Lent.{planes_in}
-use Rattle.locate.specs.Map.{tiles_along, tile_error}
+use Rattle.locate.specs.Map.{tile_error}
 use Rattle.locate.proofs.tiles.tile_row.Given as goal
 
 abbrev pub invariant-loop-i : goal.invariant-loop-i

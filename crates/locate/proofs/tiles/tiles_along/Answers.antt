@@ -1,7 +1,6 @@
 -- `locate::tiles::tiles_along` meets its contract. Assumes nothing.
 use mathlib.Core.Path.{refl}
 use native.Mathlib.Omega.{arith}
-use borrow.Author.Rules.{rules}
 use Rattle.plane.proofs.Limits.{side_small}
 use Rattle.locate.specs.Map.{tile_side, tiles_along}
 use Rattle.locate.proofs.tiles.tiles_along.Goals as goal

@@ -1,5 +1,5 @@
 -- `number::near::guess` meets its contract. Assumes nothing.
-use Rattle.std.proofs.Common.{arith, rules}
+use Rattle.std.proofs.Common.{arith}
 use Rattle.number.proofs.Doubles.{no_nan}
 use Rattle.number.proofs.near.guess.Goals as goal
 

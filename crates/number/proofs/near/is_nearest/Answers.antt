@@ -1,5 +1,5 @@
 -- `number::near::is_nearest` meets its contract. Assumes nothing.
-use Rattle.std.proofs.Common.{ℕ, ◌+◌, ◌&&◌, ltb, leb, ◌∙◌, ap₂, arith}
+use Rattle.std.proofs.Common.{ℕ, ◌+◌, ◌&&◌, ltb, leb, ◌∙◌, ap₂}
 use Rattle.number.proofs.Squares.{high_test}
 use Rattle.number.proofs.near.is_nearest.Goals as goal
 

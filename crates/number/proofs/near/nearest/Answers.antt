@@ -1,5 +1,5 @@
 -- `number::near::nearest` meets its contract. Assumes nothing.
-use Rattle.std.proofs.Common.{◌≡◌, ℕ, ◌+◌, ◌*◌, ◌%◌, ◌^◌, ◌<◌, ◌≤◌, true, sym, ap, ◌∙◌, arith, rules}
+use Rattle.std.proofs.Common.{◌≡◌, ℕ, ◌+◌, ◌*◌, ◌%◌, ◌^◌, ◌<◌, ◌≤◌, true, sym, ap, ◌∙◌, arith}
 use Rattle.number.specs.Root.{is_nearest, nearest_root}
 use Rattle.number.proofs.Whole.{Digits, Scaled, shifted, moved_up, scaled_lt, passed, defined}
 use Rattle.number.proofs.near.nearest.Goals as goal

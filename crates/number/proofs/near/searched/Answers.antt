@@ -1,5 +1,5 @@
 -- `number::near::searched` meets its contract. Assumes nothing.
-use Rattle.std.proofs.Common.{◌^◌, ◌<◌, sym, refl, ap, ◌∙◌, arith, rules}
+use Rattle.std.proofs.Common.{◌^◌, ◌<◌, sym, refl, ap, ◌∙◌, arith}
 use Rattle.number.specs.Root.{nearest_root, rounded}
 use Rattle.number.specs.Inner.Wide.{value_of}
 use Rattle.number.proofs.Whole.{whole_says, whole_lt, round_up, round_stay}

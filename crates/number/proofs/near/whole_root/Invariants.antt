@@ -1,9 +1,7 @@
 -- `number::near::whole_root` meets its contract. The invariant: the root lies from low up to high. The measure is their distance.
 -- Assumes nothing.
-use Rattle.std.proofs.Common.{◌≡◌, ◌+◌, ◌-◌, ◌*◌, ◌^◌, ◌<◌, ◌≤◌, refl, arith, rules}
+use Rattle.std.proofs.Common.{◌-◌, ◌*◌, ◌^◌, ◌<◌, ◌≤◌}
 use Rattle.number.specs.Inner.Wide.{value_of}
-use Rattle.number.proofs.Whole.{whole_only, whole_says}
-use Rattle.number.proofs.Words.{said_less, said_not}
 use Rattle.number.proofs.near.whole_root.Given as goal
 
 abbrev pub invariant-loop-low : goal.invariant-loop-low

@@ -1,5 +1,5 @@
 -- `number::wide::times` meets its contract. Assumes nothing.
-use Rattle.std.proofs.Common.{◌+◌, ◌*◌, ◌^◌, ◌<◌, arith, rules}
+use Rattle.std.proofs.Common.{◌+◌, ◌*◌, ◌^◌, ◌<◌, arith}
 use Rattle.number.specs.Inner.Wide.{value_of}
 use Rattle.number.proofs.Words.{times_is, times_fits}
 use Rattle.number.proofs.wide.times.Goals as goal

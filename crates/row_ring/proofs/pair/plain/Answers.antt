@@ -1,16 +1,8 @@
 -- `row_ring::pair::plain` meets its contract. Assumes nothing.
-use native.Mathlib.Omega.{arith}
-use lib.Signed.{nat_abs-le}
 use mir.Syntax.{w64}
 use mir.ValLaws.{to_z-of_z}
-use Rattle.row_ring.proofs.Pairs.{is_plus, plain_minus, plain_plus}
+use Rattle.row_ring.proofs.Pairs.{plain_minus, plain_plus}
 use Rattle.row_ring.proofs.pair.plain.Goals as goal
-
-pub overflow_cast-result : goal.overflow_cast-result
-overflow_cast-result c = rw (to_z-of_z w64 c.args.z c.ranges.z) (
-  is_plus c.args.z (rw (to_z-of_z w64 c.args.z c.ranges.z) at c.if-z-lt0.false),
-  omega (arith, nat_abs-le c.args.z c.ranges.z.sfits),
-)
 
 pub returns-then-z-lt0 : goal.returns-then-z-lt0
 returns-then-z-lt0 c = plain_minus c.args.z (rw (to_z-of_z w64 c.args.z c.ranges.z) at c.if-z-lt0.true)

@@ -4,7 +4,6 @@ use native.Mathlib.Omega.{arith}
 use mir.Syntax.{w64}
 use mir.ValLaws.{to_z_pos}
 use Rattle.row_ring.specs.Ring.{packed_of, pair_base}
-use borrow.Author.Rules.{rules}
 use Rattle.row_ring.proofs.pair.put.Goals as goal
 
 pub returns : goal.returns
