@@ -32,16 +32,16 @@ state_in numbers kernel sums =
     }
 
 -- of the arrays as a contract has them
-abbrev pub lent_state : Bor (List ℕ) → Bor (List ℕ) → Bor (List Float) → State
-lent_state numbers kernel sums = state_in numbers.now kernel.now sums.now
+abbrev pub lent_state : List ℕ → List ℕ → List Float → State
+lent_state numbers kernel sums = state_in numbers kernel sums
 
 -- a feed to a state, of bytes or of words, its parameters as they stand: the answer, and what is left in the scratch
-module _ (wide : Bool) (s : State) (a b : Bor (List ℕ)) (stride_a stride_b rows : ℕ) (scratch : Bor (List ℤ)) where
+module _ (wide : Bool) (s : State) (a b : Bor (List ℕ)) (stride_a stride_b rows : ℕ) (scratch : List ℤ) where
   abbrev pub fed_to : Fed
-  fed_to = feed_of s (fed_rows wide s a b stride_a stride_b rows) scratch.now
+  fed_to = feed_of s (fed_rows wide s a b stride_a stride_b rows) scratch
 
   abbrev pub left_by : List ℤ
-  left_by = scratch_fed s (fed_rows wide s a b stride_a stride_b rows) scratch.now
+  left_by = scratch_fed s (fed_rows wide s a b stride_a stride_b rows) scratch
 
 -- the refusal's number, and 0 where there is none
 abbrev pub took_number : Took → ℕ

@@ -40,12 +40,12 @@ pub extern "C" fn fuavelino_msssim8(
     pairs: &mut [f64; 10],
 ) -> u8
     ensures value { result ≡ msssim_number (msssim_of (called false a.entry b.entry width height stride_a stride_b depth)
-        (scratch_of scratch.entry a32.entry b32.entry)) }
-    ensures b32_value { scratch_of scratch.exit a32.exit b32.exit ≡ scratch_after (called false a.entry b.entry
-        width height stride_a stride_b depth) (scratch_of scratch.entry a32.entry b32.entry) }
+        (scratch_of scratch.old a32.old b32.old)) }
+    ensures b32_value { scratch_of scratch.new a32.new b32.new ≡ scratch_after (called false a.entry b.entry
+        width height stride_a stride_b depth) (scratch_of scratch.old a32.old b32.old) }
     ensures pairs_after { pairs.new ≡ pairs_written
         (msssim_of (called false a.entry b.entry width height stride_a stride_b depth)
-        (scratch_of scratch.entry a32.entry b32.entry)) pairs.old }
+        (scratch_of scratch.old a32.old b32.old)) pairs.old }
 {
     let answer = msssim::msssim8(
         a, b, width, height, stride_a, stride_b, depth, scratch, a32, b32,
@@ -69,12 +69,12 @@ pub extern "C" fn fuavelino_msssim16(
     pairs: &mut [f64; 10],
 ) -> u8
     ensures value { result ≡ msssim_number (msssim_of (called true a.entry b.entry width height stride_a stride_b depth)
-        (scratch_of scratch.entry a32.entry b32.entry)) }
-    ensures b32_value { scratch_of scratch.exit a32.exit b32.exit ≡ scratch_after (called true a.entry b.entry
-        width height stride_a stride_b depth) (scratch_of scratch.entry a32.entry b32.entry) }
+        (scratch_of scratch.old a32.old b32.old)) }
+    ensures b32_value { scratch_of scratch.new a32.new b32.new ≡ scratch_after (called true a.entry b.entry
+        width height stride_a stride_b depth) (scratch_of scratch.old a32.old b32.old) }
     ensures pairs_after { pairs.new ≡ pairs_written
         (msssim_of (called true a.entry b.entry width height stride_a stride_b depth)
-        (scratch_of scratch.entry a32.entry b32.entry)) pairs.old }
+        (scratch_of scratch.old a32.old b32.old)) pairs.old }
 {
     let answer = msssim::msssim16(
         a, b, width, height, stride_a, stride_b, depth, scratch, a32, b32,

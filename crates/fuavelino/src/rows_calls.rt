@@ -143,15 +143,15 @@ pub extern "C" fn fuavelino_rows_feed8(
     held: &[u16; 255],
     sums: &mut [f64; 3],
 ) -> u8
-    ensures value { result ≡ took_number (fed_to false (lent_state numbers.entry held.entry sums.entry)
-        a.entry b.entry stride_a stride_b rows scratch.entry).answer }
-    ensures scratch_after { scratch.new ≡ left_by false (lent_state numbers.entry held.entry sums.entry)
-        a.entry b.entry stride_a stride_b rows scratch.entry }
-    ensures numbers_after { numbers.new ≡ numbers_written (fed_to false (lent_state numbers.entry held.entry sums.entry)
-        a.entry b.entry stride_a stride_b rows scratch.entry)
+    ensures value { result ≡ took_number (fed_to false (lent_state numbers.old held.now sums.old)
+        a.entry b.entry stride_a stride_b rows scratch.old).answer }
+    ensures scratch_after { scratch.new ≡ left_by false (lent_state numbers.old held.now sums.old)
+        a.entry b.entry stride_a stride_b rows scratch.old }
+    ensures numbers_after { numbers.new ≡ numbers_written (fed_to false (lent_state numbers.old held.now sums.old)
+        a.entry b.entry stride_a stride_b rows scratch.old)
         numbers.old }
-    ensures sums_after { sums.new ≡ sums_written (fed_to false (lent_state numbers.entry held.entry sums.entry)
-        a.entry b.entry stride_a stride_b rows scratch.entry)
+    ensures sums_after { sums.new ≡ sums_written (fed_to false (lent_state numbers.old held.now sums.old)
+        a.entry b.entry stride_a stride_b rows scratch.old)
         sums.old }
 {
     let n = *numbers;
@@ -176,15 +176,15 @@ pub extern "C" fn fuavelino_rows_feed16(
     held: &[u16; 255],
     sums: &mut [f64; 3],
 ) -> u8
-    ensures value { result ≡ took_number (fed_to true (lent_state numbers.entry held.entry sums.entry)
-        a.entry b.entry stride_a stride_b rows scratch.entry).answer }
-    ensures scratch_after { scratch.new ≡ left_by true (lent_state numbers.entry held.entry sums.entry)
-        a.entry b.entry stride_a stride_b rows scratch.entry }
-    ensures numbers_after { numbers.new ≡ numbers_written (fed_to true (lent_state numbers.entry held.entry sums.entry)
-        a.entry b.entry stride_a stride_b rows scratch.entry)
+    ensures value { result ≡ took_number (fed_to true (lent_state numbers.old held.now sums.old)
+        a.entry b.entry stride_a stride_b rows scratch.old).answer }
+    ensures scratch_after { scratch.new ≡ left_by true (lent_state numbers.old held.now sums.old)
+        a.entry b.entry stride_a stride_b rows scratch.old }
+    ensures numbers_after { numbers.new ≡ numbers_written (fed_to true (lent_state numbers.old held.now sums.old)
+        a.entry b.entry stride_a stride_b rows scratch.old)
         numbers.old }
-    ensures sums_after { sums.new ≡ sums_written (fed_to true (lent_state numbers.entry held.entry sums.entry)
-        a.entry b.entry stride_a stride_b rows scratch.entry)
+    ensures sums_after { sums.new ≡ sums_written (fed_to true (lent_state numbers.old held.now sums.old)
+        a.entry b.entry stride_a stride_b rows scratch.old)
         sums.old }
 {
     let n = *numbers;
@@ -206,11 +206,11 @@ pub extern "C" fn fuavelino_rows_finish(
     ssim: &mut f64,
     cs: &mut f64,
 ) -> u8
-    ensures value { result ≡ ssim_number (finish_of (lent_state numbers.entry held.entry sums.entry) scratch.old) }
-    ensures scratch_after { scratch.new ≡ scratch_finished (lent_state numbers.entry held.entry sums.entry) scratch.old }
-    ensures ssim_after { ssim.new ≡ ssim_written (finish_of (lent_state numbers.entry held.entry sums.entry) scratch.old)
+    ensures value { result ≡ ssim_number (finish_of (lent_state numbers.now held.now sums.now) scratch.old) }
+    ensures scratch_after { scratch.new ≡ scratch_finished (lent_state numbers.now held.now sums.now) scratch.old }
+    ensures ssim_after { ssim.new ≡ ssim_written (finish_of (lent_state numbers.now held.now sums.now) scratch.old)
         ssim.old }
-    ensures cs_after { cs.new ≡ cs_written (finish_of (lent_state numbers.entry held.entry sums.entry) scratch.old)
+    ensures cs_after { cs.new ≡ cs_written (finish_of (lent_state numbers.now held.now sums.now) scratch.old)
         cs.old }
 {
     let n = *numbers;
