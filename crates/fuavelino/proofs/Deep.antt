@@ -1,7 +1,6 @@
 -- A depth above every sample's makes a state impossible, whatever else stands in it: so no number of a lent state is ever cut short. Assumes nothing.
-use mathlib.Core.Path.{◌≡◌, sym, ◌∙◌}
-use mathlib.Core.Bool.{Bool, true, false, ◌&&◌, ◌||◌}
-use mathlib.Core.List.{List}
+use mathlib.Core.Path.{◌≡◌, sym}
+use mathlib.Core.Bool.{Bool, true, false}
 use Prim.Native.Nat.{ℕ, ◌<◌}
 use Rattle.refusal.specs.Numbers.{state_no}
 use Rattle.plane.specs.Limits.{most_depth}

@@ -1,6 +1,5 @@
 -- `fuavelino::fuavelino_root` meets its contract: by what the root answered. Assumes nothing.
 use mathlib.Core.Path.{refl}
-use borrow.Author.Rules.{rules}
 use Rattle.fuavelino.proofs.fuavelino_root.Goals as goal
 
 pub returns-in-Root : goal.returns-in-Root

@@ -1,5 +1,4 @@
 -- `fuavelino::better_calls::fuavelino_better8` meets its contract. Assumes nothing.
-use borrow.Author.Rules.{rules}
 use Rattle.fuavelino.proofs.better_calls.fuavelino_better8.Goals as goal
 
 pub returns : goal.returns

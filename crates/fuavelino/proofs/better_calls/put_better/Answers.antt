@@ -1,6 +1,5 @@
 -- `fuavelino::better_calls::put_better` meets its contract. Assumes nothing.
 use mathlib.Core.Path.{refl}
-use borrow.Author.Rules.{rules}
 use Rattle.fuavelino.proofs.better_calls.put_better.Goals as goal
 
 pub returns-in-First : goal.returns-in-First

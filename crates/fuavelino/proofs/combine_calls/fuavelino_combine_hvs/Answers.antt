@@ -1,6 +1,5 @@
 -- `fuavelino::combine_calls::fuavelino_combine_hvs` meets its contract: by what combining answered. Assumes nothing.
 use mathlib.Core.Path.{refl}
-use borrow.Author.Rules.{rules}
 use Rattle.fuavelino.proofs.combine_calls.fuavelino_combine_hvs.Goals as goal
 
 pub returns-in-Score : goal.returns-in-Score

@@ -1,6 +1,5 @@
 -- `fuavelino::combine_calls::fuavelino_combine_ssim` meets its contract: by what combining answered. Assumes nothing.
 use mathlib.Core.Path.{refl}
-use borrow.Author.Rules.{rules}
 use Rattle.fuavelino.proofs.combine_calls.fuavelino_combine_ssim.Goals as goal
 
 pub returns-in-Sum : goal.returns-in-Sum

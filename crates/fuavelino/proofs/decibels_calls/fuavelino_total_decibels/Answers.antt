@@ -1,5 +1,4 @@
 -- `fuavelino::decibels_calls::fuavelino_total_decibels` meets its contract. Assumes nothing.
-use borrow.Author.Rules.{rules}
 use Rattle.fuavelino.proofs.decibels_calls.fuavelino_total_decibels.Goals as goal
 
 pub returns : goal.returns

@@ -1,6 +1,5 @@
 -- `fuavelino::decibels_calls::put_decibels` meets its contract. Assumes nothing.
 use mathlib.Core.Path.{refl}
-use borrow.Author.Rules.{rules}
 use Rattle.psnr.specs.Said.{identical_decibels}
 use Rattle.decibels.specs.Said.{identical_hundredths}
 use Rattle.fuavelino.proofs.decibels_calls.put_decibels.Goals as goal

@@ -1,6 +1,5 @@
 -- `fuavelino::hvs_calls::score8` meets its contract: by what the score answered. Assumes nothing.
 use mathlib.Core.Path.{refl}
-use borrow.Author.Rules.{rules}
 use Rattle.fuavelino.proofs.hvs_calls.score8.Goals as goal
 
 pub returns-in-Score : goal.returns-in-Score

@@ -1,5 +1,4 @@
 -- `fuavelino::locate_calls::fuavelino_first_difference8` meets its contract. Assumes nothing.
-use borrow.Author.Rules.{rules}
 use Rattle.fuavelino.proofs.locate_calls.fuavelino_first_difference8.Goals as goal
 
 pub returns : goal.returns

@@ -1,6 +1,5 @@
 -- `fuavelino::locate_calls::put_place` meets its contract. Assumes nothing.
 use mathlib.Core.Path.{refl}
-use borrow.Author.Rules.{rules}
 use Rattle.fuavelino.proofs.locate_calls.put_place.Goals as goal
 
 pub returns-in-At : goal.returns-in-At

@@ -1,6 +1,5 @@
 -- `fuavelino::msssim_calls::put_pairs` meets its contract. Assumes nothing.
 use mathlib.Core.Path.{refl}
-use borrow.Author.Rules.{rules}
 use Rattle.fuavelino.proofs.msssim_calls.put_pairs.Goals as goal
 
 pub returns-in-Five : goal.returns-in-Five

@@ -1,6 +1,5 @@
 -- `fuavelino::places::fuavelino_error_map_places` meets its contract: what both tests say, and `locate::tiles::places` where they pass. Assumes nothing.
 use mathlib.Core.Path.{◌∙◌}
-use borrow.Author.Rules.{rules}
 use Rattle.plane.specs.Limits.{side_limit}
 use Rattle.fuavelino.specs.Places.{error_map_places}
 use Rattle.fuavelino.proofs.Counts.{both_say, tested, given, not_given}

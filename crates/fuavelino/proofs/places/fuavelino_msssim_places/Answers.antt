@@ -1,6 +1,5 @@
 -- `fuavelino::places::fuavelino_msssim_places` meets its contract: what the test says, and `msssim::places_needed` where it passes. Assumes nothing.
 use mathlib.Core.Path.{sym, ◌∙◌}
-use borrow.Author.Rules.{rules}
 use Rattle.plane.specs.Limits.{side_limit}
 use Rattle.msssim.specs.Answer.{least_side}
 use Rattle.fuavelino.specs.Places.{msssim_places}

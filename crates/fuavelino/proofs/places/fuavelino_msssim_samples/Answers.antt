@@ -1,6 +1,5 @@
 -- `fuavelino::places::fuavelino_msssim_samples` meets its contract: what both tests say, and `msssim::samples_needed` where they pass. Assumes nothing.
 use mathlib.Core.Path.{◌∙◌}
-use borrow.Author.Rules.{rules}
 use Rattle.plane.specs.Limits.{side_limit}
 use Rattle.msssim.specs.Answer.{least_side}
 use Rattle.fuavelino.specs.Places.{msssim_samples}

@@ -1,6 +1,5 @@
 -- `fuavelino::places::fuavelino_ssim_places` meets its contract: what both tests say, and `ssim::scratch_places` where they pass. Assumes nothing.
 use mathlib.Core.Path.{◌∙◌}
-use borrow.Author.Rules.{rules}
 use Rattle.plane.specs.Limits.{side_limit}
 use Rattle.kernel.specs.Kernel.{most_taps}
 use Rattle.fuavelino.specs.Places.{ssim_places}

@@ -1,5 +1,4 @@
 -- `fuavelino::plain_calls::fuavelino_plain_ssim16` meets its contract. Assumes nothing.
-use borrow.Author.Rules.{rules}
 use Rattle.fuavelino.proofs.plain_calls.fuavelino_plain_ssim16.Goals as goal
 
 pub returns : goal.returns

@@ -1,5 +1,4 @@
 -- `fuavelino::psnr_calls::fuavelino_squared_error16` meets its contract. Assumes nothing.
-use borrow.Author.Rules.{rules}
 use Rattle.fuavelino.proofs.psnr_calls.fuavelino_squared_error16.Goals as goal
 
 pub returns : goal.returns

@@ -1,5 +1,4 @@
 -- `fuavelino::psnr_calls::fuavelino_squared_error8` meets its contract. Assumes nothing.
-use borrow.Author.Rules.{rules}
 use Rattle.fuavelino.proofs.psnr_calls.fuavelino_squared_error8.Goals as goal
 
 pub returns : goal.returns

@@ -1,6 +1,5 @@
 -- `fuavelino::psnr_calls::put_total` meets its contract. Assumes nothing.
 use mathlib.Core.Path.{refl}
-use borrow.Author.Rules.{rules}
 use Rattle.fuavelino.proofs.psnr_calls.put_total.Goals as goal
 
 pub returns-in-Differs : goal.returns-in-Differs

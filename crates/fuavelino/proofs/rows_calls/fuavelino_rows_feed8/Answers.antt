@@ -1,5 +1,5 @@
 -- `fuavelino::rows_calls::fuavelino_rows_feed8` meets its contract: a depth that no state has is refused by its number alone. Assumes nothing.
-use Rattle.std.proofs.Common.{true, false, length, sym, refl, ◌∙◌}
+use Rattle.std.proofs.Common.{false, length, sym, refl, ◌∙◌}
 use borrow.Author.Tests.{ltb-true}
 use Rattle.plane.specs.Plane.{Planes}
 use Rattle.rowfed.specs.declared.State.{State}

@@ -3,7 +3,6 @@ use mathlib.Core.Path.{refl}
 use mathlib.Core.Bool.{true}
 use native.Mathlib.Omega.{arith}
 use Rattle.plane.proofs.Depth.{depth_small}
-use borrow.Author.Rules.{rules}
 use Rattle.fuavelino.proofs.rows_calls.lent_state.Goals as goal
 
 pub overflow_cast-result : goal.overflow_cast-result

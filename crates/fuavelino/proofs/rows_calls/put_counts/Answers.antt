@@ -1,6 +1,5 @@
 -- `fuavelino::rows_calls::put_counts` meets its contract. Assumes nothing.
 use mathlib.Core.Path.{refl}
-use borrow.Author.Rules.{rules}
 use Rattle.fuavelino.proofs.rows_calls.put_counts.Goals as goal
 
 pub returns-in-Yes : goal.returns-in-Yes

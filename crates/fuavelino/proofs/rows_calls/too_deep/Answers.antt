@@ -1,7 +1,6 @@
 -- `fuavelino::rows_calls::too_deep` meets its contract. Assumes nothing.
 use mathlib.Core.Path.{refl}
 use Rattle.plane.specs.Limits.{most_depth}
-use borrow.Author.Rules.{rules}
 use Rattle.fuavelino.proofs.rows_calls.too_deep.Goals as goal
 
 pub returns : goal.returns
