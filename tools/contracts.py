@@ -2,7 +2,9 @@
 
 import re
 
-OPEN, CLOSE = "([{⌜", ")]}⌝"
+OPEN, CLOSE = "([{", ")]}"
+# the crates that crates.txt lists: `NAME: LIBRARY ..`, of a static library `NAME staticlib: LIBRARY ..`
+CRATE = re.compile(r"^(\w+)(?: +\w[\w=]*)* *:", re.M)
 
 
 def bare(text):
@@ -21,8 +23,14 @@ def closing(text, start):
 
 
 def tokens(text):
-    """Names, signs and brackets, each by itself; `.field` and `«name»` are one."""
-    return re.findall(r"«[^»]*»|[(){}\[\]⌜⌝;,]|[^\s(){}\[\]⌜⌝;,]+", text)
+    """Names, signs and brackets, each by itself; a name with its fields, as `x.now`, is one, and so are `«name»` and the `.field` of a bracket."""
+    return re.findall(r"«[^»]*»(?:\.[\w']+)*|[(){}\[\];,]|[^\s(){}\[\];,]+", text)
+
+
+def fields(part):
+    """A name and the fields that are taken of it, as `x.exit.now`: the name, and what follows it."""
+    name, _, rest = part.partition(".")
+    return name.strip("«»"), rest
 
 
 def split(parts, signs):
@@ -38,13 +46,11 @@ def split(parts, signs):
 
 
 class Clause:
-    """`ensures { λ NAME. ⌜ .. ⌝ }`, perhaps with a word before its bracket, or a `requires`, which binds no name."""
+    """`ensures { .. }` or `requires { .. }`, perhaps with a name before its bracket; `result` is the answer."""
 
     def __init__(self, kind, text):
         self.kind = kind
-        bound = re.match(r"\s*λ\s+(\S+?)\.\s", text)
-        self.name = bound.group(1) if bound else None
-        self.tokens = tokens(text[bound.end() :] if bound else text)
+        self.tokens = tokens(text)
 
 
 class Function:
@@ -56,7 +62,7 @@ class Function:
         self.line = text.count("\n", 0, match.start()) + 1
         start = text.index("(", match.end())
         end = closing(text, start)
-        self.parameters = [p.split(":", 1) for p in between(text[start + 1 : end]) if ":" in p]
+        self.parameters = [parameter(p) for p in between(text[start + 1 : end]) if p.strip()]
         head = re.compile(r"\s*(?:->\s*(?P<result>.*?)\s*)?(?=\b(?:requires|ensures)\b|\{)", re.S).match(text, end + 1)
         self.result = head.group("result") or ""
         self.clauses, body = read_clauses(text, head.end())
@@ -64,7 +70,15 @@ class Function:
 
     def written(self):
         """The names of the places that it is lent to write."""
-        return [name.strip() for name, kind in self.parameters if re.match(r"\s*&\s*('\w+\s+)?mut\b", kind)]
+        return [name for name, kind in self.parameters if re.match(r"&\s*('\w+\s+)?mut\b", kind)]
+
+
+def parameter(text):
+    """A parameter's name and type; of `&mut self` the name is `self`."""
+    name, colon, kind = text.partition(":")
+    if not colon:
+        name, kind = text.split()[-1].lstrip("&"), text
+    return name.split()[-1], kind.strip()
 
 
 def between(text):
@@ -96,7 +110,7 @@ def read_clauses(text, start):
 def functions(path):
     """The public functions of a file, in order."""
     text = bare(path.read_text(encoding="utf-8"))
-    heads = re.finditer(r'^pub (?P<exported>extern "C" )?fn (?P<name>\w+)', text, re.M)
+    heads = re.finditer(r'^ *pub (?P<exported>extern "C" )?fn (?P<name>\w+)', text, re.M)
     return [Function(text, head) for head in heads]
 
 
@@ -111,9 +125,20 @@ def public_files(source):
     return files
 
 
+def sources(root, *kinds):
+    """The files of these kinds in the crates, but for what the kit keeps in `out`."""
+    folders = sorted(path for path in root.glob("crates/*/*") if path.name != "out")
+    return [path for kind in kinds for folder in folders for path in sorted(folder.glob(f"**/*.{kind}"))]
+
+
 def libraries(root):
     """The library crates of a repository, as folders."""
     return sorted(path.parent.parent for path in root.glob("crates/*/src/lib.rt"))
+
+
+def crates(root):
+    """The crates that crates.txt lists, in its order."""
+    return CRATE.findall((root / "crates.txt").read_text(encoding="utf-8"))
 
 
 def face(root):

@@ -2,7 +2,11 @@
 
 import re
 
-WORD = r"[^\s(){}\[\];,.:⌜⌝«»=]+"
+import contracts
+
+WORD = r"[^\s(){}\[\];,.:«»=]+"
+# what is written of the proof of one function, in a folder of its own below proofs/
+OF_A_FUNCTION = ("Invariants.antt", "Answers.antt", "Proof.antt")
 OPEN = re.compile(r"( *)(abbrev |unfoldable )?pub (?!mod |use )(?:record |data )?(\S+)")
 
 
@@ -22,10 +26,14 @@ def opened(text):
 
 def files(root):
     """The sources of the crates, each with its crate and its path below it."""
-    for kind in ("rt", "antt"):
-        for path in sorted(root.glob(f"crates/*/**/*.{kind}")):
-            crate, *inner = path.relative_to(root / "crates").parts
-            yield path.relative_to(root), crate, "/".join(inner), path.read_text(encoding="utf-8")
+    for path in contracts.sources(root, "rt", "antt"):
+        crate, *inner = path.relative_to(root / "crates").parts
+        yield path.relative_to(root), crate, "/".join(inner), path.read_text(encoding="utf-8")
+
+
+def names_file(text, crate, stem):
+    """Whether a source imports from a crate's file of laws."""
+    return re.search(rf"\bRattle\.{crate}\.proofs\.{stem}(?![\w'])", text)
 
 
 def faults(root):
@@ -36,12 +44,12 @@ def faults(root):
     sources = list(files(root))
     words = {path: set(re.findall(WORD, text)) for path, _, _, text in sources}
     for path, crate, inner, text in sources:
-        if not inner.startswith("proofs/") or path.name in ("Proof.antt", "Lib.antt"):
+        if not inner.startswith("proofs/") or path.name == "Lib.antt" or inner.count("/") > 1 and path.name in OF_A_FUNCTION:
             continue
         laws = dict(opened(text))
         parent = next(t for _, c, i, t in sources if (c, i) == (crate, "proofs/Lib.antt"))
         if inner.count("/") == 1 and f"pub mod {path.stem}\n" in parent:
-            used = any(f"Rattle·{crate}.proofs.{path.stem}" in other for _, _, _, other in sources)
+            used = any(names_file(other, crate, path.stem) for _, user, _, other in sources if user != crate)
             if not used and not (told & {path.stem, *laws}):
                 yield f"{path}: these laws are open to other crates, and none uses them and no document names them"
         for law in laws:

@@ -25,8 +25,7 @@ fn specs() {
         "-- SCOPE, \"The chart of kernels\": its rows, each a height and the taps of its kernel. \
          A run of the Rust printed them; tools/chart writes this file. Definitions only."
     );
-    println!("use mathlib.Core.List.{{List, [], _∷_}}");
-    println!("use Prim.Native.Nat.{{ℕ}}\n");
+    println!("use Rattle.std.specs.Prelude.{{List, [], ◌∷◌, ℕ}}\n");
     println!("-- a height beside its kernel's taps");
     println!("abbrev pub Row : Type 0");
     println!("Row = ℕ × List ℕ\n");

@@ -66,7 +66,7 @@ pub fn fdct8_columns_into(x: &[i32], out: &mut [i32])
     requires x_len { length x.now ≡ block_size }
     requires out_len { length out.old ≡ block_size }
     requires all_within { AllWithin run_limit x.now }
-    ensures { out.new ≡ Block.fdct8Columns x.now }
+    ensures { out.new ≡ Block.fdct8_columns x.now }
 {
     for i in 0..BLOCK_SIDE {
         let at = BLOCK_SIDE * i;
@@ -78,7 +78,7 @@ pub fn fdct8_columns_into(x: &[i32], out: &mut [i32])
 pub fn fdct8_columns(x: &[i32]) -> [i32; BLOCK_SIZE]
     requires x_len { length x.now ≡ block_size }
     requires all_within { AllWithin run_limit x.now }
-    ensures { result ≡ Block.fdct8Columns x.now }
+    ensures { result ≡ Block.fdct8_columns x.now }
 {
     let mut y = [0i32; BLOCK_SIZE];
     fdct8_columns_into(x, &mut y);
@@ -160,7 +160,7 @@ pub fn idct8_rows(x: &[i32], out: &mut [i32])
     requires x_len { length x.now ≡ block_size }
     requires out_len { length out.old ≡ block_size }
     requires all_within { AllWithin undo_limit x.now }
-    ensures { out.new ≡ Block.idct8Rows x.now }
+    ensures { out.new ≡ Block.idct8_rows x.now }
 {
     let mut z = [0i32; BLOCK_SIZE];
     idct8_each_row(x, &mut z);

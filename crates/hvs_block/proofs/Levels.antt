@@ -2,7 +2,7 @@
 use mathlib.Core.Path.{◌≡◌, refl, sym, ap, ◌∙◌}
 use mathlib.Core.Bool.{false}
 use mathlib.Core.List.{List}
-use Prim.Native.Nat.{ℕ, ◌+◌, ◌-◌, ◌*◌, ◌/◌, ◌%◌, ◌≤◌, ◌<◌, ◌^◌}
+use Prim.Native.Nat.{ℕ, ◌+◌, ◌-◌, ◌*◌, ◌/◌, ◌%◌, ◌≤◌, ◌^◌}
 use native.Mathlib.Nat.{mul-le-mul}
 use native.Mathlib.Omega.{arith}
 use lib.Dec.{T, lit<, lit≤}
@@ -95,3 +95,8 @@ module _ (b : List ℤ) (h : Samples b) where
   pub squares_add : squares (level_in b 0 0) 16 + squares (level_in b 4 0) 16 + squares (level_in b 0 4) 16 + squares (level_in b 4 4) 16
       ≡ squares (level_of b) 64
   squares_add = quarters (λ (i j : ℕ). nat_abs (cell b i j) * nat_abs (cell b i j))
+
+  -- the variance, of the sums of all samples
+  pub gvar_by : (s q : ℕ) → s ≡ sum_to (level_of b) 64 → q ≡ squares (level_of b) 64
+      → double (64 * q - s * s) ⊘ sixty_four ⊗ (sixty_four ⊘ sixty_three) ≡ gvar b
+  gvar_by s q e k = rw (e, k) (sym gvar_is)

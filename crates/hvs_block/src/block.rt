@@ -45,7 +45,7 @@ fn energies(d1: &[i32], d2: &[i32], mask: &[[f64; BLOCK_SIDE]; BLOCK_SIDE]) -> E
 
 // The mask of a block, of its energy and the ratio of its variances.
 fn mask_for(e: f64, r: f64) -> f64
-    ensures { result ≡ Block.maskFor e r }
+    ensures { result ≡ Block.mask_for e r }
 {
     match number::root(e * r) {
         Rooted::Root(s) => s / 32.0,
@@ -74,7 +74,7 @@ fn mask_of_both(
     requires d1_len { (length d1.now ≡ block_size) × (length d2.now ≡ block_size) }
     requires all_within { AllWithin coefficient_limit d1.now }
     requires all_within_2 { AllWithin coefficient_limit d2.now }
-    ensures { result ≡ Block.maskOfBoth p1.now p2.now d1.now d2.now mask.now }
+    ensures { result ≡ Block.mask_of_both p1.now p2.now d1.now d2.now mask.now }
 {
     let e = energies(d1, d2, mask);
     let m1 = mask_for(e.one, variance::ratio(p1));
@@ -94,7 +94,7 @@ fn distance(a: i32, b: i32) -> f64
 
 // What the mask leaves of an error; nothing of the DC term's is masked.
 fn err_at(dc: bool, err: f64, mask: f64, m: f64) -> f64
-    ensures { result ≡ Block.errAt dc err mask m }
+    ensures { result ≡ Block.err_at dc err mask m }
 {
     if dc {
         return err;
@@ -151,7 +151,7 @@ pub fn with_block(
     requires p1_len { (length p1.now ≡ block_size) × (length p2.now ≡ block_size) }
     requires samples { Samples p1.now }
     requires samples_2 { Samples p2.now }
-    ensures { result ≡ Block.withBlock p1.now p2.now csf.now mask.now res }
+    ensures { result ≡ Block.with_block p1.now p2.now csf.now mask.now res }
 {
     let d1 = dct::fdct8x8(p1);
     let d2 = dct::fdct8x8(p2);

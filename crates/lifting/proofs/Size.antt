@@ -131,7 +131,7 @@ half_of (negsuc n) s t = absurd t
 
 -- an answer handed on is read back once more
 pub again : (z : ℤ) (n : ℕ) (r : ℤ) → mag r < 2 ^ 31 → Is z n r → Is z n (read32 r)
-again z n r f a = subst (λ (x : ℤ). Is z n x) (sym (to_z-of_z (sfits_of f))) a
+again z n r f a = subst (λ (x : ℤ). Is z n x) (sym (to_z-of_z {w = w32} (sfits_of {w = w32} f))) a
 
 -- what is read back of a number that is small is small
 pub read : {n : ℕ} {z : ℤ} → Within n z → Within n (read32 z)

@@ -1,7 +1,6 @@
 -- `block_suits` tests the places, then the values. Assumes nothing.
 use mathlib.Core.Path.{◌∙◌}
 use mir.Facts.{to_z-of_z}
-use borrow.Author.Rules.{rules}
 use borrow.Author.Tests.{eq-eqb, ne_eqb}
 use Rattle.dct.specs.Call.{block_suits}
 use Rattle.dct.proofs.block_suits.Goals as goal

@@ -1,7 +1,6 @@
 -- `fdct8x8` is two rounds; what the first leaves is small enough for the second. Assumes nothing.
 use mathlib.Core.Path.{◌∙◌, ap}
 use lib.Dec.{lit≤}
-use borrow.Author.Rules.{rules}
 use Rattle.dct.specs.Block.{fdct8_columns, fdct8x8}
 use Rattle.dct.proofs.Bound.{small_mono, middle_small}
 use Rattle.dct.proofs.Round.{length_fdct8_columns}

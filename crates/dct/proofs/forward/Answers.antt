@@ -2,7 +2,6 @@
 use mathlib.Core.Path.{◌≡◌, ◌∙◌, ap, sym}
 use mathlib.Core.Bool.{true}
 use lib.ListN.{length}
-use borrow.Author.Rules.{rules}
 use Rattle.dct.specs.Limits.{forward_limit}
 use Rattle.dct.specs.Call.{block_suits}
 use Rattle.dct.specs.Block.{fdct8x8}

@@ -1,7 +1,6 @@
 -- `inverse` tests and then undoes the transform. Assumes nothing.
 use mathlib.Core.Path.{◌∙◌, ap, sym}
 use native.Mathlib.Omega.{arith}
-use borrow.Author.Rules.{rules}
 use Rattle.dct.specs.Limits.{inverse_limit}
 use Rattle.dct.specs.Block.{fdct8x8, idct8x8}
 use Rattle.dct.proofs.Round.{transform_undo}

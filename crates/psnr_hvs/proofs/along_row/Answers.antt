@@ -1,10 +1,8 @@
 -- `along_row` adds the blocks of a row. Assumes nothing.
 use borrow.Author.Rules.{rules}
 use mathlib.Core.Path.{◌≡◌, sym}
-use Prim.Native.Nat.{◌-◌, ◌≤◌}
 use native.Mathlib.Omega.{arith}
 use Rattle.psnr_hvs.specs.Score.{along_row, blocks_per_side}
-use Rattle.plane.specs.Inner.Lent.{planes_in}
 use Rattle.psnr_hvs.proofs.Blocks.{ends, row_more}
 use Rattle.number.proofs.Folds.{fold_none}
 use Rattle.psnr_hvs.proofs.along_row.Goals as goal

@@ -1,12 +1,8 @@
 -- `along_row` adds the blocks of a row. Assumes nothing.
-use borrow.Author.Rules.{rules}
-use mathlib.Core.Path.{◌≡◌, sym}
+use mathlib.Core.Path.{◌≡◌}
 use Prim.Native.Nat.{◌-◌, ◌≤◌}
-use native.Mathlib.Omega.{arith}
-use Rattle.psnr_hvs.specs.Score.{along_row, blocks_per_side}
+use Rattle.psnr_hvs.specs.Score.{along_row}
 use Rattle.plane.specs.Inner.Lent.{planes_in}
-use Rattle.psnr_hvs.proofs.Blocks.{ends, row_more}
-use Rattle.number.proofs.Folds.{fold_none}
 use Rattle.psnr_hvs.proofs.along_row.Given as goal
 
 abbrev pub invariant-loop-x : goal.invariant-loop-x

@@ -1,5 +1,4 @@
 -- `psnr_hvs::answer` meets its contract. Assumes nothing.
-use borrow.Author.Rules.{rules}
 use mathlib.Core.Path.{sym, ◌∙◌}
 use Rattle.refusal.proofs.Chain.{refused}
 use Rattle.plane.proofs.Several.{planes_say}

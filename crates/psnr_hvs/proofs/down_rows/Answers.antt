@@ -1,9 +1,7 @@
 -- `down_rows` adds the rows of blocks. Assumes nothing.
 use borrow.Author.Rules.{rules}
 use mathlib.Core.Path.{◌≡◌, sym}
-use Prim.Native.Nat.{◌-◌, ◌≤◌}
 use native.Mathlib.Omega.{arith}
-use Rattle.plane.specs.Inner.Lent.{planes_in}
 use Rattle.psnr_hvs.specs.Score.{down_rows, blocks_per_side}
 use Rattle.number.proofs.Folds.{fold_none}
 use Rattle.psnr_hvs.proofs.Blocks.{ends, rows_more}

@@ -1,12 +1,8 @@
 -- `down_rows` adds the rows of blocks. Assumes nothing.
-use borrow.Author.Rules.{rules}
-use mathlib.Core.Path.{◌≡◌, sym}
+use mathlib.Core.Path.{◌≡◌}
 use Prim.Native.Nat.{◌-◌, ◌≤◌}
-use native.Mathlib.Omega.{arith}
 use Rattle.plane.specs.Inner.Lent.{planes_in}
-use Rattle.psnr_hvs.specs.Score.{down_rows, blocks_per_side}
-use Rattle.number.proofs.Folds.{fold_none}
-use Rattle.psnr_hvs.proofs.Blocks.{ends, rows_more}
+use Rattle.psnr_hvs.specs.Score.{down_rows}
 use Rattle.psnr_hvs.proofs.down_rows.Given as goal
 
 abbrev pub invariant-loop-y : goal.invariant-loop-y

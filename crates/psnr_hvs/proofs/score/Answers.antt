@@ -1,6 +1,5 @@
 -- `score` adds up the blocks and divides twice. Assumes nothing.
-use borrow.Author.Rules.{rules}
-use Prim.Native.Nat.{◌-◌, ◌*◌, ◌≤◌, ◌^◌}
+use Prim.Native.Nat.{◌*◌, ◌≤◌, ◌^◌}
 use native.Mathlib.Omega.{arith}
 use Rattle.plane.proofs.Depth.{depth_small}
 use Rattle.psnr_hvs.specs.Score.{hvs_score}

@@ -1,12 +1,7 @@
 -- `copy` copies: after i rounds the first i places agree. Assumes nothing.
-use mathlib.Core.Path.{◌≡◌, refl}
+use mathlib.Core.Path.{◌≡◌}
 use Prim.Native.Nat.{◌≤◌, ◌-◌}
-use native.Mathlib.Omega.{arith}
-use lib.IntN.{pos}
-use lib.ListN.{length, get_or, take, length-set}
-use Rattle.lifting.specs.Inner.Operation.{read32}
-use Rattle.lifting.proofs.Size.{whole}
-use Rattle.dct.proofs.Blocks.{copied_more, copied_all}
+use lib.ListN.{length, take}
 use Rattle.dct.proofs.block.copy.Given as goal
 
 abbrev pub invariant-loop-i : goal.invariant-loop-i

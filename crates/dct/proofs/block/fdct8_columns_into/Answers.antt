@@ -1,41 +1,29 @@
 -- `fdct8_columns_into` passes each column to its row: after i rounds the first i rows are written. Assumes nothing.
-use mathlib.Core.Path.{◌≡◌, refl, ◌∙◌, ap}
-use mathlib.Core.List.{List, ◌++◌}
-use Prim.Native.Nat.{◌≤◌, ◌*◌, ◌-◌}
+use mathlib.Core.Path.{◌∙◌, ap}
+use mathlib.Core.List.{List}
+use Prim.Native.Nat.{◌*◌, ◌-◌}
 use native.Mathlib.Omega.{arith}
 use lib.IntN.{ℤ}
-use lib.ListN.{length, drop, length-take, length-drop}
+use lib.ListN.{length}
 use borrow.Rule.Slice.PartMut.{put_mid, same_len_mid}
 use Rattle.dct.proofs.Blocks.{small_column, rows_more, rows_all, length_fdct8}
-use Rattle.dct.specs.Block.{fdct8, column, rows, fdct8_columns}
+use Rattle.dct.specs.Block.{fdct8, column, fdct8_columns}
 use Rattle.lifting.specs.Inner.Operation.{run_limit}
 use Rattle.dct.proofs.block.fdct8_columns_into.Goals as goal
 
-pub loop-i-init : goal.loop-i-init
-loop-i-init c = (omega arith, refl, refl)
-
-pub fdct8-requires : goal.fdct8-requires
-fdct8-requires c =
-    record {
-      i_lt_block_side = omega arith;
-      x_len = c.requires.x_len;
-      in_bounds = simp (length-take, length-drop) (omega arith);
-      all_within = small_column run_limit c.args.x.now c.requires.all_within c.loop-i.i;
-    }
-
 pub loop-i-preserved : goal.loop-i-preserved
 loop-i-preserved c = let l = c.loop-i in
-    let n = length l.out-1 - 8 * l.i in (
+    let n = length l.out - 8 * l.i in (
       omega arith,
-      same_len_mid (8 * l.i) n l.out-1 c.fdct8.new.1.1.0 c.fdct8.auto.1.1.0 ∙ l.invariant.1,
-      ap (λ (y : List ℤ). put_mid (8 * l.i) n l.out-1 y) c.fdct8.ensures
-          ∙ rows_more (λ k. fdct8 (column k c.args.x.now)) l.i l.out-1 c.args.out.now (λ k. length_fdct8 (column k c.args.x.now)) l.invariant.2,
+      same_len_mid (8 * l.i) n l.out c.fdct8.new.out c.fdct8.auto.out ∙ l.invariant.1,
+      ap (λ (y : List ℤ). put_mid (8 * l.i) n l.out y) c.fdct8.ensures
+          ∙ rows_more (λ k. fdct8 (column k c.args.x.now)) l.i l.out c.args.out.now (λ k. length_fdct8 (column k c.args.x.now)) l.invariant.2,
     )
 
-pub shape_of-out : goal.shape_of-out
-shape_of-out c = c.loop-i.invariant.1
+pub fdct8-requires-clause-all_within : goal.fdct8-requires-clause-all_within
+fdct8-requires-clause-all_within c = small_column run_limit c.args.x.now c.requires.all_within c.loop-i.i
 
 pub returns : goal.returns
 unfolding fdct8_columns
 returns c = let l = c.loop-i in
-    rows_all (λ k. fdct8 (column k c.args.x.now)) l.i l.out-1 c.args.out.now l.invariant.0 c.loop-i-test.false c.requires.out_len l.invariant.2
+    rows_all (λ k. fdct8 (column k c.args.x.now)) l.i l.out c.args.out.now (omega arith) (omega arith) c.requires.out_len l.invariant.2

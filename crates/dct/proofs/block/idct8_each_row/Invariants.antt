@@ -1,15 +1,9 @@
 -- `idct8_each_row` passes each row back to its row: after i rounds the first i rows are written. Assumes nothing.
-use mathlib.Core.Path.{◌≡◌, refl, ◌∙◌, ap}
-use mathlib.Core.List.{List, ◌++◌}
+use mathlib.Core.Path.{◌≡◌}
+use mathlib.Core.List.{◌++◌}
 use Prim.Native.Nat.{◌≤◌, ◌*◌, ◌-◌}
-use native.Mathlib.Omega.{arith}
-use lib.IntN.{ℤ}
-use lib.ListN.{length, drop, length-take, length-drop}
-use borrow.Rule.Slice.PartMut.{put_mid, same_len_mid}
-use Rattle.dct.proofs.Blocks.{small_row, rows_more, rows_all}
-use Rattle.dct.proofs.Round.{length_idct8}
+use lib.ListN.{length, drop}
 use Rattle.dct.specs.Block.{idct8, row, rows}
-use Rattle.lifting.specs.Inner.Operation.{undo_limit}
 use Rattle.dct.proofs.block.idct8_each_row.Given as goal
 
 abbrev pub invariant-loop-i : goal.invariant-loop-i

@@ -1,7 +1,6 @@
 -- `idct8_rows` undoes each row, then exchanges rows and columns. Assumes nothing.
 use mathlib.Core.Path.{◌∙◌, ap}
 use Rattle.dct.specs.Block.{transposed, idct8_rows}
-use borrow.Author.Rules.{rules}
 use Rattle.dct.proofs.block.idct8_rows.Goals as goal
 
 pub returns : goal.returns

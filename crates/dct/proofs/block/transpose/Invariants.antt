@@ -1,13 +1,9 @@
 -- `transpose` exchanges rows and columns: after i rounds the first i rows are written. Assumes nothing.
-use mathlib.Core.Path.{◌≡◌, refl, ◌∙◌, ap}
-use mathlib.Core.List.{List, ◌++◌}
+use mathlib.Core.Path.{◌≡◌}
+use mathlib.Core.List.{◌++◌}
 use Prim.Native.Nat.{◌≤◌, ◌*◌, ◌-◌}
-use native.Mathlib.Omega.{arith}
-use lib.IntN.{ℤ}
-use lib.ListN.{length, drop, length-take, length-drop}
-use borrow.Rule.Slice.PartMut.{put_mid, same_len_mid}
-use Rattle.dct.proofs.Blocks.{rows_more, rows_all}
-use Rattle.dct.specs.Block.{column, rows, transposed}
+use lib.ListN.{length, drop}
+use Rattle.dct.specs.Block.{column, rows}
 use Rattle.dct.proofs.block.transpose.Given as goal
 
 abbrev pub invariant-loop-i : goal.invariant-loop-i

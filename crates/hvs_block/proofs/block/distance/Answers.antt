@@ -2,7 +2,6 @@
 use mathlib.Core.Path.{ap}
 use lib.Ieee.{binary64, of_int}
 use Rattle.hvs_block.proofs.Sizes.{difference_fits, negated_fits, distance_below, distance_above}
-use borrow.Author.Rules.{rules}
 use Rattle.hvs_block.proofs.block.distance.Goals as goal
 
 pub overflow_sub-d : goal.overflow_sub-d

@@ -1,14 +1,13 @@
 -- `energies` adds the weighed squares of two blocks; the first place is left out. Assumes nothing.
 use borrow.Author.Rules.{rules}
 use mathlib.Core.Path.{◌≡◌, sym, ◌∙◌}
-use Prim.Native.Nat.{◌-◌, ◌≤◌}
 use native.Mathlib.Omega.{arith}
 use Rattle.number.specs.Literals.{zero_d}
 use Rattle.dct.specs.Inner.Coefficients.{coefficient_limit}
 use Rattle.lifting.proofs.Size.{read}
 use Rattle.dct.proofs.Blocks.{small_at}
-use Rattle.hvs_block.specs.Block.{add_energy, energy}
-use Rattle.hvs_block.proofs.Folds.{flat8, by_eights}
+use Rattle.hvs_block.specs.Block.{energy}
+use Rattle.hvs_block.proofs.Folds.{by_eights}
 use Rattle.hvs_block.proofs.Sizes.{read_coefficient}
 use Rattle.hvs_block.proofs.Walks.{energy_first, energy_more}
 use Rattle.hvs_block.proofs.block.energies.Goals as goal

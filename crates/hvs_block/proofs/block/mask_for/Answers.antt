@@ -1,7 +1,6 @@
 -- `mask_for` goes by what the root answers; 0 / 0 is not a number, and stays so. Assumes nothing.
 use lib.Ieee.{div, of_bits}
 use Rattle.hvs_block.specs.Block.{mask_for}
-use borrow.Author.Rules.{rules}
 use Rattle.hvs_block.proofs.block.mask_for.Goals as goal
 
 pub returns-in-Root : goal.returns-in-Root

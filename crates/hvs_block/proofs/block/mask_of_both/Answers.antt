@@ -1,6 +1,5 @@
 -- `mask_of_both` is the definition's steps. Assumes nothing.
 use Rattle.hvs_block.specs.Block.{mask_of_both}
-use borrow.Author.Rules.{rules}
 use Rattle.hvs_block.proofs.block.mask_of_both.Goals as goal
 
 pub returns : goal.returns
@@ -12,6 +11,6 @@ returns c = let e = c.energies-e.ensures in
       c.ratio-2.ensures,
       c.mask_for-m1.ensures,
       c.ratio.ensures,
-      e.0,
-      e.1,
+      e.one_value,
+      e.other_value,
     )

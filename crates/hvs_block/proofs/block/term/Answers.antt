@@ -1,6 +1,5 @@
 -- `term` is a square. Assumes nothing.
 use Rattle.hvs_block.specs.Block.{term}
-use borrow.Author.Rules.{rules}
 use Rattle.hvs_block.proofs.block.term.Goals as goal
 
 pub returns : goal.returns

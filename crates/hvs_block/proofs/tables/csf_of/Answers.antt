@@ -1,6 +1,5 @@
 -- `csf_of` answers the table of each kind: the decimals give the bits. Assumes nothing.
 use Rattle.hvs_block.specs.Tables.{csf_of, csf_y, csf_cb420, csf_cr420}
-use borrow.Author.Rules.{rules}
 use Rattle.hvs_block.proofs.tables.csf_of.Goals as goal
 
 pub returns-in-Luma : goal.returns-in-Luma

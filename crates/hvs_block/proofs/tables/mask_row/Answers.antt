@@ -1,12 +1,9 @@
 -- `mask_row` fills a row. Assumes nothing.
 use borrow.Author.Rules.{rules}
 use mathlib.Core.Path.{◌≡◌, refl}
-use Prim.Native.Nat.{ℕ, ◌-◌, ◌≤◌}
 use native.Mathlib.Omega.{arith}
-use lib.ListN.{length, get_or, length-set}
-use lib.Ieee.{nan}
-use Rattle.hvs_block.specs.Tables.{mask_of}
-use Rattle.number.proofs.Lists.{Filled, filled_none, filled_more, filled_all}
+use lib.ListN.{length-set}
+use Rattle.number.proofs.Lists.{filled_none, filled_more, filled_all}
 use Rattle.hvs_block.proofs.tables.mask_row.Goals as goal
 
 pub loop-j-init : goal.loop-j-init

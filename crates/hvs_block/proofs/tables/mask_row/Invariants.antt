@@ -1,12 +1,10 @@
 -- `mask_row` fills a row. Assumes nothing.
-use borrow.Author.Rules.{rules}
-use mathlib.Core.Path.{◌≡◌, refl}
+use mathlib.Core.Path.{◌≡◌}
 use Prim.Native.Nat.{ℕ, ◌-◌, ◌≤◌}
-use native.Mathlib.Omega.{arith}
-use lib.ListN.{length, get_or, length-set}
+use lib.ListN.{length, get_or}
 use lib.Ieee.{nan}
 use Rattle.hvs_block.specs.Tables.{mask_of}
-use Rattle.number.proofs.Lists.{Filled, filled_none, filled_more, filled_all}
+use Rattle.number.proofs.Lists.{Filled}
 use Rattle.hvs_block.proofs.tables.mask_row.Given as goal
 
 abbrev pub invariant-loop-j : goal.invariant-loop-j

@@ -1,12 +1,10 @@
 -- `masks` fills a table. Assumes nothing.
 use borrow.Author.Rules.{rules}
 use mathlib.Core.Path.{◌≡◌}
-use Prim.Native.Nat.{ℕ, ◌-◌, ◌≤◌}
 use native.Mathlib.Omega.{arith}
-use lib.ListN.{length, get_or, length-set}
-use mathlib.Core.List.{[]}
-use Rattle.hvs_block.specs.Tables.{mask_row, masks_of}
-use Rattle.number.proofs.Lists.{Filled, filled_none, filled_more, filled_all}
+use lib.ListN.{length-set}
+use Rattle.hvs_block.specs.Tables.{masks_of}
+use Rattle.number.proofs.Lists.{filled_none, filled_more, filled_all}
 use Rattle.hvs_block.proofs.tables.masks.Goals as goal
 
 pub loop-i-init : goal.loop-i-init

@@ -1,5 +1,4 @@
 -- `gvar` is one exact number and two rounded steps. Assumes nothing.
-use borrow.Author.Rules.{rules}
 use Rattle.hvs_block.proofs.variance.gvar.Goals as goal
 
 pub returns : goal.returns

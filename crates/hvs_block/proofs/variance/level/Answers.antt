@@ -1,6 +1,5 @@
 -- `level` changes the type of a number that has no sign. Assumes nothing.
 use native.Mathlib.Omega.{arith}
-use borrow.Author.Rules.{rules}
 use Rattle.hvs_block.proofs.Numbers.{sample_small}
 use Rattle.hvs_block.proofs.Sizes.{read_sample}
 use Rattle.hvs_block.proofs.variance.level.Goals as goal

@@ -4,11 +4,10 @@ use native.Mathlib.Nat.{mul-le-mul}
 use lib.IntN.{nat_abs}
 use Rattle.hvs_block.proofs.Sizes.{read_sample, sample_read}
 use mathlib.Core.Path.{◌≡◌, sym, ap, ◌∙◌}
-use Prim.Native.Nat.{◌-◌, ◌≤◌, ◌^◌}
+use Prim.Native.Nat.{◌≤◌, ◌^◌}
 use native.Mathlib.Omega.{arith}
-use Rattle.plane.specs.Sums.{sum_to}
 use Rattle.plane.proofs.Sums.{sum_none, sum_more}
-use Rattle.hvs_block.specs.Inner.Levels.{level_in, squares}
+use Rattle.hvs_block.specs.Inner.Levels.{level_in}
 use Rattle.hvs_block.proofs.Levels.{sum_most, squares_most}
 use Rattle.hvs_block.proofs.Numbers.{sample_at_lem, sample_small}
 use Rattle.hvs_block.proofs.variance.quarter_sums.Goals as goal

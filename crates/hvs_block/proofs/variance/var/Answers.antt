@@ -1,5 +1,4 @@
 -- `var` is one exact number and two rounded steps. Assumes nothing.
-use borrow.Author.Rules.{rules}
 use Rattle.hvs_block.proofs.variance.var.Goals as goal
 
 pub returns : goal.returns

@@ -6,9 +6,12 @@ use mir.Facts.{to_z-of_z}
 use Rattle.lifting.proofs.Size.{kept, again}
 use Rattle.lifting.proofs.lift.down.Goals as goal
 
--- TODO clauses: a_bound, h_bound, factor
 pub scaled-requires : goal.scaled-requires
-scaled-requires c = (omega (arith, kept c.args.y), search rules)
+scaled-requires c = record {
+  a_bound = omega (arith, kept c.args.y);
+  h_bound = search rules;
+  factor = search rules;
+}
 
 pub sub-requires : goal.sub-requires
 sub-requires c = omega (arith, kept c.args.x, kept c.args.y)

@@ -1,6 +1,5 @@
 -- `block_at` loads two blocks and takes them in. Assumes nothing.
 use Rattle.psnr_hvs.proofs.Blocks.{block_length, block_samples}
-use borrow.Author.Rules.{rules}
 use Rattle.psnr_hvs.proofs.block.block_at.Goals as goal
 
 pub with_block-requires : goal.with_block-requires

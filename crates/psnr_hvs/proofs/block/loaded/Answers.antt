@@ -1,7 +1,7 @@
 -- `loaded` fills a block, sample by sample. Assumes nothing.
 use borrow.Author.Rules.{rules}
 use mathlib.Core.Path.{◌≡◌, ap, ◌∙◌}
-use Prim.Native.Nat.{◌+◌, ◌-◌, ◌*◌, ◌/◌, ◌%◌, ◌≤◌, ◌<◌, ◌^◌}
+use Prim.Native.Nat.{◌+◌, ◌*◌, ◌/◌, ◌%◌, ◌<◌, ◌^◌}
 use native.Mathlib.Omega.{arith}
 use native.Mathlib.Nat.{le_trans, lt_of_le_of_lt}
 use lib.ListN.{length, length-set}
@@ -9,11 +9,11 @@ use lib.Dec.{lit<}
 use lib.IntN.{pos}
 use mir.Syntax.{w32}
 use mir.Facts.{to_z_pos}
-use Rattle.plane.specs.Inner.Lent.{samples_of, plane_in}
+use Rattle.plane.specs.Inner.Lent.{samples_of}
 use Rattle.plane.proofs.Rows.{inside, count_fits}
 use Rattle.lifting.proofs.Size.{fits}
-use Rattle.psnr_hvs.specs.Score.{sample_in, block_at}
-use Rattle.number.proofs.Lists.{Filled, filled_none, filled_more, filled_all}
+use Rattle.psnr_hvs.specs.Score.{block_at}
+use Rattle.number.proofs.Lists.{filled_none, filled_more, filled_all}
 use Rattle.hvs_block.proofs.Numbers.{limit_small}
 use Rattle.psnr_hvs.proofs.block.loaded.Goals as goal
 
