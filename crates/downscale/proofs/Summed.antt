@@ -77,12 +77,6 @@ area_needed width height some = omega (arith, mul-sub width height 1, mul-le-mul
 pub bounded_le : {few most width height : ℕ} {p : Plane} → few ≤ most → Bounded few width height p → Bounded most width height p
 bounded_le m h = record { long = h.long; small = λ r c k l. le_trans (h.small r c k l) m }
 
--- a plane that was widened into places of its own
-pub bounded_widened : (most width height : ℕ) (old new : List ℕ) (p : Plane) → 1 ≤ height → Bounded most width height p
-    → Filled old new width (sample_at p) height → height * width ≤ length new → Bounded most width height (plane_of new width)
-bounded_widened most width height old new p some h f e =
-    record { long = omega (arith, area_needed width height some); small = λ r c k l. rw (f.rows r c k l) (h.small r c k l) }
-
 -- the scale below, in place
 pub bounded_below : (most width height : ℕ) (old new : List ℕ) → Bounded most width height (plane_of old width)
     → Filled old new (width / 2) (summed_of (sample_at (plane_of old width))) (height / 2) → length new ≡ length old

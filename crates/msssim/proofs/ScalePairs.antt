@@ -10,7 +10,7 @@ use borrow.Author.Rules.{part_to_end}
 use borrow.Rule.Slice.PartMut.{put_mid}
 use lib.Dec.{lit<}
 use lib.Ieee.{Float}
-use lib.ListN.{length, set, take, drop, length-drop, drop_of_length-le}
+use lib.ListN.{length, take, drop, length-drop, drop_of_length-le}
 use Rattle.plane.specs.Plane.{plane_of, sample_at}
 use Rattle.window.specs.Moments.{most_sample}
 use Rattle.window.proofs.Visible.{Same}
@@ -63,12 +63,6 @@ unfolding pairs_from
 pairs_none zero s [] e h = refl
 pairs_none zero s (x ∷ l) e h = absurd (omega arith)
 pairs_none (suc n) s l e h = absurd (omega arith)
-
--- two stores at the front
-pub two_set : {A : Type 0} (l : List A) (x y : A) → 2 ≤ length l → set (set l 0 x) 1 y ≡ x ∷ y ∷ drop 2 l
-two_set [] x y h = absurd (omega arith)
-two_set (a ∷ []) x y h = absurd (omega arith)
-two_set (a ∷ b ∷ l) x y h = refl
 
 -- ---- the part that is lent to the scales below: all places but the first two
 pub rest_length : (l : List Float) (left : ℕ) → length l ≡ 2 * left → length (take (length l - 2) (drop 2 l)) ≡ 2 * (left - 1)
