@@ -1,12 +1,9 @@
 -- `probe::none_above` meets its contract. The loop's invariant: the flag is the test of the places passed. Assumes nothing.
-use mathlib.Core.Path.{◌≡◌, sym}
+use mathlib.Core.Path.{◌≡◌}
 use Prim.Native.Nat.{◌≤◌, ◌-◌}
-use native.Mathlib.Omega.{arith}
-use borrow.Author.Rules.{rules}
 use lib.ListN.{length}
 use Rattle.plane.specs.Plane.{at}
 use Rattle.plane.specs.Tests.{none_above}
-use Rattle.plane.proofs.All.{none_none, none_more}
 use Rattle.window.specs.Moments.{most_sample}
 use Rattle.probe.proofs.none_above.Given as goal
 

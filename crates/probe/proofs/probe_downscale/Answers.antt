@@ -1,6 +1,5 @@
 -- `probe::probe_downscale` meets its contract. Assumes nothing.
 use mathlib.Core.Path.{refl, sym, ◌∙◌}
-use borrow.Author.Rules.{rules}
 use Rattle.probe.proofs.Accept.{sound, untouched}
 use Rattle.probe.proofs.probe_downscale.Goals as goal
 

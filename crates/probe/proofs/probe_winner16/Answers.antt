@@ -1,8 +1,6 @@
 -- `probe::probe_winner16` meets its contract. Assumes nothing.
 use mathlib.Core.Path.{refl, sym}
-use native.Mathlib.Omega.{arith}
-use borrow.Author.Rules.{rules}
-use lib.ListN.{length, get_or-eq_default}
+use lib.ListN.{get_or-eq_default}
 use Rattle.probe.proofs.Winner.{any_default}
 use Rattle.probe.proofs.probe_winner16.Goals as goal
 
