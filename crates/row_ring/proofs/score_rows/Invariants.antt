@@ -8,6 +8,3 @@ use Rattle.row_ring.proofs.score_rows.Given as goal
 abbrev pub invariant-loop-y : goal.invariant-loop-y
 invariant-loop-y l = (l.from ≤ l.y) × (l.y ≤ l.upto) × (l.s ≡ l.initial.s)
     × (l.t ≡ rows_from l.max2 l.kernel l.ring.width l.ring.height (ring_a l.initial.s l.ring.width l.ring.lines) (ring_b l.initial.s l.ring.width l.ring.lines) l.initial.t l.from (l.y - l.from))
-
-abbrev pub decreases-loop-y : goal.decreases-loop-y
-decreases-loop-y l = l.upto - l.y

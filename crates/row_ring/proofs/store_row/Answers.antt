@@ -6,16 +6,12 @@ use Prim.Native.Nat.{ℕ, ◌<◌, ◌^◌, ◌+◌, ◌*◌, ◌≤◌}
 use native.Mathlib.Omega.{arith}
 use borrow.Author.Rules.{rules}
 use lib.ListN.{length}
-use Rattle.plane.specs.Plane.{at, needed}
+use Rattle.plane.specs.Plane.{needed}
 use Rattle.plane.specs.Inner.Lent.{samples_of}
 use Rattle.plane.proofs.Rows.{count_fits, row_inside}
 use Rattle.window.proofs.Sums.Stores.{put_none, put_next}
-use Rattle.row_ring.specs.Ring.{packed_of}
+use Rattle.row_ring.proofs.store_row.Invariants.{pairs}
 use Rattle.row_ring.proofs.store_row.Goals as goal
-
--- the pairs of a row that begins at `first` of one list and at `second` of another
-abbrev pairs : List ℕ → List ℕ → ℕ → ℕ → ℕ → ℕ
-pairs p q first second x = packed_of (at p (first + x)) (at q (second + x))
 
 -- a row of one of two lists ends inside it, at a place that can be counted to
 row_there : (wide : Bool) (s8 s16 : List ℕ) (width height stride i : ℕ) → needed width height stride ≤ length (samples_of wide s8 s16) → i < height
