@@ -1,19 +1,16 @@
 -- Laws of the lent 32-bit places: one store more in a row, and one row more. Assumes nothing.
-use mathlib.Core.Path.{◌≡◌, refl, ◌∙◌}
+use mathlib.Core.Path.{◌≡◌, ◌∙◌}
 use mathlib.Core.List.{List}
 use Prim.Native.Nat.{ℕ, ◌+◌, ◌*◌, ◌<◌}
 use native.Mathlib.Nat.{ne_of_lt, add-mul, one-mul, mul-le-mul_right}
 use native.Mathlib.Omega.{arith}
-use borrow.Author.Count.{below_more, below_none}
+use borrow.Author.Count.{below_more}
 use lib.ListN.{length, set}
 use lib.Seq.{get_or-set_same, get_or-set_other}
 use Rattle.plane.specs.Plane.{at}
 use Rattle.downscale.specs.Inner.Longs.{Put, Filled}
 
 -- ---- a row
-pub put_none : (l : List ℕ) (from : ℕ) (g : ℕ → ℕ) → Put l l from 0 g
-put_none l from g = record { there = below_none _; before = λ i m. refl; after = λ i m. refl }
-
 pub put_more : (old l : List ℕ) (from n : ℕ) (g : ℕ → ℕ) (v : ℕ) → Put old l from n g → v ≡ g n → from + n < length l
     → Put old (set l (from + n) v) from (n + 1) g
 put_more old l from n g v p e h =
@@ -28,9 +25,6 @@ put_more old l from n g v p e h =
 -- ---- all rows
 next : (y w : ℕ) → (y + 1) * w ≡ y * w + w
 next y w = rw (add-mul y 1 w, one-mul w)
-
-pub filled_none : (l : List ℕ) (width : ℕ) (v : ℕ → ℕ → ℕ) → Filled l l width v 0
-filled_none l width v = record { rows = λ r c m k. absurd (omega arith); rest = λ i m. refl }
 
 pub filled_more : (old l l' : List ℕ) (width : ℕ) (v : ℕ → ℕ → ℕ) (y : ℕ) (g : ℕ → ℕ) → Filled old l width v y
     → Put l l' (y * width) width g → ((c : ℕ) → c < width → g c ≡ v y c) → Filled old l' width v (y + 1)

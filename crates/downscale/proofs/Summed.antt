@@ -1,5 +1,5 @@
 -- Laws of the scale below: the 2×2 samples that it is made of are still there when they are read, and how large it grows. Assumes nothing.
-use mathlib.Core.Path.{◌≡◌, sym}
+use mathlib.Core.Path.{◌≡◌}
 use mathlib.Core.List.{List}
 use Prim.Native.Nat.{ℕ, ◌+◌, ◌-◌, ◌*◌, ◌/◌, ◌≤◌, ◌<◌, ◌^◌}
 use native.Mathlib.Nat.{mul-le-mul, mul-le-mul_left, mul-sub, le_refl, le_trans}

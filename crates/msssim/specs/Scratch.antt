@@ -1,6 +1,5 @@
 -- SCOPE, "When the desk says no": how much scratch MS-SSIM needs, and what stands there afterwards. Definitions only.
 use Rattle.std.specs.Prelude.{Bool, ◌&&◌, List, ℕ, ◌*◌, leb, ℤ, pos, length}
-use Rattle.std.specs.Borrow.{Bor}
 use Rattle.plane.specs.declared.Size.{Size}
 use Rattle.kernel.specs.Kernel.{fixed_kernel}
 use Rattle.ssim.specs.Scratch.{scratch_places, cleared}
@@ -11,9 +10,9 @@ pub record Scratch : Type 0 where
   pub a32 : List ℕ
   pub b32 : List ℕ
 
--- as it is lent
-abbrev pub scratch_of : Bor (List ℤ) → Bor (List ℕ) → Bor (List ℕ) → Scratch
-scratch_of places a32 b32 = record { places = places.now; a32 = a32.now; b32 = b32.now }
+-- of three lists
+abbrev pub scratch_of : List ℤ → List ℕ → List ℕ → Scratch
+scratch_of places a32 b32 = record { places = places; a32 = a32; b32 = b32 }
 
 -- what is needed of the first: as much as SSIM needs under a kernel of so many taps
 abbrev pub places_needed : ℕ → ℕ

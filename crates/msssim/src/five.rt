@@ -17,6 +17,7 @@ fn all_finite(l: &[f64]) -> bool
 }
 
 // The five pairs, or 9 where one of the ten numbers is not finite.
+#[tactic(auto, unfolding(crate::specs::Scale::scale_count))]
 pub fn five(l: &[f64]) -> MsSsim
     requires { length l.now ≡ 2 * scale_count }
     ensures { result ≡ five_of l.now }

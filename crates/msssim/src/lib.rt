@@ -62,7 +62,7 @@ pub fn samples_needed(width: usize, height: usize) -> usize
 // None of the three that are lent is too short.
 fn scratch_suits(size: Size, scratch: &[i64], a32: &[u32], b32: &[u32]) -> bool
     requires { (size.width ≤ side_limit) × (size.height ≤ side_limit) }
-    ensures { result ≡ scratch_suits size (scratch_of scratch.entry a32.entry b32.entry) }
+    ensures { result ≡ scratch_suits size (scratch_of scratch.now a32.now b32.now) }
 {
     let places = places_needed(size.width);
     let samples = samples_needed(size.width, size.height);
@@ -81,7 +81,7 @@ fn refusal(
     b32: &[u32],
 ) -> u8
     ensures { result ≡ msssim_refusal (planes layout a8.entry a16.entry b8.entry b16.entry)
-        (scratch_of scratch.entry a32.entry b32.entry) }
+        (scratch_of scratch.now a32.now b32.now) }
 {
     let no = plane::check(a8, a16, b8, b16, layout, LEAST_SIDE);
     if no != 0 {
@@ -104,10 +104,10 @@ fn score(
     a32: &mut [u32],
     b32: &mut [u32],
 ) -> MsSsim
-    requires { Sound (planes layout a8 a16 b8 b16) (scratch_of scratch a32 b32) }
+    requires { Sound (planes layout a8 a16 b8 b16) (scratch_of scratch.old a32.old b32.old) }
     ensures value { result ≡ msssim_score (planes layout a8.entry a16.entry b8.entry b16.entry) }
-    ensures b32_value { scratch_of scratch.exit a32.exit b32.exit
-        ≡ all_cleared layout.size (scratch_of scratch.entry a32.entry b32.entry) }
+    ensures b32_value { scratch_of scratch.new a32.new b32.new
+        ≡ all_cleared layout.size (scratch_of scratch.old a32.old b32.old) }
 {
     let places = places_needed(layout.size.width);
     let samples = samples_needed(layout.size.width, layout.size.height);
@@ -135,9 +135,9 @@ fn answer(
     b32: &mut [u32],
 ) -> MsSsim
     ensures value { result ≡ msssim_of (planes layout a8.entry a16.entry b8.entry b16.entry)
-        (scratch_of scratch.entry a32.entry b32.entry) }
-    ensures b32_value { scratch_of scratch.exit a32.exit b32.exit ≡ scratch_after
-        (planes layout a8.entry a16.entry b8.entry b16.entry) (scratch_of scratch.entry a32.entry b32.entry) }
+        (scratch_of scratch.old a32.old b32.old) }
+    ensures b32_value { scratch_of scratch.new a32.new b32.new ≡ scratch_after
+        (planes layout a8.entry a16.entry b8.entry b16.entry) (scratch_of scratch.old a32.old b32.old) }
 {
     let no = refusal(a8, a16, b8, b16, layout, scratch, a32, b32);
     if no != 0 {
@@ -160,9 +160,9 @@ pub fn msssim8(
     b32: &mut [u32],
 ) -> MsSsim
     ensures value { result ≡ msssim_of (called false a.entry b.entry width height stride_a stride_b depth)
-        (scratch_of scratch.entry a32.entry b32.entry) }
-    ensures b32_value { scratch_of scratch.exit a32.exit b32.exit ≡ scratch_after (called false a.entry b.entry
-        width height stride_a stride_b depth) (scratch_of scratch.entry a32.entry b32.entry) }
+        (scratch_of scratch.old a32.old b32.old) }
+    ensures b32_value { scratch_of scratch.new a32.new b32.new ≡ scratch_after (called false a.entry b.entry
+        width height stride_a stride_b depth) (scratch_of scratch.old a32.old b32.old) }
 {
     let size = Size {
         wide: false,
@@ -192,9 +192,9 @@ pub fn msssim16(
     b32: &mut [u32],
 ) -> MsSsim
     ensures value { result ≡ msssim_of (called true a.entry b.entry width height stride_a stride_b depth)
-        (scratch_of scratch.entry a32.entry b32.entry) }
-    ensures b32_value { scratch_of scratch.exit a32.exit b32.exit ≡ scratch_after (called true a.entry b.entry
-        width height stride_a stride_b depth) (scratch_of scratch.entry a32.entry b32.entry) }
+        (scratch_of scratch.old a32.old b32.old) }
+    ensures b32_value { scratch_of scratch.new a32.new b32.new ≡ scratch_after (called true a.entry b.entry
+        width height stride_a stride_b depth) (scratch_of scratch.old a32.old b32.old) }
 {
     let size = Size {
         wide: true,

@@ -69,7 +69,7 @@ fn five_pairs(
     b32: &mut [u32],
     pairs: &mut [f64],
 )
-    requires sound { Sound (planes layout a8 a16 b8 b16) (scratch_of cols a32 b32) }
+    requires sound { Sound (planes layout a8 a16 b8 b16) (scratch_of cols.old a32.old b32.old) }
     requires pairs_len { length pairs.old ≡ 2 * scale_count }
     ensures { pairs.new ≡ pairs_from scale_count
         (first_scale (planes layout a8.entry a16.entry b8.entry b16.entry)) }
@@ -83,6 +83,7 @@ fn five_pairs(
 }
 
 // The score of two planes that no test refuses, in scratch that is all needed: all of it is zero afterwards.
+#[tactic(auto, unfolding(crate::specs::Scale::scale_count))]
 pub fn score(
     a8: &[u8],
     a16: &[u16],
@@ -93,7 +94,7 @@ pub fn score(
     a32: &mut [u32],
     b32: &mut [u32],
 ) -> MsSsim
-    requires { Sound (planes layout a8 a16 b8 b16) (scratch_of cols a32 b32) }
+    requires { Sound (planes layout a8 a16 b8 b16) (scratch_of cols.old a32.old b32.old) }
     ensures value { result ≡ msssim_score (planes layout a8.entry a16.entry b8.entry b16.entry) }
     ensures cols_after { cols.new ≡ replicate (length cols.old) (pos 0) }
     ensures a32_after { a32.new ≡ replicate (length a32.old) 0 }

@@ -3,7 +3,7 @@
 use mathlib.Core.Path.{◌≡◌, refl, ◌∙◌, subst⁻¹}
 use mathlib.Core.Bool.{Bool, true, false, ◌&&◌}
 use mathlib.Core.List.{List}
-use Prim.Native.Nat.{ℕ, ◌+◌, ◌-◌, ◌*◌, ◌/◌, ◌≤◌, ◌<◌, ◌^◌}
+use Prim.Native.Nat.{ℕ, ◌+◌, ◌-◌, ◌*◌, ◌/◌, ◌≤◌, ◌<◌}
 use native.Mathlib.Nat.{mul_assoc, mul-zero, mul-one, le_trans}
 use native.Mathlib.Omega.{arith}
 use borrow.Author.Tests.{leb-true, leb-false, ltb-true, ltb-false}
@@ -12,10 +12,8 @@ use lib.ListN.{length}
 use Rattle.refusal.proofs.Chain.{and_left, and_right}
 use Rattle.plane.specs.Plane.{Planes, sample_at}
 use Rattle.plane.specs.Inner.Lawful.{AcceptedPair}
-use Rattle.plane.proofs.Limits.{side_small}
 use Rattle.plane.proofs.Sums.{sum_none, sum_more, sum_mono, sum_term}
 use Rattle.kernel.specs.Kernel.{tap, lent_total, lawful}
-use Rattle.kernel.proofs.Says.{kernel_says, taps_room}
 use Rattle.window.specs.Moments.{clipped, seen_at, moment_at, moments_at}
 use Rattle.window.specs.declared.Moments.{Moments}
 use Rattle.window.proofs.Sums.Windows.{clipped_in, clipped_below, clipped_above}
@@ -41,6 +39,11 @@ module _ (ker : List ℕ) (width height : ℕ) (x y i j : ℕ) where
   -- both sides of it
   abbrev pub inside_both : Bool
   inside_both = inside_of (length ker / 2) height (y + i) && inside_of (length ker / 2) width (x + j)
+
+  -- where a call for each side answered so, it is their answer
+  pub found : {down across b : Bool} → down ≡ inside_of (length ker / 2) height (y + i) → across ≡ inside_of (length ker / 2) width (x + j)
+      → (down && across) ≡ b → inside_both ≡ b
+  found d a e = rw (d, a) at e
 
   -- what the test says
   pub reaches : inside_both ≡ true
@@ -128,16 +131,6 @@ module _ (ker : List ℕ) (width height : ℕ) (a b : ℕ → ℕ → ℕ) (x y 
   rows_all e all = rw all at e
 
 -- ---- room
-
--- indices are small
-pub limits : (p : Planes) (ker : List ℕ) → AcceptedPair p 0 → lawful lent_total ker ≡ true
-    → (p.size.width ≤ 2 ^ 32) × (p.size.height ≤ 2 ^ 32) × (length ker ≤ 2 ^ 32)
-limits p ker accepted ok =
-    let size = accepted.sized in (
-      omega (arith, size.width_most, side_small),
-      omega (arith, size.height_most, side_small),
-      omega (arith, (kernel_says lent_total ker ok).short, taps_room),
-    )
 
 -- sums
 module _ (ker : List ℕ) (width height : ℕ) (x y : ℕ) (v : ℕ → ℕ → ℕ) where

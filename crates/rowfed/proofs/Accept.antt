@@ -1,36 +1,35 @@
 -- What holds where no test of a call refuses, and which number it gives where one does. Assumes nothing.
 use mathlib.Core.Path.{◌≡◌, refl, sym, ◌∙◌}
 use mathlib.Core.Bool.{Bool, true, false, ◌&&◌, ◌||◌, and-true}
-use mathlib.Core.List.{List, [], ◌∷◌, ◌++◌}
-use Prim.Native.Nat.{ℕ, zero, suc, ◌+◌, ◌*◌, ◌/◌, ◌≤◌, ◌<◌}
+use mathlib.Core.List.{List, [], ◌∷◌}
+use Prim.Native.Nat.{ℕ, ◌+◌, ◌≤◌, ◌<◌}
 use native.Mathlib.Nat.{mul_comm, mul_assoc}
 use native.Mathlib.Omega.{arith}
-use borrow.Author.Tests.{leb-true, le-leb, lt-leb, eqb-true, eq-eqb, ne_eqb}
+use borrow.Author.Tests.{leb-true, le-leb, lt-leb, eqb-true, ne_eqb}
 use lib.Dec.{lit≤, eqb, leb}
-use lib.ListN.{length, take}
+use lib.ListN.{length}
 use lib.Seq.{length-take-le}
 use Rattle.refusal.specs.Numbers.{kernel_no, scratch_no, state_no, stride_no}
 use Rattle.refusal.specs.First.{first_broken, unless}
-use Rattle.refusal.proofs.Chain.{and_left, and_right, Named, passed, halves, stop, go_on}
+use Rattle.refusal.proofs.Chain.{and_left, and_right, Named, passed, stop, go_on}
 use Rattle.plane.specs.Limits.{side_limit}
 use Rattle.plane.specs.declared.Size.{Size}
 use Rattle.plane.specs.Plane.{Plane, Planes, both, every, all_to}
 use Rattle.plane.specs.Tests.{depth_suits, sides_suit, stride_suits, long_enough, samples_suit, size_tests, layout_tests}
-use Rattle.plane.specs.Inner.Lent.{Long, lower_of}
+use Rattle.plane.specs.Inner.Lent.{lower_of}
 use Rattle.plane.proofs.Accept.{sides_say, long_says}
 use Rattle.plane.proofs.Depth.{depth_says, depth_small}
 use Rattle.plane.proofs.Several.{one_more, sizes_stop, sizes_pass}
-use Rattle.kernel.specs.Kernel.{most_taps, lawful, lent_total}
+use Rattle.kernel.specs.Kernel.{lawful, lent_total}
 use Rattle.kernel.proofs.Says.{kernel_says, lent_total_lem}
-use Rattle.window.specs.Inner.Columns.{columns_of}
 use Rattle.window.proofs.Serves.{kernel_serves}
 use Rattle.ssim.specs.Answer.{lent_tests}
 use Rattle.ssim.specs.Scratch.{next_power, scratch_places}
-use Rattle.ssim.proofs.Accept.{taps_count, columns_few}
+use Rattle.ssim.proofs.Accept.{columns_few}
 use Rattle.rowfed.specs.declared.State.{State}
-use Rattle.rowfed.specs.State.{kernel_of, places_of, zeros, places_suit, counts_suit, possible}
+use Rattle.rowfed.specs.State.{kernel_of, places_of, places_suit, counts_suit, possible}
 use Rattle.rowfed.specs.Begin.{begin_tests, begin_refusal}
-use Rattle.rowfed.specs.Feed.{rows_tests, late_tests, feed_tests, feed_refusal, used_places}
+use Rattle.rowfed.specs.Feed.{rows_tests, late_tests, feed_tests, feed_refusal}
 use Rattle.rowfed.specs.Finish.{finish_tests, finish_refusal}
 use Rattle.rowfed.specs.Inner.Sound.{SoundState, SoundFeed}
 

@@ -1,26 +1,26 @@
 -- However the rows of two planes are grouped, begin, the feeds and finish give what SSIM gives of the planes, bit for bit, and leave what it leaves.
 -- Assumes nothing.
 use mathlib.Core.Path.{◌≡◌, refl, sym, ap, ◌∙◌}
-use mathlib.Core.Bool.{Bool, true, false, ◌&&◌, ◌||◌, or-true}
+use mathlib.Core.Bool.{Bool, true, false, ◌||◌, or-true}
 use mathlib.Core.List.{List, [], ◌∷◌, ◌++◌}
-use Prim.Native.Nat.{ℕ, zero, suc, ◌+◌, ◌-◌, ◌*◌, ◌/◌, ◌≤◌, ◌<◌, ◌^◌}
-use native.Mathlib.Nat.{le_trans, lt_of_le_of_lt}
+use Prim.Native.Nat.{ℕ, ◌+◌, ◌-◌, ◌*◌, ◌/◌, ◌≤◌, ◌<◌, ◌^◌}
+use native.Mathlib.Nat.{lt_of_le_of_lt}
 use native.Mathlib.Decide.{dec_lt}
 use native.Mathlib.Omega.{arith}
 use borrow.Author.Tests.{le-leb, eq-eqb}
-use lib.Dec.{lit≤, lit<, eqb}
+use lib.Dec.{eqb}
 use lib.Ieee.{Float}
 use lib.IntN.{ℤ, pos}
 use lib.ListN.{length, take, drop, replicate, length-append, length-drop, length-replicate, get_or-replicate, get_or-append}
 use lib.Seq.{length-take-le, get_or-take, take-append_seam, drop_at, drop-drop, drop-append-add}
-use Rattle.refusal.proofs.Chain.{halves, none_broken, go_on, passed}
-use Rattle.plane.specs.Plane.{Plane, Planes, both, every, max_of, sample_at}
-use Rattle.plane.specs.Tests.{depth_suits, sides_suit, samples_suit, row_suits, long_enough, size_tests, layout_tests, pair_tests}
-use Rattle.plane.specs.Inner.Lawful.{Bounded, AcceptedPair}
+use Rattle.refusal.proofs.Chain.{halves, none_broken, go_on}
+use Rattle.plane.specs.Plane.{Planes, both, every, sample_at}
+use Rattle.plane.specs.Tests.{samples_suit, row_suits, long_enough, size_tests, layout_tests, pair_tests}
+use Rattle.plane.specs.Inner.Lawful.{AcceptedPair}
 use Rattle.plane.proofs.Accept.{accepted, plane_named, size_named}
 use Rattle.plane.proofs.All.{all_holds, none_holds}
 use Rattle.plane.proofs.Depth.{max_small}
-use Rattle.kernel.specs.Kernel.{most_taps, lent_total, lawful}
+use Rattle.kernel.specs.Kernel.{most_taps}
 use Rattle.window.specs.Inner.Columns.{at_z}
 use Rattle.ssim.specs.declared.Totals.{Totals}
 use Rattle.ssim.specs.Score.{no_totals, totals_of}
@@ -33,11 +33,11 @@ use Rattle.row_ring.specs.Taken.{scored_after, Kept}
 use Rattle.row_ring.proofs.Rows.{scored_before}
 use Rattle.row_ring.proofs.Taken.{Fed, fed_none, fed_same, fed_all_lem, group_fed, taken_length}
 use Rattle.rowfed.specs.declared.State.{State}
-use Rattle.rowfed.specs.State.{held_kernel, kernel_of, ring_of, max2_of, places_of, counts_suit, possible}
+use Rattle.rowfed.specs.State.{held_kernel, max2_of, counts_suit, possible}
 use Rattle.rowfed.specs.Begin.{begin_tests, begin_refusal}
-use Rattle.rowfed.specs.Feed.{rows_tests, late_tests, feed_tests, feed_refusal, used_places, tidied, taken_in}
+use Rattle.rowfed.specs.Feed.{rows_tests, late_tests, feed_tests, feed_refusal, taken_in}
 use Rattle.rowfed.specs.Finish.{finish_tests, finish_refusal, finish_of, scratch_finished}
-use Rattle.rowfed.specs.Runs.{Between, fed_once, fed_all, RowsOf, Groups, begun_with, TakenAll}
+use Rattle.rowfed.specs.Runs.{fed_once, fed_all, RowsOf, Groups, begun_with, TakenAll}
 use Rattle.rowfed.specs.Inner.Sound.{SoundState}
 use Rattle.rowfed.proofs.Accept.{Begun, begun, sound_state}
 use Rattle.rowfed.proofs.Tidied.{tidy_clean}

@@ -1,7 +1,7 @@
 -- The used places before a feed: the ring as it stands, and zeros past it. Assumes nothing.
-use mathlib.Core.Path.{◌≡◌, refl, sym, ap, ◌∙◌}
-use mathlib.Core.List.{List, [], ◌++◌, append-nil}
-use Prim.Native.Nat.{ℕ, ◌+◌, ◌-◌, ◌*◌, ◌/◌, ◌≤◌, ◌<◌}
+use mathlib.Core.Path.{◌≡◌, refl, ◌∙◌}
+use mathlib.Core.List.{List, ◌++◌, append-nil}
+use Prim.Native.Nat.{ℕ, ◌+◌, ◌-◌, ◌*◌, ◌/◌, ◌≤◌}
 use native.Mathlib.Nat.{le_refl}
 use native.Mathlib.Omega.{arith}
 use borrow.Rule.Slice.PartMut.{put_mid}
@@ -14,7 +14,6 @@ use Rattle.plane.specs.Plane.{Planes, max_of}
 use Rattle.plane.specs.Sums.{sum_to}
 use Rattle.kernel.specs.Kernel.{tap, lent_total}
 use Rattle.window.specs.Inner.Parts.{Kernel}
-use Rattle.window.specs.Inner.Columns.{at_z}
 use Rattle.window.proofs.Sums.Held.{zero_at}
 use Rattle.ssim.specs.Scratch.{next_power}
 use Rattle.ssim.proofs.Powers.{power_reach}

@@ -1,20 +1,6 @@
--- `msssim::answer` meets its contract. Assumes nothing.
-use mathlib.Core.Path.{sym, ◌∙◌}
-use borrow.Author.Rules.{rules}
-use Rattle.refusal.proofs.Chain.{refused}
+-- What holds where no test refuses.
 use Rattle.msssim.proofs.Accept.{sound}
 use Rattle.msssim.proofs.answer.Goals as goal
 
-pub returns-then-no-ne0 : goal.returns-then-no-ne0
-returns-then-no-ne0 c =
-    record {
-      value = rw (← c.refusal-no.ensures) (refused _ _ _ c.if-no-ne0.true);
-      b32_value = rw (← c.refusal-no.ensures) (refused _ _ _ c.if-no-ne0.true);
-    }
-
 pub score-requires : goal.score-requires
 score-requires c = sound _ _ c.refusal-no.ensures c.if-no-ne0.false
-
--- TODO clauses: value, b32_value
-pub returns : goal.returns
-returns c = rw (sym c.refusal-no.ensures ∙ c.if-no-ne0.left) c.score.ensures

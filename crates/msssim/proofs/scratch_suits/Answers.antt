@@ -1,6 +1,5 @@
--- `msssim::scratch_suits` meets its contract. Assumes nothing.
+-- The three tests are the definition's.
 use Rattle.msssim.specs.Scratch.{scratch_suits}
-use borrow.Author.Rules.{rules}
 use Rattle.msssim.proofs.scratch_suits.Goals as goal
 
 pub returns : goal.returns

@@ -1,11 +1,12 @@
 -- `row_ring::store_row` meets its contract. Assumes nothing.
 use mathlib.Core.Path.{◌≡◌, refl, ◌∙◌}
+use mathlib.Core.Bool.{Bool}
 use mathlib.Core.List.{List}
-use Prim.Native.Nat.{ℕ, ◌+◌, ◌*◌, ◌≤◌}
+use Prim.Native.Nat.{ℕ, ◌<◌, ◌^◌, ◌+◌, ◌*◌, ◌≤◌}
 use native.Mathlib.Omega.{arith}
 use borrow.Author.Rules.{rules}
 use lib.ListN.{length}
-use Rattle.plane.specs.Plane.{at}
+use Rattle.plane.specs.Plane.{at, needed}
 use Rattle.plane.specs.Inner.Lent.{samples_of}
 use Rattle.plane.proofs.Rows.{count_fits, row_inside}
 use Rattle.window.proofs.Sums.Stores.{put_none, put_next}
@@ -16,48 +17,78 @@ use Rattle.row_ring.proofs.store_row.Goals as goal
 abbrev pairs : List ℕ → List ℕ → ℕ → ℕ → ℕ → ℕ
 pairs p q first second x = packed_of (at p (first + x)) (at q (second + x))
 
+-- a row of one of two lists ends inside it, at a place that can be counted to
+row_there : (wide : Bool) (s8 s16 : List ℕ) (width height stride i : ℕ) → needed width height stride ≤ length (samples_of wide s8 s16) → i < height
+    → length s8 < 2 ^ 64 → length s16 < 2 ^ 64
+    → (i * stride + width ≤ length (samples_of wide s8 s16)) × (length (samples_of wide s8 s16) < 2 ^ 64)
+row_there wide s8 s16 width height stride i long l m n = (row_inside width stride long l, count_fits wide s8 s16 m n)
+
 pub overflow_mul-first : goal.overflow_mul-first
 overflow_mul-first c =
-    let row-a : c.args.i * c.args.layout.stride_a + c.args.layout.size.width ≤ length (samples_of c.args.layout.size.wide c.args.a8.now c.args.a16.now) = row_inside c.args.layout.size.width c.args.layout.stride_a c.requires.long (omega arith) in
-    omega (arith, row-a, count_fits c.args.layout.size.wide c.args.a8.now c.args.a16.now (omega arith) (omega arith))
+    let size = c.args.layout.size in
+    omega (
+      arith,
+      row_there size.wide c.args.a8.now c.args.a16.now size.width size.height c.args.layout.stride_a c.args.i c.requires.long
+          (omega arith) (omega arith) (omega arith),
+    )
 
 pub overflow_mul-second : goal.overflow_mul-second
 overflow_mul-second c =
-    let row-b : c.args.i * c.args.layout.stride_b + c.args.layout.size.width ≤ length (samples_of c.args.layout.size.wide c.args.b8.now c.args.b16.now) = row_inside c.args.layout.size.width c.args.layout.stride_b c.requires.long_2 (omega arith) in
-    omega (arith, row-b, count_fits c.args.layout.size.wide c.args.b8.now c.args.b16.now (omega arith) (omega arith))
+    let size = c.args.layout.size in
+    omega (
+      arith,
+      row_there size.wide c.args.b8.now c.args.b16.now size.width size.height c.args.layout.stride_b c.args.i c.requires.long_2
+          (omega arith) (omega arith) (omega arith),
+    )
 
 pub loop-x-init : goal.loop-x-init
 loop-x-init c = (search rules, refl, put_none _ _ _)
 
 pub overflow_add-first : goal.overflow_add-first
 overflow_add-first c =
-    let row-a : c.args.i * c.args.layout.stride_a + c.args.layout.size.width ≤ length (samples_of c.args.layout.size.wide c.args.a8.now c.args.a16.now) = row_inside c.args.layout.size.width c.args.layout.stride_a c.requires.long (omega arith) in
-    omega (arith, row-a, count_fits c.args.layout.size.wide c.args.a8.now c.args.a16.now (omega arith) (omega arith))
+    let size = c.args.layout.size in
+    omega (
+      arith,
+      row_there size.wide c.args.a8.now c.args.a16.now size.width size.height c.args.layout.stride_a c.args.i c.requires.long
+          (omega arith) (omega arith) (omega arith),
+    )
 
 pub sample-requires : goal.sample-requires
 sample-requires c =
-    let row-a : c.args.i * c.args.layout.stride_a + c.args.layout.size.width ≤ length (samples_of c.args.layout.size.wide c.args.a8.now c.args.a16.now) = row_inside c.args.layout.size.width c.args.layout.stride_a c.requires.long (omega arith) in
-    omega (arith, row-a)
+    let size = c.args.layout.size in
+    omega (
+      arith,
+      row_there size.wide c.args.a8.now c.args.a16.now size.width size.height c.args.layout.stride_a c.args.i c.requires.long
+          (omega arith) (omega arith) (omega arith),
+    )
 
 pub overflow_add-second : goal.overflow_add-second
 overflow_add-second c =
-    let row-b : c.args.i * c.args.layout.stride_b + c.args.layout.size.width ≤ length (samples_of c.args.layout.size.wide c.args.b8.now c.args.b16.now) = row_inside c.args.layout.size.width c.args.layout.stride_b c.requires.long_2 (omega arith) in
-    omega (arith, row-b, count_fits c.args.layout.size.wide c.args.b8.now c.args.b16.now (omega arith) (omega arith))
+    let size = c.args.layout.size in
+    omega (
+      arith,
+      row_there size.wide c.args.b8.now c.args.b16.now size.width size.height c.args.layout.stride_b c.args.i c.requires.long_2
+          (omega arith) (omega arith) (omega arith),
+    )
 
 pub sample-requires-in-loop-x : goal.sample-requires-in-loop-x
 sample-requires-in-loop-x c =
-    let row-b : c.args.i * c.args.layout.stride_b + c.args.layout.size.width ≤ length (samples_of c.args.layout.size.wide c.args.b8.now c.args.b16.now) = row_inside c.args.layout.size.width c.args.layout.stride_b c.requires.long_2 (omega arith) in
-    omega (arith, row-b)
+    let size = c.args.layout.size in
+    omega (
+      arith,
+      row_there size.wide c.args.b8.now c.args.b16.now size.width size.height c.args.layout.stride_b c.args.i c.requires.long_2
+          (omega arith) (omega arith) (omega arith),
+    )
 
 pub loop-x-preserved : goal.loop-x-preserved
 loop-x-preserved c =
-    let both : ℕ → ℕ = pairs (samples_of c.args.layout.size.wide c.args.a8.now c.args.a16.now) (samples_of c.args.layout.size.wide c.args.b8.now c.args.b16.now) (c.args.i * c.args.layout.stride_a) (c.args.i * c.args.layout.stride_b) in
-    let l = c.loop-x in
-    let r = c.put in (
+    let size = c.args.layout.size in
+    let first = samples_of size.wide c.args.a8.now c.args.a16.now in
+    let second = samples_of size.wide c.args.b8.now c.args.b16.now in
+    let both : ℕ → ℕ = pairs first second (c.args.i * c.args.layout.stride_a) (c.args.i * c.args.layout.stride_b) in (
       omega arith,
-      r.auto.s ∙ l.invariant.1,
-      put_next _ _ _ _ _ both _ l.invariant.2 r.ensures
-          (rw (c.sample.ensures, c.sample-in-loop-x.ensures)) (omega arith),
+      c.put.auto.s ∙ c.loop-x.invariant.1,
+      put_next _ _ _ _ _ both _ c.loop-x.invariant.2 c.put.ensures (rw (c.sample.ensures, c.sample-in-loop-x.ensures)) (omega arith),
     )
 
 pub shape_of-s : goal.shape_of-s

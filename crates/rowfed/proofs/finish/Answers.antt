@@ -2,7 +2,6 @@
 use mathlib.Core.Path.{sym, ◌∙◌}
 use Rattle.refusal.proofs.Chain.{refused}
 use Rattle.rowfed.proofs.Accept.{finished, either_says, sound_state}
-use borrow.Author.Rules.{rules}
 use Rattle.rowfed.proofs.finish.Goals as goal
 
 pub returns-then-no-ne0 : goal.returns-then-no-ne0
@@ -21,6 +20,7 @@ close-requires c =
       state_in_bounds = done.lent_enough;
     }
 
--- TODO clauses: value, scratch_after
 pub returns : goal.returns
-returns c = rw (sym c.refusal-no.ensures ∙ c.if-no-ne0.false) c.close.ensures
+returns c =
+    let none = sym c.refusal-no.ensures ∙ c.if-no-ne0.false in
+    record { value = rw none c.close.ensures.value; scratch_after = rw none c.close.ensures.scratch_after }

@@ -1,6 +1,6 @@
 -- What holds of a state that is possible, and of a feed that no test refuses, as facts: the engine, which runs after the tests, asks for these.
 -- Definitions only.
-use Rattle.std.specs.Prelude.{List, ◌≡◌, ℕ, ◌+◌, ◌≤◌, ◌<◌, length}
+use Rattle.std.specs.Prelude.{◌≡◌, ℕ, ◌+◌, ◌≤◌, ◌<◌, length}
 use Rattle.plane.specs.Limits.{side_limit}
 use Rattle.plane.specs.Plane.{Planes}
 use Rattle.plane.specs.Sums.{sum_to}

@@ -1,11 +1,8 @@
 -- `rowfed::begun::held` meets its contract. Assumes nothing.
-use mathlib.Core.Path.{◌≡◌, ◌∙◌}
+use mathlib.Core.Path.{◌≡◌}
 use Prim.Native.Nat.{◌-◌, ◌≤◌}
-use native.Mathlib.Omega.{arith}
-use borrow.Author.Rules.{rules}
 use lib.ListN.{length}
-use Rattle.kernel.specs.Kernel.{most_taps}
-use Rattle.rowfed.proofs.Held.{held_to, held_none, held_more, held_all}
+use Rattle.rowfed.proofs.Held.{held_to}
 use Rattle.rowfed.proofs.begun.held.Given as goal
 
 abbrev pub invariant-loop-k : goal.invariant-loop-k

@@ -1,5 +1,4 @@
 -- `rowfed::begun::new_state` meets its contract. Assumes nothing.
-use borrow.Author.Rules.{rules}
 use Rattle.rowfed.proofs.begun.new_state.Goals as goal
 
 pub returns : goal.returns

@@ -1,6 +1,5 @@
 -- `rowfed::begun::no_state` meets its contract. Assumes nothing.
 use Rattle.kernel.specs.Kernel.{most_taps}
-use borrow.Author.Rules.{rules}
 use Rattle.rowfed.proofs.begun.no_state.Goals as goal
 
 pub returns : goal.returns

@@ -1,11 +1,8 @@
 -- `rowfed::possible::all_zero` meets its contract. Assumes nothing.
 use mathlib.Core.Path.{◌≡◌, sym}
-use Prim.Native.Nat.{ℕ, ◌≤◌, ◌-◌}
 use native.Mathlib.Omega.{arith}
 use borrow.Author.Rules.{rules}
-use lib.Dec.{eqb}
 use lib.ListN.{length}
-use Rattle.plane.specs.Plane.{at, all_to}
 use Rattle.plane.proofs.All.{all_none, all_more}
 use Rattle.rowfed.specs.State.{zeros}
 use Rattle.rowfed.proofs.possible.all_zero.Goals as goal

@@ -1,13 +1,9 @@
 -- `rowfed::possible::all_zero` meets its contract. Assumes nothing.
-use mathlib.Core.Path.{◌≡◌, sym}
+use mathlib.Core.Path.{◌≡◌}
 use Prim.Native.Nat.{ℕ, ◌≤◌, ◌-◌}
-use native.Mathlib.Omega.{arith}
-use borrow.Author.Rules.{rules}
 use lib.Dec.{eqb}
 use lib.ListN.{length}
 use Rattle.plane.specs.Plane.{at, all_to}
-use Rattle.plane.proofs.All.{all_none, all_more}
-use Rattle.rowfed.specs.State.{zeros}
 use Rattle.rowfed.proofs.possible.all_zero.Given as goal
 
 abbrev pub invariant-loop-k : goal.invariant-loop-k

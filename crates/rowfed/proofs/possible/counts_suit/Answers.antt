@@ -1,7 +1,6 @@
 -- `rowfed::possible::counts_suit` meets its contract. Assumes nothing.
 use borrow.Author.Tests.{lt-leb, le-leb}
 use Rattle.rowfed.specs.State.{counts_suit}
-use borrow.Author.Rules.{rules}
 use Rattle.rowfed.proofs.possible.counts_suit.Goals as goal
 
 pub returns-then-s : goal.returns-then-s

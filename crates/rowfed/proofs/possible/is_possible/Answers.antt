@@ -1,7 +1,6 @@
 -- `rowfed::possible::is_possible` meets its contract. Assumes nothing.
 use mathlib.Core.Path.{sym, ◌∙◌}
 use Rattle.rowfed.specs.State.{possible}
-use borrow.Author.Rules.{rules}
 use Rattle.rowfed.proofs.possible.is_possible.Goals as goal
 
 pub returns-then-kernel_suits : goal.returns-then-kernel_suits

@@ -1,5 +1,4 @@
 -- `rowfed::possible::is_possible_anyhow` meets its contract. Assumes nothing.
-use borrow.Author.Rules.{rules}
 use Rattle.rowfed.proofs.possible.is_possible_anyhow.Goals as goal
 
 pub returns-then-is_possible : goal.returns-then-is_possible

@@ -7,7 +7,6 @@ use borrow.Author.Tests.{lt-leb, le-leb}
 use lib.ListN.{length, drop, length-drop}
 use lib.Seq.{length-take-le, take_all}
 use Rattle.rowfed.specs.State.{places_suit}
-use borrow.Author.Rules.{rules}
 use Rattle.rowfed.proofs.possible.places_suit.Goals as goal
 
 pub returns-then-places-taps : goal.returns-then-places-taps

@@ -3,7 +3,6 @@ use Prim.Native.Nat.{◌+◌}
 use native.Mathlib.Omega.{arith}
 use borrow.Author.Tests.{lt-leb, le-leb}
 use Rattle.rowfed.specs.Feed.{late_tests}
-use borrow.Author.Rules.{rules}
 use Rattle.rowfed.proofs.taken.late_refusal.Goals as goal
 
 pub returns-then-lent-scratch_places : goal.returns-then-lent-scratch_places

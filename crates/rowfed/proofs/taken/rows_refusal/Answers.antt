@@ -1,9 +1,8 @@
 -- `rowfed::taken::rows_refusal` meets its contract. Assumes nothing.
-use mathlib.Core.Path.{◌≡◌, sym, ◌∙◌}
+use mathlib.Core.Path.{◌∙◌}
 use Rattle.plane.specs.Plane.{Planes}
 use Rattle.plane.specs.Inner.Lent.{planes}
 use Rattle.rowfed.proofs.Accept.{no_rows, some_rows}
-use borrow.Author.Rules.{rules}
 use Rattle.rowfed.proofs.taken.rows_refusal.Goals as goal
 
 pub returns-then-stride_suits : goal.returns-then-stride_suits

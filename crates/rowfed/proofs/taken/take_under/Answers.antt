@@ -1,21 +1,18 @@
 -- `rowfed::taken::take_under` meets its contract. Assumes nothing.
-use mathlib.Core.Path.{◌≡◌, refl, sym, ap, ◌∙◌}
+use mathlib.Core.Path.{◌≡◌, refl, ap, ◌∙◌}
 use mathlib.Core.List.{◌++◌}
 use Prim.Native.Nat.{ℕ, ◌+◌, ◌*◌, ◌/◌, ◌≤◌, ◌^◌}
 use native.Mathlib.Nat.{mul-le-mul}
 use native.Mathlib.Omega.{arith}
-use lib.ListN.{length, take, drop}
+use lib.ListN.{length, drop}
 use lib.Seq.{length-take-le}
-use Rattle.plane.specs.Plane.{Planes}
 use Rattle.plane.specs.Inner.Lent.{planes}
 use Rattle.plane.proofs.Limits.{side_small}
 use Rattle.kernel.proofs.Says.{taps_room}
 use Rattle.ssim.proofs.Powers.{power_le}
 use Rattle.row_ring.specs.Taken.{Kept}
-use Rattle.rowfed.specs.declared.State.{State}
 use Rattle.rowfed.specs.Feed.{used_places, taken_in}
-use Rattle.rowfed.proofs.Tidied.{used_count, taps_there, roomy, kernel_there, taken_under}
-use borrow.Author.Rules.{rules}
+use Rattle.rowfed.proofs.Tidied.{used_count, roomy, kernel_there, taken_under}
 use Rattle.rowfed.proofs.taken.take_under.Goals as goal
 
 pub overflow_mul-used : goal.overflow_mul-used
@@ -26,59 +23,43 @@ overflow_mul-used c = let f = c.requires.sound_feed.state in
 
 pub overflow_add-used-2 : goal.overflow_add-used-2
 overflow_add-used-2 c =
-    let state : State = c.args.state in
-    let used : ℕ = c.next_power.result * state.width + 5 * (state.width + 2 * (state.taps / 2)) in
-    let used-is : used ≡ used_places state = used_count state c.next_power.result state.kernel c.next_power.ensures refl c.requires.sound_feed.state in
-    omega (arith, used-is, c.requires.sound_feed.state.used_few, c.requires.sound_feed.lent_enough)
-
-pub slice_bounds-take-end : goal.slice_bounds-take-end
-slice_bounds-take-end c =
-    let state : State = c.args.state in
-    sym (taps_there state _ _ c.next_power.ensures c.requires.kernel_value c.requires.sound_feed.state)
+    let f = c.requires.sound_feed in
+    omega (arith, used_count c.args.state c.next_power.result c.args.state.kernel c.next_power.ensures refl f.state, f.state.used_few, f.lent_enough)
 
 pub slice_bounds-take-end-2 : goal.slice_bounds-take-end-2
 slice_bounds-take-end-2 c =
-    let state : State = c.args.state in
-    let used : ℕ = c.next_power.result * state.width + 5 * (state.width + 2 * (state.taps / 2)) in
-    let used-is : used ≡ used_places state = used_count state c.next_power.result state.kernel c.next_power.ensures refl c.requires.sound_feed.state in
-    let fits : used ≤ length c.args.scratch.now = omega (arith, used-is, c.requires.sound_feed.state.used_few, c.requires.sound_feed.lent_enough) in
-    fits
-
-pub slice_bounds-take-end-3 : goal.slice_bounds-take-end-3
-slice_bounds-take-end-3 c =
-    let state : State = c.args.state in
-    let used : ℕ = c.next_power.result * state.width + 5 * (state.width + 2 * (state.taps / 2)) in
-    let used-is : used ≡ used_places state = used_count state c.next_power.result state.kernel c.next_power.ensures refl c.requires.sound_feed.state in
-    let fits : used ≤ length c.args.scratch.now = omega (arith, used-is, c.requires.sound_feed.state.used_few, c.requires.sound_feed.lent_enough) in
-    sym (length-take-le _ _ fits)
+    let f = c.requires.sound_feed in
+    omega (arith, used_count c.args.state c.next_power.result c.args.state.kernel c.next_power.ensures refl f.state, f.state.used_few, f.lent_enough)
 
 pub take-requires : goal.take-requires
 take-requires c =
-    let state : State = c.args.state in
+    let state = c.args.state in
     let used : ℕ = c.next_power.result * state.width + 5 * (state.width + 2 * (state.taps / 2)) in
-    let used-is : used ≡ used_places state = used_count state c.next_power.result state.kernel c.next_power.ensures refl c.requires.sound_feed.state in
-    let fits : used ≤ length c.args.scratch.now = omega (arith, used-is, c.requires.sound_feed.state.used_few, c.requires.sound_feed.lent_enough) in
     let f = c.requires.sound_feed in
     let e = c.next_power.ensures in
+    let used-is : used ≡ used_places state = used_count state c.next_power.result state.kernel e refl f.state in
+    let fits : used ≤ length c.args.scratch.now = omega (arith, used-is, f.state.used_few, f.lent_enough) in
+    let there = kernel_there state _ _ e c.requires.kernel_value f.state in
     record {
       height_bound = (f.room, f.width, f.state.width_most, f.state.height_most);
       long = f.long;
       roomy = roomy state _ _ e c.requires.kernel_value f.state _ (omega (arith, used-is, length-take-le _ c.args.scratch.now fits));
-      kernel = (kernel_there state _ _ e c.requires.kernel_value f.state).0;
-      lent_total_value = (kernel_there state _ _ e c.requires.kernel_value f.state).1;
+      kernel = there.0;
+      lent_total_value = there.1;
     }
 
 pub returns : goal.returns
 returns c =
-    let group : Planes = planes c.args.layout c.args.a8 c.args.a16 c.args.b8 c.args.b16 in
-    let state : State = c.args.state in
+    let group = planes c.args.layout c.args.a8 c.args.a16 c.args.b8 c.args.b16 in
+    let state = c.args.state in
+    let old = c.args.scratch.now in
     let used : ℕ = c.next_power.result * state.width + 5 * (state.width + 2 * (state.taps / 2)) in
-    let used-is : used ≡ used_places state = used_count state c.next_power.result state.kernel c.next_power.ensures refl c.requires.sound_feed.state in
-    let fits : used ≤ length c.args.scratch.now = omega (arith, used-is, c.requires.sound_feed.state.used_few, c.requires.sound_feed.lent_enough) in
-    let e = taken_under state _ _ c.next_power.ensures c.requires.kernel_value c.requires.sound_feed.state group c.args.scratch.now used _ _ _ used-is fits
+    let f = c.requires.sound_feed in
+    let used-is : used ≡ used_places state = used_count state c.next_power.result state.kernel c.next_power.ensures refl f.state in
+    let fits : used ≤ length old = omega (arith, used-is, f.state.used_few, f.lent_enough) in
+    let e = taken_under state _ _ c.next_power.ensures c.requires.kernel_value f.state group old used _ _ _ used-is fits
     c.sample_max.ensures c.squared-max2.ensures c.take.ensures in
     record {
       value = ap (λ (k : Kept). k.totals) e;
-      scratch_after = ap (λ (k : Kept). k.places ++ drop used c.args.scratch.now) e
-          ∙ ap (λ (n : ℕ). (taken_in state group c.args.scratch.now).places ++ drop n c.args.scratch.now) used-is;
+      scratch_after = ap (λ (k : Kept). k.places ++ drop used old) e ∙ ap (λ (n : ℕ). (taken_in state group old).places ++ drop n old) used-is;
     }

@@ -1,5 +1,4 @@
 -- `rowfed::taken::with_rows` meets its contract. Assumes nothing.
-use borrow.Author.Rules.{rules}
 use Rattle.rowfed.proofs.taken.with_rows.Goals as goal
 
 pub returns : goal.returns

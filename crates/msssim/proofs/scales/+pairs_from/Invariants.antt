@@ -1,0 +1,5 @@
+-- The scales that are left.
+use Rattle.msssim.proofs.scales.+pairs_from.Given as goal
+
+abbrev pub decreases-pairs_from : goal.decreases-pairs_from
+decreases-pairs_from l = l.left
