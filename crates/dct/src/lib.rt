@@ -49,6 +49,7 @@ fn all_within(x: &[i32], limit: i32) -> bool
     true
 }
 
+#[tactic(auto, unfolding(crate::specs::Call::block_suits))]
 fn block_suits(given: &[i32], places: usize, limit: i32) -> bool
     requires { T (non_neg limit) }
     ensures { result ≡ block_suits (nat_abs limit) given.now places }

@@ -54,6 +54,7 @@ fn mask_for(e: f64, r: f64) -> f64
 }
 
 // The larger of two masks.
+#[tactic(auto, unfolding(crate::specs::Block::larger))]
 fn larger(m1: f64, m2: f64) -> f64
     ensures { result ≡ Block.larger m1 m2 }
 {
@@ -93,6 +94,7 @@ fn distance(a: i32, b: i32) -> f64
 }
 
 // What the mask leaves of an error; nothing of the DC term's is masked.
+#[tactic(auto, unfolding(crate::specs::Block::err_at))]
 fn err_at(dc: bool, err: f64, mask: f64, m: f64) -> f64
     ensures { result ≡ Block.err_at dc err mask m }
 {
@@ -104,6 +106,7 @@ fn err_at(dc: bool, err: f64, mask: f64, m: f64) -> f64
 }
 
 // The squared error of one place.
+#[tactic(auto, unfolding(crate::specs::Block::term))]
 fn term(dc: bool, err: f64, csf: f64, mask: f64, m: f64) -> f64
     ensures { result ≡ Block.term dc err csf mask m }
 {

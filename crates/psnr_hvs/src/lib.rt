@@ -103,6 +103,7 @@ fn score(a8: &[u8], a16: &[u16], b8: &[u8], b16: &[u16], layout: Layout, kind: K
 }
 
 // The answer for two planes of either width.
+#[tactic(auto, unfolding(crate::specs::Score::hvs_of))]
 fn answer(a8: &[u8], a16: &[u16], b8: &[u8], b16: &[u16], layout: Layout, kind: Kind) -> Hvs
     ensures { result ≡ hvs_of (planes layout a8.entry a16.entry b8.entry b16.entry) kind }
 {

@@ -1,10 +1,22 @@
 -- `score` adds up the blocks and divides twice. Assumes nothing.
-use Prim.Native.Nat.{◌*◌, ◌≤◌, ◌^◌}
+use mathlib.Core.Path.{◌≡◌}
+use Prim.Native.Nat.{ℕ, ◌*◌, ◌≤◌, ◌^◌}
 use native.Mathlib.Omega.{arith}
+use Rattle.plane.specs.declared.Size.{Size}
+use Rattle.plane.specs.Inner.Lawful.{Sized}
+use Rattle.plane.specs.Plane.{max_of}
 use Rattle.plane.proofs.Depth.{depth_small}
-use Rattle.psnr_hvs.specs.Score.{hvs_score}
+use Rattle.psnr_hvs.specs.Score.{blocks_per_side, hvs_score}
 use Rattle.psnr_hvs.proofs.Taken.{bounded, blocks_few, max_square}
 use Rattle.psnr_hvs.proofs.score.Goals as goal
+
+-- the two divisors, of planes that no test refuses
+module _ {size : Size} {least : ℕ} (s : Sized size least) where
+  few : {a b : ℕ} → a ≡ blocks_per_side size.width → b ≡ blocks_per_side size.height → a * b ≤ 2 ^ 28
+  few p q = rw (p, q) (blocks_few size.width size.height s.width_most s.height_most)
+
+  square : {m : ℕ} → m ≡ max_of size.depth → m * m ≤ 2 ^ 24
+  square p = rw p (max_square size.wide size.depth s.depth_most)
 
 pub down_rows-sum-requires : goal.down_rows-sum-requires
 down_rows-sum-requires c =
@@ -15,32 +27,22 @@ down_rows-sum-requires c =
     }
 
 pub overflow_mul-blocks : goal.overflow_mul-blocks
-overflow_mul-blocks c =
-    let few : c.blocks_per_side.result * c.blocks_per_side-2.result ≤ 2 ^ 28 = rw (c.blocks_per_side.ensures, c.blocks_per_side-2.ensures) (blocks_few c.args.layout.size.width c.args.layout.size.height c.requires.sized.width_most c.requires.sized.height_most) in
-    omega (arith, few)
+overflow_mul-blocks c = omega (arith, few c.requires.sized c.blocks_per_side.ensures c.blocks_per_side-2.ensures)
 
 pub sample_max-max-requires : goal.sample_max-max-requires
 sample_max-max-requires c = omega (arith, c.requires.sized.depth_most, depth_small c.args.layout.size.wide)
 
 pub overflow_mul-blocks-2 : goal.overflow_mul-blocks-2
-overflow_mul-blocks-2 c =
-    let few : c.blocks_per_side.result * c.blocks_per_side-2.result ≤ 2 ^ 28 = rw (c.blocks_per_side.ensures, c.blocks_per_side-2.ensures) (blocks_few c.args.layout.size.width c.args.layout.size.height c.requires.sized.width_most c.requires.sized.height_most) in
-    omega (arith, few)
+overflow_mul-blocks-2 c = omega (arith, few c.requires.sized c.blocks_per_side.ensures c.blocks_per_side-2.ensures)
 
 pub exact-requires : goal.exact-requires
-exact-requires c =
-    let few : c.blocks_per_side.result * c.blocks_per_side-2.result ≤ 2 ^ 28 = rw (c.blocks_per_side.ensures, c.blocks_per_side-2.ensures) (blocks_few c.args.layout.size.width c.args.layout.size.height c.requires.sized.width_most c.requires.sized.height_most) in
-    omega (arith, few)
+exact-requires c = omega (arith, few c.requires.sized c.blocks_per_side.ensures c.blocks_per_side-2.ensures)
 
 pub overflow_mul-max : goal.overflow_mul-max
-overflow_mul-max c =
-    let square : c.sample_max-max.result * c.sample_max-max.result ≤ 2 ^ 24 = rw c.sample_max-max.ensures (max_square c.args.layout.size.wide c.args.layout.size.depth c.requires.sized.depth_most) in
-    omega (arith, square)
+overflow_mul-max c = omega (arith, square c.requires.sized c.sample_max-max.ensures)
 
 pub exact-requires-2 : goal.exact-requires-2
-exact-requires-2 c =
-    let square : c.sample_max-max.result * c.sample_max-max.result ≤ 2 ^ 24 = rw c.sample_max-max.ensures (max_square c.args.layout.size.wide c.args.layout.size.depth c.requires.sized.depth_most) in
-    omega (arith, square)
+exact-requires-2 c = omega (arith, square c.requires.sized c.sample_max-max.ensures)
 
 pub returns : goal.returns
 unfolding hvs_score

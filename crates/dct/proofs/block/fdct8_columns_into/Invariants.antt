@@ -1,7 +1,7 @@
 -- `fdct8_columns_into` passes each column to its row: after i rounds the first i rows are written. Assumes nothing.
 use mathlib.Core.Path.{◌≡◌}
 use mathlib.Core.List.{◌++◌}
-use Prim.Native.Nat.{◌≤◌, ◌*◌, ◌-◌}
+use Prim.Native.Nat.{◌≤◌, ◌*◌}
 use lib.ListN.{length, drop}
 use Rattle.dct.specs.Block.{fdct8, column, rows}
 use Rattle.dct.proofs.block.fdct8_columns_into.Given as goal
@@ -9,6 +9,3 @@ use Rattle.dct.proofs.block.fdct8_columns_into.Given as goal
 abbrev pub invariant-loop-i : goal.invariant-loop-i
 invariant-loop-i l =
     (l.i ≤ 8) × (length l.out ≡ length l.initial.out) × (l.out ≡ rows (λ k. fdct8 (column k l.x)) l.i ++ drop (8 * l.i) l.initial.out)
-
-abbrev pub decreases-loop-i : goal.decreases-loop-i
-decreases-loop-i l = 8 - l.i

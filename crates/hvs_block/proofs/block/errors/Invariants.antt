@@ -1,12 +1,9 @@
 -- `errors` adds the terms of all places. Assumes nothing.
 use mathlib.Core.Path.{◌≡◌}
-use Prim.Native.Nat.{◌-◌, ◌≤◌}
+use Prim.Native.Nat.{◌≤◌}
 use Rattle.hvs_block.specs.Block.{add_term}
 use Rattle.hvs_block.proofs.Folds.{flat8}
 use Rattle.hvs_block.proofs.block.errors.Given as goal
 
 abbrev pub invariant-loop-k : goal.invariant-loop-k
 invariant-loop-k l = (l.k ≤ 64) × (l.s ≡ flat8 (add_term l.d1 l.d2 l.csf l.mask l.m) l.res l.k)
-
-abbrev pub decreases-loop-k : goal.decreases-loop-k
-decreases-loop-k l = 64 - l.k

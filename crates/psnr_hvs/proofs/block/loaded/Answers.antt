@@ -1,7 +1,7 @@
 -- `loaded` fills a block, sample by sample. Assumes nothing.
 use borrow.Author.Rules.{rules}
 use mathlib.Core.Path.{◌≡◌, ap, ◌∙◌}
-use Prim.Native.Nat.{◌+◌, ◌*◌, ◌/◌, ◌%◌, ◌<◌, ◌^◌}
+use Prim.Native.Nat.{ℕ, ◌+◌, ◌*◌, ◌/◌, ◌%◌, ◌<◌, ◌^◌}
 use native.Mathlib.Omega.{arith}
 use native.Mathlib.Nat.{le_trans, lt_of_le_of_lt}
 use lib.ListN.{length, length-set}
@@ -9,44 +9,49 @@ use lib.Dec.{lit<}
 use lib.IntN.{pos}
 use mir.Syntax.{w32}
 use mir.Facts.{to_z_pos}
-use Rattle.plane.specs.Inner.Lent.{samples_of}
+use Rattle.plane.specs.declared.Size.{Size}
+use Rattle.plane.specs.Plane.{Plane, sample_at, sample_limit}
+use Rattle.plane.specs.Inner.Lawful.{Bounded}
 use Rattle.plane.proofs.Rows.{inside, count_fits}
 use Rattle.lifting.proofs.Size.{fits}
+use Rattle.psnr_hvs.specs.Inner.Blocks.{BlockFits}
 use Rattle.psnr_hvs.specs.Score.{block_at}
 use Rattle.number.proofs.Lists.{filled_none, filled_more, filled_all}
 use Rattle.hvs_block.proofs.Numbers.{limit_small}
 use Rattle.psnr_hvs.proofs.block.loaded.Goals as goal
+
+-- place k of a block that fits
+module _ {size : Size} {p : Plane} {x y : ℕ} (k : ℕ) (f : BlockFits size x y) (b : Bounded sample_limit size.width size.height p) (l : k < 64) where
+  place_inside : (y + k / 8) * p.stride + (x + k % 8) < length p.samples
+  place_inside = inside p.stride b.long (omega arith) (omega arith)
+
+  place_small : sample_at p (y + k / 8) (x + k % 8) < 2 ^ 31
+  place_small = lt_of_le_of_lt (le_trans (b.small (y + k / 8) (x + k % 8) (omega arith) (omega arith)) limit_small) (lit< tt)
 
 pub loop-k-init : goal.loop-k-init
 loop-k-init c = (search rules, search rules, filled_none _ _)
 
 pub overflow_mul-y : goal.overflow_mul-y
 overflow_mul-y c =
-    let place_inside : (c.args.y + c.loop-k.k / 8) * c.args.stride + (c.args.x + c.loop-k.k % 8) < length (samples_of c.args.size.wide c.args.bytes.now c.args.words.now) = inside c.args.stride c.requires.bounded.long (omega arith) (omega arith) in
-    let place_fits : (c.args.y + c.loop-k.k / 8) * c.args.stride + (c.args.x + c.loop-k.k % 8) < 2 ^ 64 = omega (arith, place_inside, count_fits c.args.size.wide c.args.bytes.now c.args.words.now (omega arith) (omega arith)) in
-    omega (arith, place_fits)
+    let p = place_inside c.loop-k.k c.requires.block_fits c.requires.bounded (omega arith) in
+    omega (arith, p, count_fits c.args.size.wide c.args.bytes.now c.args.words.now (omega arith) (omega arith))
 
 pub overflow_add-y-in-loop-k : goal.overflow_add-y-in-loop-k
 overflow_add-y-in-loop-k c =
-    let place_inside : (c.args.y + c.loop-k.k / 8) * c.args.stride + (c.args.x + c.loop-k.k % 8) < length (samples_of c.args.size.wide c.args.bytes.now c.args.words.now) = inside c.args.stride c.requires.bounded.long (omega arith) (omega arith) in
-    let place_fits : (c.args.y + c.loop-k.k / 8) * c.args.stride + (c.args.x + c.loop-k.k % 8) < 2 ^ 64 = omega (arith, place_inside, count_fits c.args.size.wide c.args.bytes.now c.args.words.now (omega arith) (omega arith)) in
-    omega (arith, place_fits)
+    let p = place_inside c.loop-k.k c.requires.block_fits c.requires.bounded (omega arith) in
+    omega (arith, p, count_fits c.args.size.wide c.args.bytes.now c.args.words.now (omega arith) (omega arith))
 
 pub sample-requires : goal.sample-requires
-sample-requires c =
-    let place_inside : (c.args.y + c.loop-k.k / 8) * c.args.stride + (c.args.x + c.loop-k.k % 8) < length (samples_of c.args.size.wide c.args.bytes.now c.args.words.now) = inside c.args.stride c.requires.bounded.long (omega arith) (omega arith) in
-    place_inside
+sample-requires c = place_inside c.loop-k.k c.requires.block_fits c.requires.bounded (omega arith)
 
 pub overflow_cast-out : goal.overflow_cast-out
-overflow_cast-out c =
-    let sample_small : c.sample.result < 2 ^ 31 = rw c.sample.ensures (lt_of_le_of_lt (le_trans (c.requires.bounded.small _ _ (omega arith) (omega arith)) limit_small) (lit< tt)) in
-    fits (pos c.sample.result) sample_small
+overflow_cast-out c = fits (pos c.sample.result) (rw c.sample.ensures (place_small c.loop-k.k c.requires.block_fits c.requires.bounded (omega arith)))
 
 pub loop-k-preserved : goal.loop-k-preserved
 loop-k-preserved c =
-    let sample_small : c.sample.result < 2 ^ 31 = rw c.sample.ensures (lt_of_le_of_lt (le_trans (c.requires.bounded.small _ _ (omega arith) (omega arith)) limit_small) (lit< tt)) in
     let l = c.loop-k in
-    (search rules, simp length-set l.invariant.1, filled_more _ _ _ l.invariant.2 (to_z_pos w32 sample_small ∙ ap pos c.sample.ensures) (omega arith))
+    let s : c.sample.result < 2 ^ 31 = rw c.sample.ensures (place_small c.loop-k.k c.requires.block_fits c.requires.bounded (omega arith)) in
+    (search rules, simp length-set l.invariant.1, filled_more _ _ _ l.invariant.2 (to_z_pos w32 s ∙ ap pos c.sample.ensures) (omega arith))
 
 pub returns : goal.returns
 unfolding block_at
