@@ -34,7 +34,7 @@ def read(path):
 
 
 def is_old(n):
-    return bool(re.fullmatch(r"[A-Za-z][\w']*(-[\w']+)+", n) or re.fullmatch(r"[a-z][a-z0-9_']*[A-Z][\w']*", n))
+    return bool(re.fullmatch(r"[A-Za-z][\w']*(-[\w']+)+", n) or re.fullmatch(r"[a-z][a-z0-9_']*[A-Z][\w']*(⁻¹)?", n))
 
 
 def snake(n):

@@ -13,19 +13,6 @@ use Rattle.dct.specs.Block.{rows, spaced, column, row, fdct8, input_order}
 use Rattle.lifting.specs.Steps.{steps}
 use Rattle.lifting.proofs.Trip.{length_run}
 
--- eight stores at the front
-pub eight_set : (l : List ℤ) (a0 a1 a2 a3 a4 a5 a6 a7 : ℤ) → 8 ≤ length l
-    → set (set (set (set (set (set (set (set l 0 a0) 1 a1) 2 a2) 3 a3) 4 a4) 5 a5) 6 a6) 7 a7 ≡ (a0 ∷ a1 ∷ a2 ∷ a3 ∷ a4 ∷ a5 ∷ a6 ∷ a7 ∷ []) ++ drop 8 l
-eight_set [] a0 a1 a2 a3 a4 a5 a6 a7 h = absurd (omega arith)
-eight_set (x0 ∷ []) a0 a1 a2 a3 a4 a5 a6 a7 h = absurd (omega arith)
-eight_set (x0 ∷ x1 ∷ []) a0 a1 a2 a3 a4 a5 a6 a7 h = absurd (omega arith)
-eight_set (x0 ∷ x1 ∷ x2 ∷ []) a0 a1 a2 a3 a4 a5 a6 a7 h = absurd (omega arith)
-eight_set (x0 ∷ x1 ∷ x2 ∷ x3 ∷ []) a0 a1 a2 a3 a4 a5 a6 a7 h = absurd (omega arith)
-eight_set (x0 ∷ x1 ∷ x2 ∷ x3 ∷ x4 ∷ []) a0 a1 a2 a3 a4 a5 a6 a7 h = absurd (omega arith)
-eight_set (x0 ∷ x1 ∷ x2 ∷ x3 ∷ x4 ∷ x5 ∷ []) a0 a1 a2 a3 a4 a5 a6 a7 h = absurd (omega arith)
-eight_set (x0 ∷ x1 ∷ x2 ∷ x3 ∷ x4 ∷ x5 ∷ x6 ∷ []) a0 a1 a2 a3 a4 a5 a6 a7 h = absurd (omega arith)
-eight_set (x0 ∷ x1 ∷ x2 ∷ x3 ∷ x4 ∷ x5 ∷ x6 ∷ x7 ∷ l) a0 a1 a2 a3 a4 a5 a6 a7 h = refl
-
 -- ---- sizes
 
 pub small_at : (n : ℕ) (b : List ℤ) → AllWithin n b → (k : ℕ) → Within n (get_or b k (pos 0))
@@ -87,6 +74,3 @@ pub copied_more : (x out : List ℤ) (i : ℕ) (w : ℤ) → i < length x → le
 copied_more x out i w l e p h =
     let q : i < length out = omega arith in
     rw (add-one, take-suc-set out i w q, take-suc x i (pos 0) l, h, p)
-
-pub copied_all : (x out : List ℤ) (i : ℕ) → length x ≤ i → length out ≡ length x → take i out ≡ take i x → out ≡ x
-copied_all x out i l e h = sym (take_all i out (omega arith)) ∙ h ∙ take_all i x l

@@ -7,7 +7,7 @@ use lib.IntN.{ℤ, pos}
 use lib.ListN.{length, get_or, drop}
 use lib.Seq.{drop-cons, drop-length}
 use Rattle.lifting.specs.Steps.{run, undo_all, steps}
-use Rattle.dct.specs.Block.{column, row, input_order, inputOrder⁻¹, fdct8, idct8, rows, fdct8_columns, transposed, idct8_rows, fdct8x8, idct8x8}
+use Rattle.dct.specs.Block.{column, row, input_order, input_order⁻¹, fdct8, idct8, rows, fdct8_columns, transposed, idct8_rows, fdct8x8, idct8x8}
 use Rattle.lifting.proofs.Trip.{there_and_back, back_and_there, length_run}
 use Rattle.dct.proofs.Blocks.{length_fdct8, length_rows}
 
@@ -37,7 +37,7 @@ of_rows b e = counted 0 64 b (sym e)
 
 fdct8_undone : (x : List ℤ) → length x ≡ 8 → idct8 (fdct8 x) ≡ x
 unfolding fdct8 idct8
-fdct8_undone x e = ap inputOrder⁻¹ (there_and_back (input_order x) refl) ∙ of_eight x e
+fdct8_undone x e = ap input_order⁻¹ (there_and_back (input_order x) refl) ∙ of_eight x e
 
 undone_fdct8 : (t : List ℤ) → length t ≡ 8 → fdct8 (idct8 t) ≡ t
 unfolding fdct8 idct8

@@ -20,15 +20,15 @@ row i = spaced (block_side * i) 1
 abbrev pub input_order : List ℤ → List ℤ
 input_order x = let g : ℕ → ℤ = λ k. get_or x k (pos 0) in g 0 ∷ g 7 ∷ g 2 ∷ g 5 ∷ g 1 ∷ g 6 ∷ g 3 ∷ g 4 ∷ []
 
-abbrev pub inputOrder⁻¹ : List ℤ → List ℤ
-inputOrder⁻¹ t = let g : ℕ → ℤ = λ k. get_or t k (pos 0) in g 0 ∷ g 4 ∷ g 2 ∷ g 6 ∷ g 7 ∷ g 3 ∷ g 5 ∷ g 1 ∷ []
+abbrev pub input_order⁻¹ : List ℤ → List ℤ
+input_order⁻¹ t = let g : ℕ → ℤ = λ k. get_or t k (pos 0) in g 0 ∷ g 4 ∷ g 2 ∷ g 6 ∷ g 7 ∷ g 3 ∷ g 5 ∷ g 1 ∷ []
 
 -- one pass over eight numbers, and the same steps undone
 unfoldable pub fdct8 : List ℤ → List ℤ
 fdct8 x = run steps (input_order x)
 
 unfoldable pub idct8 : List ℤ → List ℤ
-idct8 t = inputOrder⁻¹ (run (undo_all steps) t)
+idct8 t = input_order⁻¹ (run (undo_all steps) t)
 
 -- the first n rows, row i being f i
 abbrev pub rows : (ℕ → List ℤ) → ℕ → List ℤ

@@ -1,4 +1,4 @@
-// SCOPE, "Decibels": the chart. Place k has 10^(k / 1000) * 10^9, rounded down, and `chart-right` proves of each that it has.
+// SCOPE, "Decibels": the chart. Place k has 10^(k / 1000) * 10^9, rounded down, and `chart_right` proves of each that it has.
 
 pub const ENTRIES: [u64; 1000] = [
     1000000000, 1002305238, 1004615790, 1006931668, 1009252886, 1011579454, 1013911385, 1016248692,

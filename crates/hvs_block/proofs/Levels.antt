@@ -44,7 +44,7 @@ module _ (b : List ℤ) (h : Samples b) where
   unfolding gmean
   gmean_is = ap (λ (s : Float). s ⊘ sixty_four) (sym (by_eights (λ (s : Float) (i j : ℕ). s ⊕ signed (cell b (0 + i) (0 + j))) zero_d))
 
-  pub gvar_is : gvar b ≡ double (64 * squares (level_of b) 64 - sum_to (level_of b) 64 * sum_to (level_of b) 64) ⊘ sixty_four ⊗ (sixty_four ⊘ sixty_three)
+  gvar_is : gvar b ≡ double (64 * squares (level_of b) 64 - sum_to (level_of b) 64 * sum_to (level_of b) 64) ⊘ sixty_four ⊗ (sixty_four ⊘ sixty_three)
   unfolding gvar of_bits
   gvar_is =
       let v : ℕ → Float = λ (k : ℕ). signed (cell b (0 + k / 8) (0 + k % 8)) in

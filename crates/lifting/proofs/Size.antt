@@ -137,10 +137,6 @@ again z n r f a = subst (λ (x : ℤ). Is z n x) (sym (to_z-of_z {w = w32} (sfit
 pub read : {n : ℕ} {z : ℤ} → Within n z → Within n (read32 z)
 read {n} {z} w = record { le = within w }
 
-pub read_all : (n : ℕ) (v : List ℤ) → AllWithin n v → AllWithin n (map read32 v)
-read_all n [] h = tt
-read_all n (a ∷ v) h = (read h.0, read_all n v h.1)
-
 -- what is read back of a number that came out of memory, a struct or a call
 pub whole : {z : ℤ} → mag z < 2 ^ 31 → read32 z ≡ z
 whole h = to_z-of_z {w = w32} (sfits_of {w = w32} h)

@@ -164,7 +164,7 @@ module _ (p : Planes) (accepted : AcceptedPair p 0) (ker : List ℕ) (ok : lawfu
         w_fits = omega (arith, h (λ (r c : ℕ). 1), fit.w_fits);
       }
 
-  pub place_fits : (i j : ℕ) → i < length ker → j < length ker → Fits (six (place_of ker p.size.width p.size.height x y i j))
+  place_fits : (i j : ℕ) → i < length ker → j < length ker → Fits (six (place_of ker p.size.width p.size.height x y i j))
   place_fits i j k n = six_fits _ (λ v. place_le ker p.size.width p.size.height x y v i j k n)
 
   -- so the samples of a place inside may be weighed

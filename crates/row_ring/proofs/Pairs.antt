@@ -27,11 +27,6 @@ pub second_packed : (a b : ℕ) → a < pair_base → b < pair_base → second_o
 unfolding pair_base plain_of packed_of
 second_packed a b l m = omega arith
 
--- a sign that is tested
-pub is_plus : (z : ℤ) → lt_z z (pos 0) ≡ false → T (non_neg z)
-is_plus (pos n) e = tt
-is_plus (negsuc n) e = subst T e tt
-
 pub plain_minus : (z : ℤ) → lt_z z (pos 0) ≡ true → 0 ≡ plain_of z
 unfolding plain_of
 plain_minus (pos n) e = absurd (omega (arith, ltb-true n 0 e))

@@ -45,7 +45,7 @@ module _ (s : State) (lines : ℕ) (places : List ℕ) (e : lines ≡ next_power
   pub used_count : lines * s.width + 5 * (s.width + 2 * (s.taps / 2)) ≡ used_places s
   used_count = rw (e, sound.count)
 
-  pub taps_there : length (take s.taps places) ≡ s.taps
+  taps_there : length (take s.taps places) ≡ s.taps
   taps_there = rw f sound.count
 
   abbrev ring : Ring

@@ -5,7 +5,7 @@ use lib.IntN.{ℤ}
 use lib.ListN.{drop}
 use borrow.Author.Rules.{rules}
 use Rattle.lifting.specs.Steps.{run, undo_all, steps}
-use Rattle.dct.specs.Block.{idct8, inputOrder⁻¹}
+use Rattle.dct.specs.Block.{idct8, input_order⁻¹}
 use Rattle.lifting.proofs.Size.{whole8}
 use Rattle.dct.proofs.block.idct8.Goals as goal
 
@@ -18,7 +18,7 @@ returns c =
     ∙ ap (λ (l : List ℤ). l ++ drop 8 c.args.out.now)
     (whole8 r.t0 r.t4 r.t2 r.t6 r.t7 r.t3 r.t5 r.t1 (search rules) (search rules) (search rules) (search rules)
     (search rules) (search rules) (search rules) (search rules)
-    ∙ ap inputOrder⁻¹
+    ∙ ap input_order⁻¹
     (c.undo_steps-r.ensures
     ∙ ap (run (undo_all steps))
     (whole8 a.t0 a.t1 a.t2 a.t3 a.t4 a.t5 a.t6 a.t7 (search rules) (search rules) (search rules) (search rules)
