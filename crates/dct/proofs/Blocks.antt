@@ -6,7 +6,7 @@ use native.Mathlib.Omega.{arith}
 use native.Mathlib.Numerals.{add-one}
 use lib.IntN.{ℤ, pos}
 use lib.ListN.{length, get_or, set, take, drop, length-append, drop_of_length-le}
-use lib.Seq.{take_all, take-suc, take-suc-set, take_at, drop_at, take-length, drop-length, drop-drop}
+use lib.Seq.{take-suc, take-suc-set, take_at, drop_at, take-length, drop-length, drop-drop}
 use borrow.Rule.Slice.PartMut.{put_mid}
 use Rattle.lifting.specs.Inner.Within.{AllWithin, Within}
 use Rattle.dct.specs.Block.{rows, spaced, column, row, fdct8, input_order}

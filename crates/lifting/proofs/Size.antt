@@ -1,7 +1,7 @@
 -- How large the whole numbers of a step are: the laws that let `omega` follow sizes (`nat_abs`). Assumes nothing.
 use mathlib.Core.Path.{◌≡◌, refl, sym, ap, subst}
 use mathlib.Core.Bool.{Bool, true, false, not, cond}
-use mathlib.Core.List.{List, [], ◌∷◌, map}
+use mathlib.Core.List.{List, [], ◌∷◌}
 use Prim.Native.Nat.{ℕ, zero, suc, ◌+◌, ◌-◌, ◌*◌, ◌/◌, ◌^◌, ◌≤◌, ◌<◌}
 use native.Mathlib.Nat.{le_refl, le_trans, lt_of_le_of_lt, div-lt_iff_lt-mul, mul-le-mul_left, le_of_suc-le-suc, suc-mul, le_of_eq, pow-suc}
 use native.Mathlib.Numerals.{sub-one}
@@ -16,7 +16,7 @@ use mir.Val.{SFits, sel}
 use mir.Facts.{to_z-of_z}
 use Rattle.lifting.specs.Steps.{half, part}
 use Rattle.lifting.specs.Inner.Operation.{read32, Is, HalfOf}
-use Rattle.lifting.specs.Inner.Within.{Within, AllWithin}
+use Rattle.lifting.specs.Inner.Within.{Within}
 
 pub cond_ind : (c : Bool) (x y : ℤ) (P : ℤ → Type 0) → (T c → P x) → (T (not c) → P y) → P (cond c x y)
 cond_ind true x y P f g = f tt

@@ -1,12 +1,11 @@
 -- What a place of 64 signed bits means as a pair of samples. Assumes nothing.
-use mathlib.Core.Path.{◌≡◌, refl, subst}
+use mathlib.Core.Path.{◌≡◌, refl}
 use mathlib.Core.Bool.{true, false}
 use Prim.Native.Nat.{ℕ, ◌<◌}
 use native.Mathlib.Omega.{arith}
 use borrow.Author.Tests.{ltb-true}
-use lib.Dec.{T}
 use lib.IntN.{ℤ, pos, negsuc, nat_abs}
-use lib.Signed.{non_neg, lt_z}
+use lib.Signed.{lt_z}
 use Rattle.row_ring.specs.Ring.{pair_base, packed_of, plain_of, first_of, second_of}
 
 -- whatever stands there, both are words
