@@ -25,7 +25,8 @@ pub fn totals(
     max: u32,
     cols: &mut [i64],
 ) -> Totals
-    requires width_le_side_limit { (width ≤ side_limit) × (height ≤ side_limit) × (max ≤ most_sample) × (5 * columns_of fixed_kernel width ≤ length cols.old) }
+    requires width_le_side_limit { (width ≤ side_limit) × (height ≤ side_limit) × (max ≤ most_sample)
+        × (5 * columns_of fixed_kernel width ≤ length cols.old) }
     requires bounded { Bounded max width height (plane_of a32.now width) }
     requires bounded_2 { Bounded max width height (plane_of b32.now width) }
     ensures { result ≡ scale_totals (scale_of max width height (sample_at (plane_of a32.now width))

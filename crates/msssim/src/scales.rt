@@ -32,7 +32,8 @@ fn pairs_from(
     cols: &mut [i64],
     pairs: &mut [f64],
 )
-    requires width_le_side_limit { (width ≤ side_limit) × (height ≤ side_limit) × (5 * columns_of fixed_kernel width ≤ length cols.old) }
+    requires width_le_side_limit { (width ≤ side_limit) × (height ≤ side_limit)
+        × (5 * columns_of fixed_kernel width ≤ length cols.old) }
     requires left_bound { (max * 4 ^ left ≤ 4 * most_sample) × (length pairs.old ≡ 2 * left) }
     requires bounded { Bounded max width height (plane_of a32.old width) }
     requires bounded_2 { Bounded max width height (plane_of b32.old width) }
