@@ -31,7 +31,7 @@ state_in numbers kernel sums =
       sums = record { ssim = get_or sums 0 nan; cs = get_or sums 1 nan; ssimw = get_or sums 2 nan };
     }
 
--- of the arrays as a contract has them
+-- of the arrays that are lent
 abbrev pub lent_state : List ℕ → List ℕ → List Float → State
 lent_state numbers kernel sums = state_in numbers kernel sums
 

@@ -10,9 +10,9 @@ use psnr::{Record, SquaredError, Summed};
 // Writes the figures of a record where there is one.
 fn put_record(answer: SquaredError, sq_err: &mut f64, n: &mut u64, sample_max: &mut u32) -> u8
     ensures value { result ≡ error_number answer }
-    ensures sample_max_after { record { sq_err = sq_err.exit.now; n = n.new; sample_max = sample_max.new }
+    ensures sample_max_after { record { sq_err = sq_err.new; n = n.new; sample_max = sample_max.new }
         ≡ error_written answer
-        (record { sq_err = sq_err.entry.now; n = n.old; sample_max = sample_max.old }) }
+        (record { sq_err = sq_err.old; n = n.old; sample_max = sample_max.old }) }
 {
     match answer {
         SquaredError::Differs(r) => {
@@ -50,9 +50,9 @@ pub extern "C" fn fuavelino_squared_error8(
 ) -> u8
     ensures value { result ≡ error_number
         (squared_error_of (called false a.entry b.entry width height stride_a stride_b depth) frame plane) }
-    ensures sample_max_after { record { sq_err = sq_err.exit.now; n = n.new; sample_max = sample_max.new }
+    ensures sample_max_after { record { sq_err = sq_err.new; n = n.new; sample_max = sample_max.new }
         ≡ error_written (squared_error_of (called false a.entry b.entry width height stride_a stride_b depth) frame plane)
-        (record { sq_err = sq_err.entry.now; n = n.old; sample_max = sample_max.old }) }
+        (record { sq_err = sq_err.old; n = n.old; sample_max = sample_max.old }) }
 {
     let answer = psnr::squared_error8(a, b, width, height, stride_a, stride_b, depth, frame, plane);
     put_record(answer, sq_err, n, sample_max)
@@ -76,9 +76,9 @@ pub extern "C" fn fuavelino_squared_error16(
 ) -> u8
     ensures value { result ≡ error_number
         (squared_error_of (called true a.entry b.entry width height stride_a stride_b depth) frame plane) }
-    ensures sample_max_after { record { sq_err = sq_err.exit.now; n = n.new; sample_max = sample_max.new }
+    ensures sample_max_after { record { sq_err = sq_err.new; n = n.new; sample_max = sample_max.new }
         ≡ error_written (squared_error_of (called true a.entry b.entry width height stride_a stride_b depth) frame plane)
-        (record { sq_err = sq_err.entry.now; n = n.old; sample_max = sample_max.old }) }
+        (record { sq_err = sq_err.old; n = n.old; sample_max = sample_max.old }) }
 {
     let answer = psnr::squared_error16(
         a, b, width, height, stride_a, stride_b, depth, frame, plane,
@@ -89,9 +89,9 @@ pub extern "C" fn fuavelino_squared_error16(
 // Writes a total where there is one.
 fn put_total(answer: Summed, sq_err: &mut f64, n: &mut u64, sample_max: &mut u32) -> u8
     ensures { (result ≡ series_number answer)
-        × (record { sq_err = sq_err.exit.now; n = n.new; sample_max = sample_max.new }
+        × (record { sq_err = sq_err.new; n = n.new; sample_max = sample_max.new }
         ≡ series_written answer
-        (record { sq_err = sq_err.entry.now; n = n.old; sample_max = sample_max.old })) }
+        (record { sq_err = sq_err.old; n = n.old; sample_max = sample_max.old })) }
 {
     match answer {
         Summed::Differs(t) => {
@@ -119,9 +119,9 @@ pub extern "C" fn fuavelino_series(
     sample_max: &mut u32,
 ) -> u8
     ensures { (result ≡ series_number (series_of records.now))
-        × (record { sq_err = sq_err.exit.now; n = n.new; sample_max = sample_max.new }
+        × (record { sq_err = sq_err.new; n = n.new; sample_max = sample_max.new }
         ≡ series_written (series_of records.now)
-        (record { sq_err = sq_err.entry.now; n = n.old; sample_max = sample_max.old })) }
+        (record { sq_err = sq_err.old; n = n.old; sample_max = sample_max.old })) }
 {
     let answer = psnr::series(records);
     put_total(answer, sq_err, n, sample_max)

@@ -114,7 +114,7 @@ fn term(dc: bool, err: f64, csf: f64, mask: f64, m: f64) -> f64
     q * q
 }
 
-// The squared errors of every place, added to `result`.
+// The squared errors of every place, added to `res`.
 fn errors(
     d1: &[i32],
     d2: &[i32],
@@ -143,7 +143,7 @@ fn errors(
     s
 }
 
-// One block of each plane, added to `result`.
+// One block of each plane, added to `res`.
 pub fn with_block(
     p1: &[i32],
     p2: &[i32],

@@ -34,7 +34,7 @@ fn loaded(
     out
 }
 
-// The blocks of both planes whose first sample is (x, y), added to `result`.
+// The blocks of both planes whose first sample is (x, y), added to `res`.
 pub fn block_at(
     a8: &[u8],
     a16: &[u16],

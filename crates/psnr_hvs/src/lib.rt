@@ -34,7 +34,7 @@ fn blocks_per_side(side: usize) -> usize
     (side - BLOCK_SIDE) / STEP + 1
 }
 
-// One row of blocks, which begins at row y of the planes, added to `result`.
+// One row of blocks, which begins at row y of the planes, added to `res`.
 fn along_row(
     a8: &[u8],
     a16: &[u16],
