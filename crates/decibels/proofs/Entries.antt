@@ -9,6 +9,7 @@ use lib.Dec.{leb, lit≤}
 use Rattle.decibels.specs.Hundredths.{place_count, chart_unit, entry_power, entry_of}
 use Rattle.decibels.proofs.Powers.{mul_pow}
 use Rattle.decibels.proofs.Largest.{largest_most, largest_holds, largest_is}
+use Rattle.decibels.proofs.Room.{product_room}
 
 -- ---- powers
 pub some_places : 1 ≤ place_count
@@ -77,3 +78,6 @@ entry_small k l =
     let whole : 10 ^ k * chart_unit ^ place_count ≤ 10 ^ place_count * chart_unit ^ place_count =
     mul-le-mul_right (chart_unit ^ place_count) (pow-le-pow_right (omega arith) (omega arith)) in
     root_le place_count some_places (rw (mul_pow 10 chart_unit place_count) (le_trans (entry_root k) whole))
+
+-- how large an entry is, and its products
+pub ruleset place_rules = (entry_first, entry_small, product_room)

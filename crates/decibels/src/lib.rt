@@ -32,6 +32,7 @@ pub enum Decibels {
 }
 
 // Place k of the chart.
+#[tactic(auto, using(crate::proofs::Charted::charted), unfolding(crate::specs::Hundredths::place_count))]
 fn entry(entries: &[u64; 1000], k: usize) -> u64
     requires { (entries.now ≡ chart) × (k < place_count) }
     ensures { result ≡ entry_of k }
@@ -65,6 +66,7 @@ fn raise(peak: Wide, error: u64) -> Raised
 
 // The last place of the chart whose entry times the error is at most P units: halves the range in which it lies, since the entries rise.
 // The chart is lent, since a constant is laid out anew wherever it is named: once a call, and not once a step.
+#[tactic(auto, using(crate::proofs::Entries::place_rules), unfolding(crate::specs::Hundredths::place_count))]
 fn place(entries: &[u64; 1000], peak: Wide, error: Wide) -> usize
     requires entries_value { entries.now ≡ chart }
     requires error_bound { (value_of error ≤ value_of peak) × (value_of peak < peak_limit) }
@@ -85,6 +87,7 @@ fn place(entries: &[u64; 1000], peak: Wide, error: Wide) -> usize
 }
 
 // P: n samples, each as wrong as it can be.
+#[tactic(auto, unfolding(crate::specs::Hundredths::peak_of))]
 fn peak_of(n: u64, max: u32) -> Wide
     ensures { value_of result ≡ peak_of n max }
 {
@@ -92,6 +95,7 @@ fn peak_of(n: u64, max: u32) -> Wide
 }
 
 // The answer for an error under P.
+#[tactic(auto, unfolding(crate::specs::Hundredths::hundredths_of, crate::specs::Hundredths::place_count))]
 fn answer(peak: Wide, error: u64) -> Decibels
     requires { (error ≤ value_of peak) × (value_of peak < peak_limit) }
     ensures { result ≡ decibels_of (value_of peak) error }
@@ -105,6 +109,7 @@ fn answer(peak: Wide, error: u64) -> Decibels
 }
 
 // Of a record.
+#[tactic(auto, unfolding(crate::specs::Answer::record_decibels))]
 pub fn of_record(r: Record) -> Decibels
     ensures { result ≡ record_decibels r }
 {
@@ -115,6 +120,7 @@ pub fn of_record(r: Record) -> Decibels
 }
 
 // Whether some series adds up to this total. Its largest error can need more than a word.
+#[tactic(auto, using(crate::proofs::Room::one_word), unfolding(crate::specs::Answer::total_suits, psnr::specs::Record::error_suits))]
 fn total_suits(t: Total) -> bool
     ensures { result ≡ total_suits t }
 {
@@ -135,6 +141,7 @@ fn total_suits(t: Total) -> bool
 }
 
 // Of a total.
+#[tactic(auto, unfolding(crate::specs::Answer::total_decibels))]
 pub fn of_total(t: Total) -> Decibels
     ensures { result ≡ total_decibels t }
 {
@@ -145,6 +152,7 @@ pub fn of_total(t: Total) -> Decibels
 }
 
 // Of what a series answered.
+#[tactic(auto, unfolding(crate::specs::Answer::summed_decibels))]
 pub fn of_summed(s: Summed) -> Decibels
     ensures { result ≡ summed_decibels s }
 {

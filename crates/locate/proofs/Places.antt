@@ -88,3 +88,6 @@ module _ {p : Planes} (w : Walkable p) (y : ℕ) (l : y < p.size.height) where
 
   pub second_row : y * p.b.stride + p.size.width ≤ length p.b.samples
   second_row = row_inside _ _ w.bounded.second.long l
+
+-- the walk to the first place
+pub ruleset first_steps = (first_row, second_row, along_none, along_more, down_none, down_more, row_alike, found)

@@ -9,6 +9,7 @@ use Rattle.psnr.specs.Squared.{square_of}
 use Rattle.psnr.specs.Inner.Walk.{squares_from}
 use Rattle.psnr.proofs.Squares.{squares_more}
 use Rattle.locate.specs.Map.{tile_side, tile_length, piece_error, tile_error_to}
+use Rattle.plane.proofs.Rows.{row_inside, count_fits}
 
 -- one sample more of a piece
 pub sample_more : (a b : List ℕ) (i j x : ℕ) {sum square : ℕ} → sum ≡ squares_from a b i j x → square ≡ square_of (at a (i + x)) (at b (j + x))
@@ -31,3 +32,6 @@ module _ (p : Planes) where
       → piece ≡ piece_error p (i * tile_side) (tile_length p.size.width i) (j * tile_side + k) → sum + piece ≡ tile_error_to p j i (k + 1)
   unfolding tile_error_to
   row_more j i k e f = rw (sum_more _ k, e, f)
+
+-- a piece ends inside its row
+pub ruleset piece_rules = (row_inside, count_fits, piece_is)

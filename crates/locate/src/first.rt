@@ -9,6 +9,7 @@ use crate::Located;
 use plane::Layout;
 
 // Whether n bytes of each plane agree. They are walked to their end, whatever they hold: such a loop is vectorised.
+#[tactic(auto, using(crate::proofs::Places::alike_none, crate::proofs::Places::alike_more))]
 fn alike8(a: &[u8], b: &[u8], from_a: usize, from_b: usize, n: usize) -> bool
     requires { (from_a + n ≤ length a.now) × (from_b + n ≤ length b.now) }
     ensures { result ≡ alike_from a.now b.now from_a from_b n }
@@ -21,6 +22,7 @@ fn alike8(a: &[u8], b: &[u8], from_a: usize, from_b: usize, n: usize) -> bool
 }
 
 // The same of words.
+#[tactic(auto, using(crate::proofs::Places::alike_none, crate::proofs::Places::alike_more))]
 fn alike16(a: &[u16], b: &[u16], from_a: usize, from_b: usize, n: usize) -> bool
     requires { (from_a + n ≤ length a.now) × (from_b + n ≤ length b.now) }
     ensures { result ≡ alike_from a.now b.now from_a from_b n }
@@ -33,7 +35,7 @@ fn alike16(a: &[u16], b: &[u16], from_a: usize, from_b: usize, n: usize) -> bool
 }
 
 // Of bytes: both walks are left at the first place. A row that agrees is passed over as a whole.
-#[tactic(auto, using(crate::proofs::Places::first_row, crate::proofs::Places::second_row, crate::proofs::Places::along_none, crate::proofs::Places::along_more, crate::proofs::Places::down_none, crate::proofs::Places::down_more, crate::proofs::Places::row_alike, crate::proofs::Places::found,))]
+#[tactic(auto, using(crate::proofs::Places::first_steps))]
 fn first8(a: &[u8], b: &[u8], layout: Layout) -> Located
     requires { Walkable (laid layout a.now b.now) }
     ensures { result ≡ first_difference (laid layout a.now b.now) }
@@ -56,7 +58,7 @@ fn first8(a: &[u8], b: &[u8], layout: Layout) -> Located
 }
 
 // The same of words.
-#[tactic(auto, using(crate::proofs::Places::first_row, crate::proofs::Places::second_row, crate::proofs::Places::along_none, crate::proofs::Places::along_more, crate::proofs::Places::down_none, crate::proofs::Places::down_more, crate::proofs::Places::row_alike, crate::proofs::Places::found,))]
+#[tactic(auto, using(crate::proofs::Places::first_steps))]
 fn first16(a: &[u16], b: &[u16], layout: Layout) -> Located
     requires { Walkable (laid layout a.now b.now) }
     ensures { result ≡ first_difference (laid layout a.now b.now) }
@@ -91,6 +93,7 @@ fn first(a8: &[u8], a16: &[u16], b8: &[u8], b16: &[u16], layout: Layout) -> Loca
 }
 
 // The first place at which two planes of either width differ. Every sample is judged before the walk may leave early.
+#[tactic(auto, unfolding(crate::specs::Where::located_of))]
 pub fn answer(a8: &[u8], a16: &[u16], b8: &[u8], b16: &[u16], layout: Layout) -> Located
     ensures { result ≡ located_of (planes layout a8.entry a16.entry b8.entry b16.entry) }
 {

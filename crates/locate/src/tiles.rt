@@ -16,6 +16,7 @@ use psnr::walk;
 const TILE_SIDE: usize = 8;
 
 // How many tiles lie along a side.
+#[tactic(auto, using(plane::proofs::Limits::side_small), unfolding(crate::specs::Map::tile_side, crate::specs::Map::tiles_along))]
 fn tiles_along(side: usize) -> usize
     requires { side ≤ side_limit }
     ensures { result ≡ tiles_along side }
@@ -24,6 +25,7 @@ fn tiles_along(side: usize) -> usize
 }
 
 // How many tiles there are, and so how many places a map needs.
+#[tactic(auto, using(plane::proofs::Limits::area_fits, crate::proofs::Sides::along_most))]
 pub fn places(width: usize, height: usize) -> usize
     requires { (width ≤ side_limit) × (height ≤ side_limit) }
     ensures { result ≡ tiles_of width height }
@@ -42,6 +44,7 @@ fn tile_length(side: usize, k: usize) -> usize
 }
 
 // The sum over n bytes of each plane. So few fit 32 bits.
+#[tactic(auto, using(psnr::proofs::Squares::squares_none, crate::proofs::Sums::sample_more), unfolding(crate::specs::Map::tile_side))]
 fn piece8(a: &[u8], b: &[u8], from_a: usize, from_b: usize, n: usize) -> u32
     requires { (from_a + n ≤ length a.now) × (from_b + n ≤ length b.now) × (n ≤ tile_side) }
     ensures { result ≡ squares_from a.now b.now from_a from_b n }
@@ -54,6 +57,7 @@ fn piece8(a: &[u8], b: &[u8], from_a: usize, from_b: usize, n: usize) -> u32
 }
 
 // The same of words.
+#[tactic(auto, using(psnr::proofs::Squares::squares_none, crate::proofs::Sums::sample_more), unfolding(crate::specs::Map::tile_side))]
 fn piece16(a: &[u16], b: &[u16], from_a: usize, from_b: usize, n: usize) -> u64
     requires { (from_a + n ≤ length a.now) × (from_b + n ≤ length b.now) × (n ≤ tile_side) }
     ensures { (result ≡ squares_from a.now b.now from_a from_b n) × (result ≤ piece_most) }
@@ -67,6 +71,7 @@ fn piece16(a: &[u16], b: &[u16], from_a: usize, from_b: usize, n: usize) -> u64
 
 // The sum over the n samples of row y from column x on. Of a full tile the count is one that the compiler knows: that loop becomes
 // straight code.
+#[tactic(auto, using(crate::proofs::Sums::piece_rules), unfolding(crate::specs::Map::tile_side,))]
 fn piece(
     a8: &[u8],
     a16: &[u16],
@@ -153,6 +158,7 @@ fn tiles(a8: &[u8], a16: &[u16], b8: &[u8], b16: &[u16], layout: Layout, map: &m
 }
 
 // The lowest of 1 2 4 5 6 8 that applies, and 0 where none does. `lent` is how many places there are.
+#[tactic(auto, using(plane::proofs::Accept::accepted))]
 fn refusal(a8: &[u8], a16: &[u16], b8: &[u8], b16: &[u16], layout: Layout, lent: usize) -> u8
     ensures { result ≡ map_refusal (planes layout a8.entry a16.entry b8.entry b16.entry) lent }
 {

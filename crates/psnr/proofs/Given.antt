@@ -1,6 +1,7 @@
 -- What Totals says of a series' total is all that can be said: any numbers of which it holds are the total of some run (`sums_given`), the first planes
 -- of frames from 0 on. Assumes nothing.
-use Rattle.std.proofs.Common.{◌≡◌, ℕ, zero, suc, ◌+◌, ◌-◌, ◌*◌, ◌/◌, ◌%◌, ◌<◌, ◌≤◌, min, true, List, [], ◌∷◌, length, refl, ap, ◌∙◌, le_trans, le_of_lt, mod-lt, suc-mul, add-mul, lt_of_mul-lt-mul_right, div-add-mod', arith, eq-eqb, le-leb}
+use Rattle.std.proofs.Common.{◌≡◌, ℕ, zero, suc, ◌+◌, ◌-◌, ◌*◌, ◌/◌, ◌%◌, ◌<◌, ◌≤◌, min, true, List, [], ◌∷◌, length, refl, ap, ◌∙◌, le_trans, le_of_lt, mod-lt, suc-mul}
+use Rattle.std.proofs.Common.{add-mul, lt_of_mul-lt-mul_right, div-add-mod', arith, eq-eqb, le-leb}
 use Rattle.number.specs.Steps.{double}
 use Rattle.psnr.specs.declared.Record.{Record}
 use Rattle.psnr.specs.Limits.{count_limit, most_plane, record_limit, total_limit}

@@ -1,5 +1,7 @@
 -- Laws of the sums and bits of two rows, of their parts, and of what a walk over them finds. Assumes nothing.
-use Rattle.std.proofs.Common.{◌≡◌, ℕ, zero, suc, ◌+◌, ◌-◌, ◌*◌, ◌%◌, ◌^◌, ◌<◌, ◌≤◌, Bool, true, false, List, length, sym, refl, ap, ◌∙◌, subst, ap₂, le_refl, lt_of_le_of_lt, mul-le-mul_right, mod-eq_of_lt, mul-le-mul, mul-lt-mul_of_pos_right, one-mul, add-one, arith, lit<, pow_pos, pow_mono, pow-add, shl_exact, lt_of_le_ones}
+use Rattle.std.proofs.Common.{◌≡◌, ℕ, zero, suc, ◌+◌, ◌-◌, ◌*◌, ◌%◌, ◌^◌, ◌<◌, ◌≤◌, Bool, true, false, List, length, sym, refl, ap, ◌∙◌, subst, ap₂, le_refl}
+use Rattle.std.proofs.Common.{lt_of_le_of_lt, mul-le-mul_right, mod-eq_of_lt, mul-le-mul, mul-lt-mul_of_pos_right, one-mul, add-one, arith, lit<, pow_pos, pow_mono}
+use Rattle.std.proofs.Common.{pow-add, shl_exact, lt_of_le_ones}
 use native.Mathlib.Nat.{mul-lt-mul_of_pos_left, mod-add-mod}
 use native.Mathlib.Decide.{dec_lt}
 use lib.Bits.{bit_or, or_lt, or_add_and, and_le_l, and_le_r}
@@ -206,3 +208,6 @@ found_broken suit sum e = sym (ap (λ (t : Bool). walked_if t sum) e)
 
 pub found_sum : {suit : Bool} {sum whole : ℕ} → suit ≡ true → sum ≡ whole → Sum sum ≡ walked_if suit whole
 found_sum {suit} {sum} {whole} s e = ap Sum e ∙ ap (λ (t : Bool). walked_if t whole) (sym s)
+
+-- a sum and its bits, counted up
+pub ruleset part_steps = (in_none, in_next, in_wrapped, bits_none, bits_next)

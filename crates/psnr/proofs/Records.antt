@@ -112,3 +112,6 @@ module _ (r : Record) (e : record_suits r ≡ true) where
   pub suits_most : whole_of r.sq_err ≤ r.n * (r.sample_max * r.sample_max)
   unfolding error_suits
   suits_most = leb-true _ _ (and_right (is_whole r.sq_err) _ suits_error)
+
+-- counted up
+pub ruleset some_steps = (some_none, some_more)

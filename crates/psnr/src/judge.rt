@@ -39,6 +39,7 @@ pub fn is_whole(e: f64) -> bool
 }
 
 // Whether e is a whole number from 0 to `most`.
+#[tactic(auto, unfolding(crate::specs::Record::error_suits))]
 pub fn error_suits(most: u64, e: f64) -> bool
     ensures { result ≡ error_suits most e }
 {
@@ -49,6 +50,7 @@ pub fn error_suits(most: u64, e: f64) -> bool
 }
 
 // Whether n is from 1 to its limit.
+#[tactic(auto, unfolding(crate::specs::Record::count_suits, crate::specs::Limits::count_limit))]
 pub fn count_suits(n: u64) -> bool
     ensures { result ≡ count_suits n }
 {
@@ -56,6 +58,7 @@ pub fn count_suits(n: u64) -> bool
 }
 
 // Whether max is the sample_max of a depth.
+#[tactic(auto, using(crate::proofs::Records::some_steps), unfolding(plane::specs::Limits::most_depth, crate::specs::Record::max_suits))]
 pub fn max_suits(max: u32) -> bool
     ensures { result ≡ max_suits max }
 {
@@ -67,6 +70,7 @@ pub fn max_suits(max: u32) -> bool
 }
 
 // Whether the plane's number is 0, 1 or 2.
+#[tactic(auto, unfolding(crate::specs::Record::plane_suits, crate::specs::Limits::most_plane))]
 pub fn plane_suits(plane: u32) -> bool
     ensures { result ≡ plane_suits plane }
 {
@@ -74,6 +78,7 @@ pub fn plane_suits(plane: u32) -> bool
 }
 
 // Whether the record is not bad by itself. n and max are judged first, so that the product fits.
+#[tactic(auto, using(crate::proofs::Records::product_room), unfolding(crate::specs::Record::record_suits))]
 pub fn record_suits(r: Record) -> bool
     ensures { result ≡ record_suits r }
 {
@@ -89,6 +94,7 @@ pub fn record_suits(r: Record) -> bool
 }
 
 // Whether it is not bad in a series whose first record has this max.
+#[tactic(auto, unfolding(crate::specs::Record::joins))]
 pub fn joins(max: u32, r: Record) -> bool
     ensures { result ≡ joins max r }
 {
@@ -96,6 +102,7 @@ pub fn joins(max: u32, r: Record) -> bool
 }
 
 // Whether a frame and plane come before others: by frame, then by plane.
+#[tactic(auto, unfolding(crate::specs::Record::earlier))]
 pub fn is_earlier(frame: u32, plane: u32, next_frame: u32, next_plane: u32) -> bool
     ensures { result ≡ earlier frame plane next_frame next_plane }
 {

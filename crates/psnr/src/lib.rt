@@ -171,6 +171,7 @@ pub fn squared_error16(
 }
 
 // Whether the record comes after the last one, where there is one.
+#[tactic(auto, unfolding(crate::specs::Inner::Fold::rises))]
 fn rises(t: Tally, r: Record) -> bool
     ensures { result ≡ rises t r }
 {
@@ -178,6 +179,7 @@ fn rises(t: Tally, r: Record) -> bool
 }
 
 // One record more, whatever the tally so far may be.
+#[tactic(auto, unfolding(crate::specs::Inner::Fold::run_with, crate::specs::Limits::record_limit))]
 pub fn add_record(t: Tally, r: Record) -> Run
     ensures { result ≡ run_with t r }
 {
@@ -208,6 +210,7 @@ pub fn start() -> Run
 }
 
 // A series with one record more. What is spoiled stays so: the walk over a run then has no branch but its own.
+#[tactic(auto, unfolding(crate::specs::Inner::Fold::run_step))]
 pub fn step(s: Run, r: Record) -> Run
     ensures { result ≡ run_step s r }
 {
@@ -229,6 +232,7 @@ pub fn step(s: Run, r: Record) -> Run
 }
 
 // What the series answers once its last record has come.
+#[tactic(auto, unfolding(crate::specs::Limits::total_limit, crate::specs::Inner::Fold::run_finish))]
 pub fn finish(s: Run) -> Summed
     ensures { result ≡ run_finish s }
 {

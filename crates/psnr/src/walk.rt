@@ -39,6 +39,7 @@ pub fn square16(a: u16, b: u16) -> u32
 const STRETCH: usize = 128;
 
 // The sum over two parts of rows of bytes. So few fit 32 bits.
+#[tactic(auto, using(plane::proofs::Limits::side_small, crate::proofs::Parts::part_steps))]
 fn part8(a: &[u8], b: &[u8]) -> u32
     requires { (length a.now ≡ length b.now) × (length a.now ≤ side_limit) }
     ensures value { result ≡ squares_in a.now b.now (length a.now) }
@@ -52,6 +53,7 @@ fn part8(a: &[u8], b: &[u8]) -> u32
 }
 
 // The sum over two rows of bytes.
+#[tactic(auto, using(plane::proofs::Limits::side_small, crate::proofs::Parts::in_none))]
 fn sum8(a: &[u8], b: &[u8]) -> u32
     requires { (length a.now ≡ length b.now) × (length a.now ≤ side_limit) }
     ensures { result ≡ squares_in a.now b.now (length a.now) }
@@ -67,6 +69,7 @@ fn sum8(a: &[u8], b: &[u8]) -> u32
 }
 
 // Whether no sample of two rows of bytes is above sample_max. None can be at the largest depth of bytes, so those are not read.
+#[tactic(auto, using(plane::proofs::Depth::depth_small, crate::proofs::Parts::suits_holds))]
 fn suit8(a: &[u8], b: &[u8], depth: u32) -> bool
     requires { (length a.now ≡ length b.now) × (depth ≤ most_depth false) }
     ensures { result ≡ pair_suits depth a.now b.now (length a.now) }
@@ -79,6 +82,7 @@ fn suit8(a: &[u8], b: &[u8], depth: u32) -> bool
 }
 
 // What is found in two rows of bytes.
+#[tactic(auto, unfolding(crate::specs::Inner::Walk::row_walked))]
 fn row8(a: &[u8], b: &[u8], depth: u32) -> Walked
     requires { (length a.now ≡ length b.now) × (length a.now ≤ side_limit) × (depth ≤ most_depth false) }
     ensures { result ≡ row_walked depth a.now b.now (length a.now) }
@@ -92,6 +96,7 @@ fn row8(a: &[u8], b: &[u8], depth: u32) -> Walked
 // ---- words
 
 // How many squares fit 32 bits, where no sample has more bits than the depth.
+#[tactic(auto, using(crate::proofs::Parts::depth_half, crate::proofs::Parts::part_shifted))]
 fn part_length(depth: u32) -> usize
     requires { depth ≤ most_depth true }
     ensures { result ≡ part_length depth }
@@ -114,6 +119,7 @@ struct Part {
 }
 
 // There is no branch in its loop. Where no bit is too high, and the part is short enough, the sum has not wrapped: the caller sees to both.
+#[tactic(auto, using(crate::proofs::Parts::part_steps))]
 fn part16(a: &[u16], b: &[u16]) -> Part
     requires { length a.now ≡ length b.now }
     ensures sum_value { result.sum ≡ squares_in a.now b.now (length a.now) % 2 ^ 32 }
@@ -131,6 +137,7 @@ fn part16(a: &[u16], b: &[u16]) -> Part
 }
 
 // What is found in two rows of words, part by part.
+#[tactic(auto, unfolding(crate::specs::Inner::Walk::row_walked))]
 fn row16(a: &[u16], b: &[u16], depth: u32) -> Walked
     requires { (length a.now ≡ length b.now) × (length a.now ≤ side_limit) × (depth ≤ most_depth true) }
     ensures { result ≡ row_walked depth a.now b.now (length a.now) }

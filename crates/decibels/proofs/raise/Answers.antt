@@ -1,10 +1,10 @@
 -- `decibels::raise` meets its contract. The invariant: what is held is the error times the power, and at most P. Assumes nothing.
+use Rattle.std.proofs.Common.{rules}
 use mathlib.Core.Path.{◌≡◌, refl, sym, ◌∙◌}
 use Prim.Native.Nat.{ℕ, ◌+◌, ◌*◌, ◌^◌, ◌≤◌, ◌<◌}
 use native.Mathlib.Nat.{pow-suc, one-mul, lt_of_le_of_lt}
 use native.Mathlib.Numerals.{add-one}
 use native.Mathlib.Omega.{arith}
-use borrow.Author.Tests.{not-true, not-false}
 use Rattle.number.proofs.Words.{said_less, said_not}
 use Rattle.decibels.specs.Inner.Room.{power_limit, peak_limit}
 use Rattle.decibels.proofs.Room.{power_short, one_word, ten_small, product_room}
@@ -32,7 +32,7 @@ overflow_add-power c = let i = c.loop-held.invariant in
     omega (arith, short _ _ _ p.0 p.2 i.0 i.1)
 
 pub times-next-requires-in-loop-held : goal.times-next-requires-in-loop-held
-times-next-requires-in-loop-held c = let fits = said_not c.less.ensures refl refl (not-true _ c.loop-held-test.true-raw) in
+times-next-requires-in-loop-held c = let fits = said_not c.less.ensures refl refl (search rules) in
     product_room (lt_of_le_of_lt fits c.requires.2) ten_small
 
 pub loop-held-smaller : goal.loop-held-smaller
@@ -42,13 +42,13 @@ loop-held-smaller c = let i = c.loop-held.invariant in
 
 pub loop-held-preserved : goal.loop-held-preserved
 loop-held-preserved c = let i = c.loop-held.invariant in
-    (next_is _ _ i.0 i.2, said_not c.less.ensures refl refl (not-true _ c.loop-held-test.true-raw), c.times-next-in-loop-held.ensures)
+    (next_is _ _ i.0 i.2, said_not c.less.ensures refl refl (search rules), c.times-next-in-loop-held.ensures)
 
 pub returns : goal.returns
 returns c =
     let i = c.loop-held.invariant in
     let p = c.requires in
-    let past = said_less c.less.ensures refl (next_is _ _ i.0 i.2) (not-false _ c.loop-held-test.false-raw) in
+    let past = said_less c.less.ensures refl (next_is _ _ i.0 i.2) (search rules) in
     record {
       power_value = (sym (power_is _ _ p.0 _ (rw (← i.0) i.1) past), i.0);
       power_lt_power_limit = (short _ _ _ p.0 p.2 i.0 i.1, i.1);

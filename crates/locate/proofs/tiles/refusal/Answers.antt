@@ -1,14 +1,9 @@
 -- `locate::tiles::refusal` meets its contract. Assumes nothing.
-use mathlib.Core.Path.{sym, ◌∙◌}
-use Rattle.plane.proofs.Accept.{accepted}
 use Rattle.locate.proofs.Accept.{planes_refuse, places_refuse, none_refuses}
 use Rattle.locate.proofs.tiles.refusal.Goals as goal
 
 pub returns-then-no-ne0 : goal.returns-then-no-ne0
 returns-then-no-ne0 c = planes_refuse _ _ c.check-no.ensures c.if-no-ne0.true
-
-pub places-requires : goal.places-requires
-places-requires c = let sized = (accepted _ _ _ (sym c.check-no.ensures ∙ c.if-no-ne0.false)).sized in (sized.width_most, sized.height_most)
 
 pub returns-then-lent-places : goal.returns-then-lent-places
 returns-then-lent-places c = places_refuse _ _ c.check-no.ensures c.if-no-ne0.false

@@ -81,7 +81,10 @@ pub loop-k-preserved : goal.loop-k-preserved
 unfolding tile_side
 loop-k-preserved c =
     let both : Planes = planes c.args.layout c.args.a8 c.args.a16 c.args.b8 c.args.b16 in
-    let piece-said : c.piece-sum.result ≡ piece_error both (c.args.i * tile_side) (tile_length both.size.width c.args.i) (c.args.j * tile_side + c.loop-k.k) = c.piece-sum.ensures.0 ∙ ap (λ (n : ℕ). piece_error both (c.args.i * tile_side) n (c.args.j * tile_side + c.loop-k.k)) c.tile_length-columns.ensures in (
+    let x = c.args.i * tile_side in
+    let y = c.args.j * tile_side + c.loop-k.k in
+    let piece-said : c.piece-sum.result ≡ piece_error both x (tile_length both.size.width c.args.i) y =
+    c.piece-sum.ensures.0 ∙ ap (λ (n : ℕ). piece_error both x n y) c.tile_length-columns.ensures in (
       omega (arith, c.tile_length-k-end.ensures),
       row_more _ _ _ _ c.loop-k.invariant.1 piece-said,
       omega (arith, c.piece-sum.ensures.1, c.loop-k.invariant.2),
