@@ -21,11 +21,6 @@ use Rattle.psnr.specs.Squared.{square_of}
 use Rattle.psnr.specs.Inner.Walk.{squares_in, bits_in, part_length, walked_if, pair_suits}
 use Rattle.psnr.proofs.Squares.{square_le}
 
--- ---- a part of each of two rows of one length
-pub cut_pair : (a b : List ℕ) (from to : ℕ) → length a ≡ length b → from ≤ to → to ≤ length a
-    → length (cut a from to) ≡ length (cut b from to)
-cut_pair a b from to same l m = cut_length a from to l m ∙ sym (cut_length b from to l (omega arith))
-
 -- ---- the sum
 module _ (a b : List ℕ) where
   pub in_none : squares_in a b 0 ≡ 0
@@ -202,9 +197,6 @@ module _ (depth : ℕ) (a b : List ℕ) (from to : ℕ) (l : from ≤ to) (m : t
 pub found_above : (suit : Bool) (sum : ℕ) → (suit ≡ true → ⊥) → Above ≡ walked_if suit sum
 found_above true sum h = absurd (h refl)
 found_above false sum h = refl
-
-pub found_broken : (suit : Bool) (sum : ℕ) → suit ≡ false → Above ≡ walked_if suit sum
-found_broken suit sum e = sym (ap (λ (t : Bool). walked_if t sum) e)
 
 pub found_sum : {suit : Bool} {sum whole : ℕ} → suit ≡ true → sum ≡ whole → Sum sum ≡ walked_if suit whole
 found_sum {suit} {sum} {whole} s e = ap Sum e ∙ ap (λ (t : Bool). walked_if t whole) (sym s)
