@@ -77,7 +77,7 @@ def turned(text, names):
 def turned_camel(text, names):
     """A .rt file or a page: names in camel case only, and not in strings of code."""
     camel = sorted((n for n in names if "-" not in n), key=len, reverse=True)
-    return re.sub(r"(?<![\w'.\"/-])(" + "|".join(map(re.escape, camel)) + r")(?![\w'\"/-])", lambda m: snake(m.group(1)), text)
+    return re.sub(r"(?<![\w'\"/-])(" + "|".join(map(re.escape, camel)) + r")(?![\w'\"/-])", lambda m: snake(m.group(1)), text)
 
 
 def write(path, text):
