@@ -16,8 +16,8 @@ fn kind_of(n: usize) -> Option<Kind> {
 fn ask8(r: Row, kind: Kind) -> Hvs {
     let list = table::BYTES;
     psnr_hvs::psnr_hvs8(
-        tell::part_of(&list, r.a.from, r.a.end),
-        tell::part_of(&list, r.b.from, r.b.end),
+        tell::part_of(&list, r.a.from..r.a.end),
+        tell::part_of(&list, r.b.from..r.b.end),
         r.size.width,
         r.size.height,
         r.a.stride,
@@ -30,8 +30,8 @@ fn ask8(r: Row, kind: Kind) -> Hvs {
 fn ask16(r: Row, kind: Kind) -> Hvs {
     let list = table::WORDS;
     psnr_hvs::psnr_hvs16(
-        tell::part_of(&list, r.a.from, r.a.end),
-        tell::part_of(&list, r.b.from, r.b.end),
+        tell::part_of(&list, r.a.from..r.a.end),
+        tell::part_of(&list, r.b.from..r.b.end),
         r.size.width,
         r.size.height,
         r.a.stride,

@@ -44,8 +44,8 @@ fn ask8(r: Row) -> MsSsim {
     let mut room_a = [0u32; ROOM];
     let mut room_b = [0u32; ROOM];
     msssim::msssim8(
-        tell::part_of(&a, 0, r.a.end),
-        tell::part_of(&b, 0, r.b.end),
+        tell::part_of(&a, 0..r.a.end),
+        tell::part_of(&b, 0..r.b.end),
         r.size.width,
         r.size.height,
         r.a.stride,
@@ -64,8 +64,8 @@ fn ask16(r: Row) -> MsSsim {
     let mut room_a = [0u32; ROOM];
     let mut room_b = [0u32; ROOM];
     msssim::msssim16(
-        tell::part_of(&a, 0, r.a.end),
-        tell::part_of(&b, 0, r.b.end),
+        tell::part_of(&a, 0..r.a.end),
+        tell::part_of(&b, 0..r.b.end),
         r.size.width,
         r.size.height,
         r.a.stride,

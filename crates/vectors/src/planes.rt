@@ -20,8 +20,8 @@ fn ask8(r: Row) -> Option<u8> {
     set(&mut a, r.a.from, u8::try_from(x).ok()?);
     set(&mut b, r.b.from, u8::try_from(y).ok()?);
     Some(plane::check8(
-        tell::part_of(&a, 0, r.a.end),
-        tell::part_of(&b, 0, r.b.end),
+        tell::part_of(&a, 0..r.a.end),
+        tell::part_of(&b, 0..r.b.end),
         r.size.width,
         r.size.height,
         r.a.stride,
@@ -38,8 +38,8 @@ fn ask16(r: Row) -> Option<u8> {
     set(&mut a, r.a.from, u16::try_from(x).ok()?);
     set(&mut b, r.b.from, u16::try_from(y).ok()?);
     Some(plane::check16(
-        tell::part_of(&a, 0, r.a.end),
-        tell::part_of(&b, 0, r.b.end),
+        tell::part_of(&a, 0..r.a.end),
+        tell::part_of(&b, 0..r.b.end),
         r.size.width,
         r.size.height,
         r.a.stride,

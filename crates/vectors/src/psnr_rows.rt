@@ -11,8 +11,8 @@ const FRAME: u32 = 4294967295;
 fn ask8(r: Row, plane: u32) -> SquaredError {
     let list = table::BYTES;
     psnr::squared_error8(
-        tell::part_of(&list, r.a.from, r.a.end),
-        tell::part_of(&list, r.b.from, r.b.end),
+        tell::part_of(&list, r.a.from..r.a.end),
+        tell::part_of(&list, r.b.from..r.b.end),
         r.size.width,
         r.size.height,
         r.a.stride,
@@ -26,8 +26,8 @@ fn ask8(r: Row, plane: u32) -> SquaredError {
 fn ask16(r: Row, plane: u32) -> SquaredError {
     let list = table::WORDS;
     psnr::squared_error16(
-        tell::part_of(&list, r.a.from, r.a.end),
-        tell::part_of(&list, r.b.from, r.b.end),
+        tell::part_of(&list, r.a.from..r.a.end),
+        tell::part_of(&list, r.b.from..r.b.end),
         r.size.width,
         r.size.height,
         r.a.stride,

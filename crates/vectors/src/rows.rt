@@ -3,6 +3,7 @@ use crate::{hvs_rows, msssim_rows, planes, psnr_rows, ssim_rows, table, tell};
 use plane::Size;
 use std::io;
 use std::num::TryFromIntError;
+use std::ops::Range;
 
 // How many numbers a row has.
 const ROW: usize = 15;
@@ -26,12 +27,6 @@ pub struct Row {
     pub at: usize,
 }
 
-impl Lent {
-    fn of([stride, from, end]: [usize; 3]) -> Lent {
-        Lent { stride, from, end }
-    }
-}
-
 impl TryFrom<[usize; ROW]> for Row {
     type Error = TryFromIntError;
 
@@ -41,12 +36,12 @@ impl TryFrom<[usize; ROW]> for Row {
             depth,
             width,
             height,
-            a0,
-            a1,
-            a2,
-            b0,
-            b1,
-            b2,
+            stride_a,
+            from_a,
+            end_a,
+            stride_b,
+            from_b,
+            end_b,
             x,
             y,
             z,
@@ -60,8 +55,16 @@ impl TryFrom<[usize; ROW]> for Row {
                 height,
                 depth: u32::try_from(depth)?,
             },
-            a: Lent::of([a0, a1, a2]),
-            b: Lent::of([b0, b1, b2]),
+            a: Lent {
+                stride: stride_a,
+                from: from_a,
+                end: end_a,
+            },
+            b: Lent {
+                stride: stride_b,
+                from: from_b,
+                end: end_b,
+            },
             told: [x, y, z],
             no: u8::try_from(no)?,
             at,
@@ -69,22 +72,22 @@ impl TryFrom<[usize; ROW]> for Row {
     }
 }
 
-// The rows of a family, which stand from `first` up to `end`.
+// The rows of a family, which stand at `places`.
 fn family<F: Fn(Row) -> bool>(
     rt: &impl Print,
     name: &str,
-    first: usize,
-    end: usize,
+    places: Range<usize>,
     is_right: F,
 ) -> io::Result<()>
     requires { F.IsAlwaysCallable is_right }
 {
     let list = table::ROWS;
     let (rows, _) = list.as_chunks::<ROW>();
+    // a `match`: at `is_ok_and(&is_right)` the proof did not close, that the call may be made
     tell::replay(
         rt,
         name,
-        tell::part_of(rows, first, end),
+        tell::part_of(rows, places),
         |&row| match Row::try_from(row) {
             Ok(r) => is_right(r),
             Err(_) => false,
@@ -96,21 +99,19 @@ fn family<F: Fn(Row) -> bool>(
 // checks; the kernel 128 0 128 in SSIM; side 7 in PSNR-HVS; sides 15 and 16 in MS-SSIM. Totals are in src/series.rt: planes of the
 // largest error, 2^53 and one more.
 pub fn replay(rt: &impl Print) -> io::Result<()> {
-    family(rt, "plane checks", 0, table::CHECKS, planes::check_is)?;
+    family(rt, "plane checks", 0..table::CHECKS, planes::check_is)?;
     family(
         rt,
         "squared errors",
-        table::CHECKS,
-        table::SQUARED,
+        table::CHECKS..table::SQUARED,
         psnr_rows::error_is,
     )?;
-    family(rt, "SSIM", table::SQUARED, table::SSIM, ssim_rows::pair_is)?;
-    family(rt, "PSNR-HVS", table::SSIM, table::HVS, hvs_rows::score_is)?;
+    family(rt, "SSIM", table::SQUARED..table::SSIM, ssim_rows::pair_is)?;
+    family(rt, "PSNR-HVS", table::SSIM..table::HVS, hvs_rows::score_is)?;
     family(
         rt,
         "MS-SSIM",
-        table::HVS,
-        table::MSSSIM,
+        table::HVS..table::MSSSIM,
         msssim_rows::five_are,
     )
 }

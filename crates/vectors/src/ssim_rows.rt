@@ -6,8 +6,8 @@ use ssim::Ssim;
 fn ask8(r: Row, kernel: &[u16], scratch: &mut [i64]) -> Ssim {
     let list = table::BYTES;
     ssim::ssim8(
-        tell::part_of(&list, r.a.from, r.a.end),
-        tell::part_of(&list, r.b.from, r.b.end),
+        tell::part_of(&list, r.a.from..r.a.end),
+        tell::part_of(&list, r.b.from..r.b.end),
         r.size.width,
         r.size.height,
         r.a.stride,
@@ -21,8 +21,8 @@ fn ask8(r: Row, kernel: &[u16], scratch: &mut [i64]) -> Ssim {
 fn ask16(r: Row, kernel: &[u16], scratch: &mut [i64]) -> Ssim {
     let list = table::WORDS;
     ssim::ssim16(
-        tell::part_of(&list, r.a.from, r.a.end),
-        tell::part_of(&list, r.b.from, r.b.end),
+        tell::part_of(&list, r.a.from..r.a.end),
+        tell::part_of(&list, r.b.from..r.b.end),
         r.size.width,
         r.size.height,
         r.a.stride,
@@ -36,7 +36,7 @@ fn ask16(r: Row, kernel: &[u16], scratch: &mut [i64]) -> Ssim {
 fn ask(r: Row) -> Ssim {
     let [from, end, places] = r.told;
     let taps = table::TAPS;
-    let kernel = tell::part_of(&taps, from, end);
+    let kernel = tell::part_of(&taps, from..end);
     let mut room = [0i64; 512];
     let scratch = room.get_mut(..places).unwrap_or(&mut []);
     if r.size.wide {

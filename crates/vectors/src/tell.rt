@@ -1,6 +1,7 @@
 // What the replays share: the line that each prints, parts of what is lent, and numbers compared.
 use crate::table;
 use std::io;
+use std::ops::Range;
 
 // How many of `rows` give their answer.
 pub fn replay<T, F: Fn(&T) -> bool>(
@@ -22,8 +23,8 @@ pub fn held(rt: &impl Print, name: &str, list: &[bool]) -> io::Result<()> {
 }
 
 // A part of what is lent, and nothing where it is not there.
-pub fn part_of<T>(list: &[T], from: usize, end: usize) -> &[T] {
-    list.get(from..end).unwrap_or(&[])
+pub fn part_of<T>(list: &[T], places: Range<usize>) -> &[T] {
+    list.get(places).unwrap_or(&[])
 }
 
 // Whether two numbers are one, zeros of unlike sign told apart.
