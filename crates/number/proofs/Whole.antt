@@ -1,5 +1,6 @@
 -- Whole numbers: the whole root and the nearest one meet their tests, and nothing else does. Assumes nothing.
-use Rattle.std.proofs.Common.{◌≡◌, ℕ, zero, suc, ◌+◌, ◌-◌, ◌*◌, ◌/◌, ◌%◌, ◌^◌, ◌<◌, ◌≤◌, Bool, true, false, cond, ◌&&◌, ltb, leb, refl, ap, ◌∙◌, add_assoc, mul_assoc, mul_comm, add-mul, mul-le-mul, add_comm, le_antisymm, pow-suc, mul-add, mul_left_comm, arith, ltb-true, le-ltb, lt-ltb, le-leb}
+use Rattle.std.proofs.Common.{◌≡◌, ℕ, zero, suc, ◌+◌, ◌-◌, ◌*◌, ◌/◌, ◌%◌, ◌^◌, ◌<◌, ◌≤◌, Bool, true, false, cond, ◌&&◌, ltb, leb, refl, ap, ◌∙◌, add_assoc, mul_assoc}
+use Rattle.std.proofs.Common.{mul_comm, add-mul, mul-le-mul, add_comm, le_antisymm, pow-suc, mul-add, mul_left_comm, arith, ltb-true, le-ltb, lt-ltb, le-leb}
 use native.Mathlib.Nat.{add_left_comm, mul-lt-mul_of_pos_left}
 use native.Mathlib.Decide.{dec_lt, dec_le}
 use borrow.Author.Tests.{lt-leb}

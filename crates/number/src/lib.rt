@@ -21,7 +21,7 @@ pub const EXACT_LIMIT: u64 = 0x20_0000_0000_0000;
 pub const EXACT_LIMIT_DOUBLE: f64 = 9007199254740992.0;
 
 // What asking for a root answers.
-#[derive(Clone, Copy)]
+#[derive(Clone, Copy, Debug, PartialEq)]
 pub enum Rooted {
     Root(f64),
     Refused(u8),
@@ -54,6 +54,7 @@ pub fn root(x: f64) -> Rooted
 
 // The root of the number whose digits are m, the leading one first, and whose exponent's field is w - 1021. Half of the field's
 // distance goes into the root's field, and an odd one leaves a factor of two with m.
+#[tactic(auto, using(crate::proofs::Doubles::no_nan))]
 fn scaled_root(m: u64, w: u64) -> f64
     requires { (2 ^ 52 ≤ m) × (m < 2 ^ 53) × (w < 3072) }
     ensures { result ≡ units binary64 false (nearest_root 53 (m * 2 ^ (52 + w % 2))) (w / 2) }

@@ -35,6 +35,7 @@ fn is_nearest(n: u64, s: u64) -> bool
 }
 
 // The neighbour of s on the side of the root of n * 2^52, or s where that is nearest. There is no branch to foresee.
+#[tactic(auto, using(crate::proofs::Words::bit_small))]
 fn nearer(n: u64, s: u64) -> u64
     requires { (n < 2 ^ 54) × (0 < s) × (s < 2 ^ 53) }
     ensures { (s ≤ result + 1) × (result ≤ s + 1) }
@@ -44,13 +45,14 @@ fn nearer(n: u64, s: u64) -> u64
 }
 
 // What stands above the low 52 digits of s * s - s + 2^53 and of s * s + s.
-#[derive(Clone, Copy)]
+#[derive(Clone, Copy, Debug, PartialEq, Eq)]
 struct Ends {
     below: u64,
     above: u64,
 }
 
 // The square is put together from halves of 26 digits: the upper half's own, twice the cross product, and the lower half's.
+#[tactic(auto, using(crate::proofs::Squares::parts_small))]
 fn ends_of(s: u64) -> Ends
     requires { s ≤ 2 ^ 53 }
     ensures { (result.below ≡ (s * s + (2 ^ 53 - s)) / 2 ^ 52) × (result.above ≡ (s * s + s) / 2 ^ 52) }
@@ -68,6 +70,7 @@ fn ends_of(s: u64) -> Ends
 
 // A quick guess at the root of m * 2^(52 + odd): the root of m * 2^(odd - 52), from 1 up to 4, in doubles, by Newton's steps on
 // its inverse from a first guess that halves the exponent. Nothing is promised but its 53 digits.
+#[tactic(auto, using(crate::proofs::Doubles::no_nan))]
 fn guess(m: u64, odd: u64) -> u64
     requires { (2 ^ 52 ≤ m) × (m < 2 ^ 53) × (odd < 2) }
     ensures { (2 ^ 52 ≤ result) × (result < 2 ^ 53) }
@@ -115,6 +118,7 @@ fn whole_root(n: Wide) -> u64
     requires { value_of n < 4 ^ 53 }
     ensures { result ≡ whole_root 53 (value_of n) }
 {
+    // by halving: a `while`, since the library's search by halves looks in a slice
     let mut low: u64 = 0;
     let mut high: u64 = EXACT_LIMIT;
     while low + 1 < high {
