@@ -2,7 +2,7 @@
 // samples come as two slices, bytes and words: `wide` says which is the plane, and the other is not read.
 #![tactic(auto)]
 
-ghost use Rattle.std.specs.Prelude.{◌≡◌, true, false, [], ◌∷◌, ◌+◌, ◌*◌, ◌<◌, ◌≤◌, length};
+ghost use Rattle.std.specs.Prelude.{◌≡◌, ℕ, true, false, [], ◌∷◌, ◌+◌, ◌*◌, ◌<◌, ◌≤◌, length, map, leb};
 ghost use Rattle.refusal.specs.First.{first_broken};
 ghost use Rattle.plane.specs.Limits.{most_depth};
 ghost use Rattle.plane.specs.Plane.{called, max_of, at, all_to};
@@ -21,7 +21,7 @@ pub const STRIDE_LIMIT: usize = 32768;
 pub const DEPTH_LIMIT: u32 = 12;
 
 // What two planes share: whether their samples are words, their sides in samples, and their depth.
-#[derive(Clone, Copy)]
+#[derive(Clone, Copy, Debug, PartialEq, Eq)]
 pub struct Size {
     pub wide: bool,
     pub width: usize,
@@ -30,7 +30,7 @@ pub struct Size {
 }
 
 // Two planes as they are lent: what they share, and the stride of each.
-#[derive(Clone, Copy)]
+#[derive(Clone, Copy, Debug, PartialEq, Eq)]
 pub struct Layout {
     pub size: Size,
     pub stride_a: usize,
@@ -81,7 +81,7 @@ pub fn stride_suits(width: usize, stride: usize) -> bool
 }
 
 // The sample at place `i`.
-pub fn sample(bytes: &[u8], words: &[u16], wide: bool, i: usize) -> u32
+pub fn sample_of(bytes: &[u8], words: &[u16], wide: bool, i: usize) -> u32
     requires { i < length (samples_of wide bytes.now words.now) }
     ensures { result ≡ at (samples_of wide bytes.now words.now) i }
 {
@@ -113,23 +113,62 @@ pub fn long_enough(bytes: &[u8], words: &[u16], size: Size, stride: usize) -> bo
     height <= (n - width) / stride + 1
 }
 
-// Whether no sample of a row is above `max`. A row is walked to its end, whatever it holds: such a loop is vectorised.
-pub fn row_suits8(row: &[u8], max: u8) -> bool
-    ensures { result ≡ none_above max (at row.now) (length row.now) }
-{
-    let mut ok = true;
-    for x in 0..row.len() {
-        ok = ok & (row[x] <= max);
-    }
-    ok
+// A sample: a byte or a word of a plane, or a 32-bit place of a scale.
+pub trait Sample: Copy {
+    // The number that it is.
+    ghost value: { Self → ℕ };
+
+    fn value(self) -> u32
+        ensures { result ≡ value self };
+
+    fn is_at_most(self, max: Self) -> bool
+        ensures { result ≡ leb (value self) (value max) };
 }
 
-fn row_suits16(row: &[u16], max: u16) -> bool
-    ensures { result ≡ none_above max (at row.now) (length row.now) }
+impl Sample for u8 {
+    ghost value = { λ x. x };
+
+    fn value(self) -> u32 {
+        self as u32
+    }
+
+    fn is_at_most(self, max: u8) -> bool {
+        self <= max
+    }
+}
+
+impl Sample for u16 {
+    ghost value = { λ x. x };
+
+    fn value(self) -> u32 {
+        self as u32
+    }
+
+    fn is_at_most(self, max: u16) -> bool {
+        self <= max
+    }
+}
+
+impl Sample for u32 {
+    ghost value = { λ x. x };
+
+    fn value(self) -> u32 {
+        self
+    }
+
+    fn is_at_most(self, max: u32) -> bool {
+        self <= max
+    }
+}
+
+// Whether no sample of a row is above `max`. A row is walked to its end, whatever it holds: such a loop is vectorised.
+#[tactic(auto, using(crate::proofs::All::none_none, crate::proofs::All::none_more, crate::proofs::All::at_value))]
+pub fn none_above<S: Sample>(row: &[S], max: S) -> bool
+    ensures { result ≡ none_above (S.value max) (at (map S.value row.now)) (length row.now) }
 {
     let mut ok = true;
-    for x in 0..row.len() {
-        ok = ok & (row[x] <= max);
+    for &x in row {
+        ok = ok & x.is_at_most(max);
     }
     ok
 }
@@ -144,13 +183,13 @@ fn row_suits(bytes: &[u8], words: &[u16], size: Size, stride: usize, y: usize, m
     let start = y * stride;
     let end = start + width;
     if size.wide {
-        row_suits16(&words[start..end], max as u16)
+        none_above(&words[start..end], max as u16)
     } else {
-        row_suits8(&bytes[start..end], max as u8)
+        none_above(&bytes[start..end], max as u8)
     }
 }
 
-// The same of every row. What stands between rows is never read.
+// The same of every row, by its number: what stands between rows is never read.
 fn rows_suit(bytes: &[u8], words: &[u16], size: Size, stride: usize, max: u32) -> bool
     requires long { Long size (lent size bytes words stride) }
     requires max_bound { max ≤ max_of (most_depth size.wide) }
