@@ -1,17 +1,17 @@
 -- `number::root` meets its contract. Assumes nothing.
+use Rattle.std.specs.Prelude.{Ok, Err}
 use Rattle.std.proofs.Common.{◌≡◌, ℕ, ◌+◌, ◌-◌, ◌*◌, ◌/◌, ◌%◌, ◌^◌, ◌<◌, true, false, not, T, sym, refl, ap, ◌∙◌, subst, arith}
 use borrow.Author.Tests.{not-true, not-false}
 use lib.Count.{count_leading_zeros}
 use lib.Ieee.{Float, nan, inf, fin, binary64, fits, is_nan, to_bits, of_bits, units}
 use lib.Ieee.Bits.{of_bits-to_bits}
 use lib.Ieee.Scale as Scale
-use Rattle.refusal.specs.Numbers.{value_no}
-use Rattle.number.specs.declared.Rooted.TheVariants.{Root, Refused}
+use Rattle.refusal.specs.declared.Refusal.TheVariants as no
 use Rattle.number.specs.Root.{nearest_root, root_of}
 use Rattle.number.proofs.Doubles.{Lifted, lifted, small_root, normal_root, read_refused}
 use Rattle.number.proofs.root.Goals as goal
 
-not_finite : (x : Float) → Scale.finite x ≡ false → Refused value_no ≡ root_of x
+not_finite : (x : Float) → Scale.finite x ≡ false → Err no.Value ≡ root_of x
 unfolding root_of
 not_finite nan e = refl
 not_finite (inf s) e = refl
@@ -23,7 +23,7 @@ a_number nan e = let z : ◌≡◌ {A = ℕ} 0 1 = cc in absurd (omega arith)
 a_number (inf s) e = tt
 a_number (fin s m k) e = tt
 
-zero-root : root_of (of_bits binary64 0) ≡ Root (of_bits binary64 0)
+zero-root : root_of (of_bits binary64 0) ≡ Ok (of_bits binary64 0)
 unfolding root_of of_bits
 zero-root = refl
 
@@ -75,7 +75,7 @@ returns-then-field-eq0 c =
     let lift = below_leading (to_bits binary64 c.args.x) (omega arith) (omega arith) in
     let d = to_bits binary64 c.args.x % 2 ^ 52 in
     let u = count_leading_zeros 64 d - 11 in
-    ap Root (c.scaled_root.ensures ∙ ap (λ (x : ℕ). units binary64 false (nearest_root 53 (x * 2 ^ (52 + (1022 - u) % 2))) ((1022 - u) / 2)) lift.exact)
+    ap Ok (c.scaled_root.ensures ∙ ap (λ (x : ℕ). units binary64 false (nearest_root 53 (x * 2 ^ (52 + (1022 - u) % 2))) ((1022 - u) / 2)) lift.exact)
     ∙ sym (small_root d (omega arith) (omega arith))
     ∙ by_bits c.args.x (subst T (sym c.well_formed.0.1) tt) d (omega arith)
 
@@ -88,7 +88,7 @@ returns-then-field-lt2047 c =
     let k = bits / 2 ^ 52 - 1 in
     let t = bits % 2 ^ 52 in
     let w : bits / 2 ^ 52 + 1021 ≡ k + 1022 = omega arith in
-    ap Root (c.scaled_root-then-field-lt2047.ensures ∙ ap (λ (x : ℕ). units binary64 false (nearest_root 53 ((2 ^ 52 + t) * 2 ^ (52 + x % 2))) (x / 2)) w)
+    ap Ok (c.scaled_root-then-field-lt2047.ensures ∙ ap (λ (x : ℕ). units binary64 false (nearest_root 53 ((2 ^ 52 + t) * 2 ^ (52 + x % 2))) (x / 2)) w)
     ∙ sym (normal_root k t (omega arith) (omega arith))
     ∙ by_bits c.args.x (subst T (sym c.well_formed.0.1) tt) ((k + 1) * 2 ^ 52 + t) (omega arith)
 
