@@ -29,7 +29,7 @@ pub fn root(x: f64) -> Result<f64, Refusal>
     if !finite(x) {
         return Err(Refusal::Value);
     }
-    let bits = f64::to_bits(x);
+    let bits = x.to_bits();
     if bits == 0 {
         return Ok(0.0);
     }
@@ -37,7 +37,7 @@ pub fn root(x: f64) -> Result<f64, Refusal>
     let digits = bits % LEADING;
     if field == 0 {
         // no leading digit is meant: the digits are moved up until there is one
-        let up = (u64::leading_zeros(digits) as u64) - 11;
+        let up = digits.leading_zeros() as u64 - 11;
         return Ok(scaled_root(digits << up, 1022 - up));
     }
     if field < 2047 {
@@ -81,6 +81,5 @@ pub fn double(n: u64) -> f64
 pub fn finite(x: f64) -> bool
     ensures { result ≡ Scale.finite x }
 {
-    let infinity = 1.0 / 0.0;
-    x < infinity && -infinity < x
+    x.is_finite()
 }

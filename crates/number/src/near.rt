@@ -1,10 +1,8 @@
 // The whole number nearest a root, in whole numbers of two words.
 ghost use Rattle.std.specs.Prelude.{◌≡◌, ◌+◌, ◌-◌, ◌*◌, ◌/◌, ◌^◌, ◌<◌, ◌≤◌};
-ghost use Rattle.number.specs.Root.{is_nearest, nearest_root, whole_root};
-ghost use Rattle.number.specs.Inner.Wide.{value_of};
+ghost use Rattle.number.specs.Root.{is_nearest, nearest_root};
 
-use crate::wide::Wide;
-use crate::{EXACT_LIMIT, LEADING, wide};
+use crate::{EXACT_LIMIT, LEADING};
 
 // The whole number nearest the root of m * 2^(52 + odd), which has 53 digits. Only what passes the test is answered: the guess, or,
 // since that is one off for about one number in seven, its neighbour on the root's side; should both fail, the root is searched for.
@@ -21,7 +19,7 @@ pub fn nearest(m: u64, odd: u64) -> u64
     if is_nearest(n, t) {
         return t;
     }
-    searched(wide::product(n, LEADING))
+    searched(u128::from(n) * u128::from(LEADING))
 }
 
 // Whether s is the whole number nearest the root of n * 2^52: s * s - s < n * 2^52 <= s * s + s. Of n * 2^52 the low 52 digits are 0,
@@ -41,7 +39,7 @@ fn nearer(n: u64, s: u64) -> u64
     ensures { (s ≤ result + 1) × (result ≤ s + 1) }
 {
     let e = ends_of(s);
-    s + ((e.above < n) as u64) - ((n + 2 <= e.below) as u64)
+    s + (u64::from(e.above < n)) - u64::from(n + 2 <= e.below)
 }
 
 // What stands above the low 52 digits of s * s - s + 2^53 and of s * s + s.
@@ -94,40 +92,21 @@ fn digits_of(s: f64) -> u64
     ensures { (2 ^ 52 ≤ result) × (result < 2 ^ 53) }
 {
     if 1.0 <= s && s < 2.0 {
-        f64::to_bits(s) % LEADING + LEADING
+        s.to_bits() % LEADING + LEADING
     } else {
         LEADING
     }
 }
 
-// The whole number nearest the root of n, by search.
-fn searched(n: Wide) -> u64
-    requires { value_of n < 4 ^ 53 }
-    ensures { result ≡ nearest_root 53 (value_of n) }
+// The whole number nearest the root of n: the last one whose square is at most n, or the next one up.
+fn searched(n: u128) -> u64
+    requires { n < 4 ^ 53 }
+    ensures { result ≡ nearest_root 53 n }
 {
-    let s = whole_root(n);
-    if wide::less(wide::product(s, s + 1), n) {
-        s + 1
+    let s = n.isqrt();
+    if s * (s + 1) < n {
+        (s + 1) as u64
     } else {
-        s
+        s as u64
     }
-}
-
-// The largest whole number whose square is at most n: halves the range in which it lies.
-fn whole_root(n: Wide) -> u64
-    requires { value_of n < 4 ^ 53 }
-    ensures { result ≡ whole_root 53 (value_of n) }
-{
-    // by halving: a `while`, since the library's search by halves looks in a slice
-    let mut low: u64 = 0;
-    let mut high: u64 = EXACT_LIMIT;
-    while low + 1 < high {
-        let mid = (low + high) / 2;
-        if wide::less(n, wide::product(mid, mid)) {
-            high = mid;
-        } else {
-            low = mid;
-        }
-    }
-    low
 }

@@ -1,5 +1,5 @@
 -- `number::near::nearest` meets its contract. Assumes nothing.
-use Rattle.std.proofs.Common.{◌≡◌, ℕ, ◌+◌, ◌*◌, ◌%◌, ◌^◌, ◌<◌, ◌≤◌, true, sym, ap, ◌∙◌, arith}
+use Rattle.std.proofs.Common.{◌≡◌, ℕ, ◌+◌, ◌*◌, ◌%◌, ◌^◌, ◌<◌, ◌≤◌, true, sym, ap, ◌∙◌, ap₂, arith}
 use Rattle.number.specs.Root.{is_nearest, nearest_root}
 use Rattle.number.proofs.Whole.{Digits, Scaled, shifted, moved_up, scaled_lt, passed, defined}
 use Rattle.number.proofs.near.nearest.Goals as goal
@@ -14,6 +14,9 @@ module _ (m odd : ℕ) (given : (2 ^ 52 ≤ m) × (m < 2 ^ 53) × (odd < 2)) whe
 
   moved : (m * 2 ^ odd % 2 ^ 64 < 2 ^ 54) × (m * 2 ^ odd % 2 ^ 64 * 2 ^ 52 ≡ m * 2 ^ (52 + odd))
   moved = moved_up m odd digits
+
+  product : {a b : ℕ} → a ≡ m * 2 ^ odd % 2 ^ 64 → b ≡ 2 ^ 52 → a * b ≡ m * 2 ^ (52 + odd)
+  product p q = ap₂ (λ (x y : ℕ). x * y) p q ∙ moved.1
 
   -- what passes the test is the answer
   tested : (s : ℕ) → 0 < s → is_nearest (m * 2 ^ odd % 2 ^ 64 * 2 ^ 52) s ≡ true
@@ -39,10 +42,10 @@ returns-then-is_nearest-2 c =
 
 pub searched-requires : goal.searched-requires
 searched-requires c =
-    rw (c.product.ensures ∙ (moved c.args.m c.args.odd c.requires).1) (scaled_lt _ (scaled c.args.m c.args.odd c.requires))
+    rw (product c.args.m c.args.odd c.requires c.from.ensures c.from-2.ensures) (scaled_lt _ (scaled c.args.m c.args.odd c.requires))
 
 pub returns : goal.returns
 returns c =
     let d = defined _ (scaled c.args.m c.args.odd c.requires) in
-    let e = c.searched.ensures ∙ ap (nearest_root 53) (c.product.ensures ∙ (moved c.args.m c.args.odd c.requires).1) in
+    let e = c.searched.ensures ∙ ap (nearest_root 53) (product c.args.m c.args.odd c.requires c.from.ensures c.from-2.ensures) in
     (e, rw e d.from, rw e d.upto)
