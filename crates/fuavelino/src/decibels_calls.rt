@@ -1,29 +1,35 @@
 // PSNR in whole hundredths of a decibel. The places lent are written where the answer is 0, and as they were otherwise.
 ghost use Rattle.std.specs.Prelude.{◌≡◌};
+ghost use Rattle.refusal.specs.First.{answer_number};
 ghost use Rattle.decibels.specs.Answer.{total_decibels, series_decibels};
-ghost use Rattle.fuavelino.specs.Decibels.{decibels_number, hundredths_written, identical_written};
+ghost use Rattle.fuavelino.specs.Decibels.{hundredths_written, identical_written};
 
 use decibels::Decibels;
 use psnr::{Record, Total};
+use refusal::Refusal;
 
 // Writes the hundredths, and whether they stand for "identical", where there are any.
-fn put_decibels(answer: Decibels, hundredths: &mut u32, identical: &mut u8) -> u8
-    ensures { (result ≡ decibels_number answer)
+fn put_decibels(
+    answer: Result<Decibels, Refusal>,
+    hundredths: &mut u32,
+    identical: &mut u8,
+) -> u8
+    ensures { (result ≡ answer_number answer)
         × (hundredths.new ≡ hundredths_written answer hundredths.old)
         × (identical.new ≡ identical_written answer identical.old) }
 {
     match answer {
-        Decibels::Hundredths(d) => {
+        Ok(Decibels::Hundredths(d)) => {
             *hundredths = d;
             *identical = 0;
             0
         }
-        Decibels::Identical => {
+        Ok(Decibels::Identical) => {
             *hundredths = decibels::IDENTICAL;
             *identical = 1;
             0
         }
-        Decibels::Refused(k) => k,
+        Err(no) => no.number(),
     }
 }
 
@@ -34,7 +40,7 @@ pub extern "C" fn fuavelino_decibels(
     hundredths: &mut u32,
     identical: &mut u8,
 ) -> u8
-    ensures { (result ≡ decibels_number (series_decibels records.now))
+    ensures { (result ≡ answer_number (series_decibels records.now))
         × (hundredths.new ≡ hundredths_written (series_decibels records.now) hundredths.old)
         × (identical.new ≡ identical_written (series_decibels records.now) identical.old) }
 {
@@ -51,7 +57,7 @@ pub extern "C" fn fuavelino_total_decibels(
     hundredths: &mut u32,
     identical: &mut u8,
 ) -> u8
-    ensures { (result ≡ decibels_number (total_decibels (record { sq_err = sq_err; n = n; sample_max = sample_max })))
+    ensures { (result ≡ answer_number (total_decibels (record { sq_err = sq_err; n = n; sample_max = sample_max })))
         × (hundredths.new ≡ hundredths_written
         (total_decibels (record { sq_err = sq_err; n = n; sample_max = sample_max })) hundredths.old)
         × (identical.new ≡ identical_written
