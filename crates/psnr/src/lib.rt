@@ -21,7 +21,7 @@ pub const TOTAL_LIMIT: u64 = number::EXACT_LIMIT;
 
 // What a comparison of two planes leaves, and whose they are. The error is a whole number, and exact.
 #[repr(C)]
-#[derive(Clone, Copy)]
+#[derive(Clone, Copy, Debug, PartialEq)]
 pub struct Record {
     pub sq_err: f64,
     pub n: u64,
@@ -31,7 +31,7 @@ pub struct Record {
 }
 
 // What asking for a squared error answers. Identical says "identical, 100" beside its record.
-#[derive(Clone, Copy)]
+#[derive(Clone, Copy, Debug, PartialEq)]
 pub enum SquaredError {
     Differs(Record),
     Identical(Record),
@@ -39,7 +39,7 @@ pub enum SquaredError {
 }
 
 // The errors and counts of a series, under its one max.
-#[derive(Clone, Copy)]
+#[derive(Clone, Copy, Debug, PartialEq)]
 pub struct Total {
     pub sq_err: f64,
     pub n: u64,
@@ -47,7 +47,7 @@ pub struct Total {
 }
 
 // What a series answers. Identical says "identical, 100" beside its total.
-#[derive(Clone, Copy)]
+#[derive(Clone, Copy, Debug, PartialEq)]
 pub enum Summed {
     Differs(Total),
     Identical(Total),
@@ -56,7 +56,7 @@ pub enum Summed {
 
 // A series so far, in whole numbers: how many records, what they add up to, and the last one's frame and plane. An error above
 // TOTAL_LIMIT is kept as one above it.
-#[derive(Clone, Copy)]
+#[derive(Clone, Copy, Debug, PartialEq, Eq)]
 pub struct Tally {
     pub records: u64,
     pub error: u64,
@@ -67,7 +67,7 @@ pub struct Tally {
 }
 
 // No record yet; sound ones only; or one among them that is bad, out of order or too many.
-#[derive(Clone, Copy)]
+#[derive(Clone, Copy, Debug, PartialEq, Eq)]
 pub enum Run {
     Empty,
     Sound(Tally),
@@ -261,12 +261,6 @@ pub fn finish(s: Run) -> Summed
 pub fn series(records: &[Record]) -> Summed
     ensures { result ≡ series_of records.now }
 {
-    let mut a = start();
-    let mut i = 0;
-    while i < records.len() {
-        let r = records[i];
-        a = step(a, r);
-        i += 1;
-    }
-    finish(a)
+    let run = records.iter().copied().fold(start(), step);
+    finish(run)
 }

@@ -10,7 +10,7 @@ ghost use Rattle.psnr.specs.Inner.Walk.{pair_suits, row_walked, walked_at, walke
 use plane::Layout;
 
 // What a walk over samples finds: the sum of their squared differences, or that one of them is above sample_max.
-#[derive(Clone, Copy)]
+#[derive(Clone, Copy, Debug, PartialEq, Eq)]
 pub enum Walked {
     Sum(u64),
     Above,
@@ -21,16 +21,16 @@ pub enum Walked {
 pub fn square8(a: u8, b: u8) -> u32
     ensures { (result ≡ square_of a b) × (result ≤ word_most) }
 {
-    let d = if a < b { b - a } else { a - b };
-    (d as u32) * (d as u32)
+    let d = u32::from(a.abs_diff(b));
+    d * d
 }
 
 #[tactic(auto, unfolding(crate::specs::Squared::square_of))]
 pub fn square16(a: u16, b: u16) -> u32
     ensures { (result ≡ square_of a b) × (result ≤ word_most * word_most) }
 {
-    let d = if a < b { b - a } else { a - b };
-    (d as u32) * (d as u32)
+    let d = u32::from(a.abs_diff(b));
+    d * d
 }
 
 // ---- bytes
@@ -45,9 +45,9 @@ fn part8(a: &[u8], b: &[u8]) -> u32
     ensures value { result ≡ squares_in a.now b.now (length a.now) }
     ensures upper_bound { result ≤ length a.now * word_most }
 {
-    let mut sum: u32 = 0;
-    for x in 0..a.len() {
-        sum += square8(a[x], b[x]);
+    let mut sum = 0;
+    for (p, q) in a.iter().zip(b) {
+        sum += square8(*p, *q);
     }
     sum
 }
@@ -104,13 +104,6 @@ fn part_length(depth: u32) -> usize
     1usize << (32 - 2 * depth)
 }
 
-// Of two places the nearer.
-fn least(a: usize, b: usize) -> usize
-    ensures { result ≡ min a b }
-{
-    if a < b { a } else { b }
-}
-
 // Of two parts of rows of words: the sum, modulo 2^32, and every bit that is in some sample.
 #[derive(Clone, Copy)]
 struct Part {
@@ -125,13 +118,11 @@ fn part16(a: &[u16], b: &[u16]) -> Part
     ensures sum_value { result.sum ≡ squares_in a.now b.now (length a.now) % 2 ^ 32 }
     ensures bits_value { result.bits ≡ bits_in a.now b.now (length a.now) }
 {
-    let mut sum: u32 = 0;
-    let mut bits: u16 = 0;
-    for x in 0..a.len() {
-        let p = a[x];
-        let q = b[x];
-        sum = std::num::wrapping_add_u32(sum, square16(p, q));
-        bits = bits | (p | q);
+    let mut sum = 0u32;
+    let mut bits = 0u16;
+    for (p, q) in a.iter().zip(b) {
+        sum = sum.wrapping_add(square16(*p, *q));
+        bits |= *p | *q;
     }
     Part { sum, bits }
 }
@@ -147,7 +138,7 @@ fn row16(a: &[u16], b: &[u16], depth: u32) -> Walked
     let mut sum: u64 = 0;
     let mut x: usize = 0;
     while x < a.len() {
-        let end = least(x + part, a.len());
+        let end = a.len().min(x + part);
         let found = part16(&a[x..end], &b[x..end]);
         if (found.bits as u32) > max {
             return Walked::Above;

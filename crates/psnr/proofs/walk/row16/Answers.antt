@@ -22,9 +22,9 @@ overflow_add-x c = omega (arith, part_some c.args.depth, c.part_length-part.ensu
 pub returns-then-found-max : goal.returns-then-found-max
 unfolding row_walked
 returns-then-found-max c =
-    let ends : (c.loop-x.x ≤ c.least-end.result) × (c.least-end.result ≤ length c.args.a.now) = (omega (arith, c.least-end.ensures, c.loop-x.invariant.0), omega (arith, c.least-end.ensures)) in
+    let ends : (c.loop-x.x ≤ c.min-end.result) × (c.min-end.result ≤ length c.args.a.now) = (omega (arith, c.min-end.ensures, c.loop-x.invariant.0), omega (arith, c.min-end.ensures)) in
     let from = c.loop-x.x in
-    found_above _ _ (cut_breaks c.args.depth c.args.a.now c.args.b.now from c.least-end.result ends.0 ends.1
+    found_above _ _ (cut_breaks c.args.depth c.args.a.now c.args.b.now from c.min-end.result ends.0 ends.1
     (omega (arith, c.part16-found.ensures.bits_value, c.sample_max-max.ensures)))
 
 pub overflow_add-sum : goal.overflow_add-sum
@@ -33,19 +33,19 @@ overflow_add-sum c = let small : c.loop-x.x ≤ side_limit = omega (arith, c.loo
     omega (arith, c.loop-x.invariant.1, room)
 
 pub loop-x-smaller : goal.loop-x-smaller
-loop-x-smaller c = omega (arith, c.least-end.ensures, part_some c.args.depth, c.part_length-part.ensures)
+loop-x-smaller c = omega (arith, c.min-end.ensures, part_some c.args.depth, c.part_length-part.ensures)
 
 pub loop-x-preserved : goal.loop-x-preserved
 loop-x-preserved c =
-    let ends : (c.loop-x.x ≤ c.least-end.result) × (c.least-end.result ≤ length c.args.a.now) = (omega (arith, c.least-end.ensures, c.loop-x.invariant.0), omega (arith, c.least-end.ensures)) in
-    let short : c.least-end.result - c.loop-x.x ≤ part_length c.args.depth = omega (arith, c.least-end.ensures, c.part_length-part.ensures) in
-    let first = cut c.args.a.now c.loop-x.x c.least-end.result in
-    let second = cut c.args.b.now c.loop-x.x c.least-end.result in
+    let ends : (c.loop-x.x ≤ c.min-end.result) × (c.min-end.result ≤ length c.args.a.now) = (omega (arith, c.min-end.ensures, c.loop-x.invariant.0), omega (arith, c.min-end.ensures)) in
+    let short : c.min-end.result - c.loop-x.x ≤ part_length c.args.depth = omega (arith, c.min-end.ensures, c.part_length-part.ensures) in
+    let first = cut c.args.a.now c.loop-x.x c.min-end.result in
+    let second = cut c.args.b.now c.loop-x.x c.min-end.result in
     let bits : bits_in first second (length first) ≤ max_of c.args.depth = omega (arith, c.part16-found.ensures.bits_value, c.sample_max-max.ensures) in
     let e = ends in
     let half = depth_half c.requires.2 in
-    let whole = cut_whole c.args.depth _ c.args.b.now c.loop-x.x c.least-end.result e.0 e.1 half short bits in (
+    let whole = cut_whole c.args.depth _ c.args.b.now c.loop-x.x c.min-end.result e.0 e.1 half short bits in (
       e.1,
       in_cut _ _ c.loop-x.x _ e.0 e.1 c.loop-x.invariant.1 (c.part16-found.ensures.sum_value ∙ whole),
-      cut_suits c.args.depth _ _ c.loop-x.x c.least-end.result e.0 e.1 c.loop-x.invariant.2 bits,
+      cut_suits c.args.depth _ _ c.loop-x.x c.min-end.result e.0 e.1 c.loop-x.invariant.2 bits,
     )
