@@ -1,6 +1,7 @@
 -- The walk over a run of records gives the answer that Series.antt defines (`series_is`), and it does not matter where a run is cut in
 -- two (`fold_cut`). Assumes nothing.
 use Rattle.std.proofs.Common.{◌≡◌, ℕ, ◌+◌, ◌*◌, ◌≤◌, min, Bool, true, false, ◌&&◌, ltb, leb, List, [], ◌∷◌, ◌++◌, length, sym, refl, ap, ◌∙◌, ap₂, le_trans, mul-le-mul_right, arith, ltb-false, ltb-true, ne_eqb, le-leb, leb-true}
+use Rattle.std.proofs.lemmas.List.Sums.{fold-append}
 use mathlib.Core.Bool.{and-false}
 use native.Mathlib.Decide.{dec_le}
 use borrow.Author.Tests.{lt-leb}
@@ -19,9 +20,7 @@ use Rattle.psnr.proofs.Records.{joins_suits, suits_count}
 
 -- ---- a run cut in two: the second part goes on from what the first left
 pub fold_cut : (s : Run) (xs ys : List Record) → run_from s (xs ++ ys) ≡ run_from (run_from s xs) ys
-unfolding run_from
-fold_cut s [] ys = refl
-fold_cut s (x ∷ xs) ys = fold_cut (run_step s x) xs ys
+fold_cut s xs ys = fold-append run_step s xs ys
 
 pub error_cut : (xs ys : List Record) → error_total (xs ++ ys) ≡ error_total xs + error_total ys
 unfolding error_total
@@ -35,7 +34,7 @@ count_cut (x ∷ xs) ys = omega (arith, count_cut xs ys)
 
 -- ---- what is spoiled stays so
 fold_spoiled : (rs : List Record) → run_from Spoiled rs ≡ Spoiled
-unfolding run_from run_step
+unfolding run_step
 fold_spoiled [] = refl
 fold_spoiled (r ∷ rs) = fold_spoiled rs
 
@@ -95,7 +94,7 @@ goes_next s r (t ∷ ts) = rw (ne_eqb (s.records + 1) 0 (λ z. omega arith))
 -- the run is sound while no record is bad, none too many, and each comes after the one before it
 fold_is : (rs : List Record) (s : Tally) → Capped s
     → run_from (Sound s) rs ≡ run_if (leb (s.records + length rs) record_limit && all_join s.sample_max rs && goes_on s rs) (tally_all s rs)
-unfolding run_from run_step run_with all_join goes_on
+unfolding run_step run_with all_join goes_on
 fold_is [] s h = rw (le-leb (s.records + 0) record_limit (omega (arith, h.few))) (ap Sound (sym (tally_all_none s h)))
 fold_is (r ∷ rs) s h =
     go (fold_is rs (tally_more s r)) (ltb s.records record_limit) refl (joins s.sample_max r) refl (rises s r)
@@ -174,6 +173,6 @@ module _ (r : Record) (rs : List Record) where
 
 -- the walk gives the answer of the definition, of every run
 pub series_is : (rs : List Record) → run_finish (run_from run_start rs) ≡ series_of rs
-unfolding run_finish run_from run_step series_of run_suits
+unfolding run_finish run_step series_of run_suits
 series_is [] = refl
 series_is (r ∷ rs) = ap run_finish (fold_is (r ∷ rs) (tally_none r.sample_max) (capped_none r.sample_max)) ∙ ended r rs _ refl

@@ -1,7 +1,9 @@
 -- Laws of the sums and bits of two rows, of their parts, and of what a walk over them finds. Assumes nothing.
-use Rattle.std.proofs.Common.{◌≡◌, ℕ, zero, suc, ◌+◌, ◌-◌, ◌*◌, ◌%◌, ◌^◌, ◌<◌, ◌≤◌, Bool, true, false, List, length, sym, refl, ap, ◌∙◌, subst, ap₂, le_refl}
+use Rattle.std.proofs.Common.{◌≡◌, ℕ, zero, suc, ◌+◌, ◌-◌, ◌*◌, ◌%◌, ◌^◌, ◌<◌, ◌≤◌, Bool, true, false, List, [], length, get_or, take, drop, sym, refl, ap, ◌∙◌, subst, ap₂, le_refl}
 use Rattle.std.proofs.Common.{lt_of_le_of_lt, mul-le-mul_right, mod-eq_of_lt, mul-le-mul, mul-lt-mul_of_pos_right, one-mul, add-one, arith, lit<, pow_pos, pow_mono}
 use Rattle.std.proofs.Common.{pow-add, shl_exact, lt_of_le_ones}
+use Rattle.std.proofs.lemmas.List.{drop-drop, length-drop, take_all}
+use Rattle.std.specs.Simd.{first_chunks}
 use native.Mathlib.Nat.{mul-lt-mul_of_pos_left, mod-add-mod}
 use native.Mathlib.Decide.{dec_lt}
 use lib.Bits.{bit_or, or_lt, or_add_and, and_le_l, and_le_r}
@@ -20,6 +22,29 @@ use Rattle.psnr.specs.declared.walk.Walked.TheVariants.{Sum, Above}
 use Rattle.psnr.specs.Squared.{square_of}
 use Rattle.psnr.specs.Inner.Walk.{squares_in, bits_in, part_length, walked_if, pair_suits}
 use Rattle.psnr.proofs.Squares.{square_le}
+
+-- ---- the parts of a row
+-- the k-th of its whole parts of n samples
+chunk_cut : (n m k : ℕ) (xs : List ℕ) → k < m → get_or (first_chunks n m xs) k [] ≡ cut xs (k * n) (k * n + n)
+chunk_cut n zero k xs l = absurd (omega arith)
+chunk_cut n (suc m) zero xs l =
+    let count : n ≡ 0 * n + n - 0 * n = omega arith in
+    let from : 0 ≡ 0 * n = omega arith in
+    ap₂ (λ (i : ℕ) (t : List ℕ). take i t) count (ap (λ (i : ℕ). drop i xs) from)
+chunk_cut n (suc m) (suc k) xs l =
+    let count : k * n + n - k * n ≡ suc k * n + n - suc k * n = omega arith in
+    let from : n + k * n ≡ suc k * n = omega arith in
+    chunk_cut n m k (drop n xs) (omega arith)
+    ∙ ap₂ (λ (i : ℕ) (t : List ℕ). take i t) count (drop-drop (k * n) n xs ∙ ap (λ (i : ℕ). drop i xs) from)
+
+pub chunk_length : (n m k : ℕ) (xs : List ℕ) {p : List ℕ} → k < m → k * n + n ≤ length xs → p ≡ get_or (first_chunks n m xs) k [] → length p ≡ n
+chunk_length n m k xs l inside e =
+    let count : k * n + n - k * n ≡ n = omega arith in
+    rw (e, chunk_cut n m k xs l) (cut_length xs (k * n) (k * n + n) (omega arith) inside ∙ count)
+
+-- and what is left after it
+rest_cut : (from : ℕ) (xs : List ℕ) → drop from xs ≡ cut xs from (length xs)
+rest_cut from xs = sym (take_all (length xs - from) (drop from xs) (rw length-drop (omega arith)))
 
 -- ---- the sum
 module _ (a b : List ℕ) where
@@ -45,6 +70,18 @@ module _ (a b : List ℕ) where
       let part = sum_ext _ (λ (x : ℕ). square_of (at a (from + x)) (at b (from + x))) (to - from)
       (λ i k. ap₂ square_of (cut_at a from to i k) (cut_at b from to i k)) in
       ap₂ (λ (t u : ℕ). t + u) s (q ∙ ap (sum_to _) (cut_length a from to l m) ∙ part) ∙ sym whole ∙ ap (sum_to _) n
+
+  -- with a whole part of n samples more, or with what is left after them
+  pub in_chunk : (n k : ℕ) {m m' to : ℕ} {p q : List ℕ} {sum part : ℕ} → k < m → k < m' → k * n + n ≡ to → to ≤ length a
+      → p ≡ get_or (first_chunks n m a) k [] → q ≡ get_or (first_chunks n m' b) k []
+      → sum ≡ squares_in a b (k * n) → part ≡ squares_in p q (length p) → sum + part ≡ squares_in a b to
+  in_chunk n k {m} {m'} {to} l l' e inside ep eq s v =
+      in_cut (k * n) to (omega arith) inside s (rw (ep, eq, chunk_cut n m k a l, chunk_cut n m' k b l', e) at v)
+
+  pub in_rest : (from : ℕ) {p q : List ℕ} {sum part : ℕ} → from ≤ length a → length a ≡ length b → p ≡ drop from a → q ≡ drop from b
+      → sum ≡ squares_in a b from → part ≡ squares_in p q (length p) → sum + part ≡ squares_in a b (length a)
+  in_rest from l e ep eq s v =
+      in_cut from (length a) l (le_refl _) s (rw (ep, eq, rest_cut from a, rest_cut from b, ← e) at v)
 
   -- with a sample more, in a word that wraps round
   pub in_wrapped : (x : ℕ) {sum square more : ℕ} → sum ≡ squares_in a b x % 2 ^ 32 → square ≡ square_of (at a x) (at b x)

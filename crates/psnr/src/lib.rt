@@ -261,6 +261,5 @@ pub fn finish(s: Run) -> Summed
 pub fn series(records: &[Record]) -> Summed
     ensures { result ≡ series_of records.now }
 {
-    let run = records.iter().copied().fold(start(), step);
-    finish(run)
+    finish(records.iter().copied().fold(start(), step))
 }

@@ -58,14 +58,13 @@ fn sum8(a: &[u8], b: &[u8]) -> u32
     requires { (length a.now ≡ length b.now) × (length a.now ≤ side_limit) }
     ensures { result ≡ squares_in a.now b.now (length a.now) }
 {
-    let n = a.len();
-    let mut sum: u32 = 0;
-    let mut x: usize = 0;
-    while STRETCH <= n - x {
-        sum += part8(&a[x..x + STRETCH], &b[x..x + STRETCH]);
-        x += STRETCH;
+    let (whole_a, rest_a) = a.as_chunks::<STRETCH>();
+    let (whole_b, rest_b) = b.as_chunks::<STRETCH>();
+    let mut sum = 0;
+    for (p, q) in whole_a.iter().zip(whole_b) {
+        sum += part8(p, q);
     }
-    sum + part8(&a[x..n], &b[x..n])
+    sum + part8(rest_a, rest_b)
 }
 
 // Whether no sample of two rows of bytes is above sample_max. None can be at the largest depth of bytes, so those are not read.

@@ -1,6 +1,6 @@
 -- How a series is worked out, record by record. `proofs/Fold.antt` shows that it gives the answer of Series.antt. A total above its
 -- limit is kept as one above the limit, and the walk goes on: a later bad record still gives 10. Definitions only.
-use Rattle.std.specs.Prelude.{ℕ, ◌+◌, ◌*◌, min, Bool, true, false, ◌&&◌, ◌||◌, List, [], ◌∷◌, ◌==◌, nat_le, nat_lt}
+use Rattle.std.specs.Prelude.{ℕ, ◌+◌, ◌*◌, min, Bool, true, false, ◌&&◌, ◌||◌, List, fold, ◌==◌, nat_le, nat_lt}
 use Rattle.refusal.specs.Numbers.{record_no, total_no}
 use Rattle.refusal.specs.First.{unless}
 use Rattle.psnr.specs.declared.Record.{Record}
@@ -52,9 +52,8 @@ run_step Empty r = run_with (tally_none r.sample_max) r
 run_step (Sound t) r = run_with t r
 run_step Spoiled r = Spoiled
 
-unfoldable pub run_from : Run → List Record → Run
-run_from s [] = s
-run_from s (r ∷ rs) = run_from (run_step s r) rs
+abbrev pub run_from : Run → List Record → Run
+run_from s rs = fold run_step s rs
 
 unfoldable pub run_finish : Run → Summed
 run_finish Empty = Refused record_no
