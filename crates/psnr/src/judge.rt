@@ -55,7 +55,7 @@ pub fn max_suits(max: u32) -> bool
 {
     let mut ok = false;
     for i in 0..plane::DEPTH_LIMIT {
-        ok = ok | (max == plane::sample_max(i + 1));
+        ok |= max == plane::sample_max(i + 1);
     }
     ok
 }

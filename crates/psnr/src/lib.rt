@@ -175,7 +175,7 @@ pub fn squared_error16(
 fn rises(t: Tally, r: Record) -> bool
     ensures { result ≡ rises t r }
 {
-    (t.records == 0) | judge::is_earlier(t.frame, t.plane, r.frame, r.plane)
+    t.records == 0 || judge::is_earlier(t.frame, t.plane, r.frame, r.plane)
 }
 
 // One record more, whatever the tally so far may be.

@@ -77,7 +77,7 @@ fn suit8(a: &[u8], b: &[u8], depth: u32) -> bool
     if plane::BYTE_MAX <= max {
         return true;
     }
-    plane::row_suits8(a, max as u8) & plane::row_suits8(b, max as u8)
+    plane::row_suits8(a, max as u8) && plane::row_suits8(b, max as u8)
 }
 
 // What is found in two rows of bytes.
@@ -89,7 +89,7 @@ fn row8(a: &[u8], b: &[u8], depth: u32) -> Walked
     if !suit8(a, b, depth) {
         return Walked::Above;
     }
-    Walked::Sum(sum8(a, b) as u64)
+    Walked::Sum(u64::from(sum8(a, b)))
 }
 
 // ---- words
@@ -127,23 +127,24 @@ fn part16(a: &[u16], b: &[u16]) -> Part
 }
 
 // What is found in two rows of words, part by part.
-#[tactic(auto, unfolding(crate::specs::Inner::Walk::row_walked))]
+#[tactic(
+    auto,
+    using(plane::proofs::Depth::depth_small, crate::proofs::Parts::part_some),
+    unfolding(crate::specs::Inner::Walk::row_walked)
+)]
 fn row16(a: &[u16], b: &[u16], depth: u32) -> Walked
     requires { (length a.now ≡ length b.now) × (length a.now ≤ side_limit) × (depth ≤ most_depth true) }
     ensures { result ≡ row_walked depth a.now b.now (length a.now) }
 {
     let max = plane::sample_max(depth);
-    let part = part_length(depth);
-    let mut sum: u64 = 0;
-    let mut x: usize = 0;
-    while x < a.len() {
-        let end = a.len().min(x + part);
-        let found = part16(&a[x..end], &b[x..end]);
-        if (found.bits as u32) > max {
+    let size = part_length(depth);
+    let mut sum = 0u64;
+    for (p, q) in a.chunks(size).zip(b.chunks(size)) {
+        let found = part16(p, q);
+        if u32::from(found.bits) > max {
             return Walked::Above;
         }
-        sum += found.sum as u64;
-        x = end;
+        sum += u64::from(found.sum);
     }
     Walked::Sum(sum)
 }
