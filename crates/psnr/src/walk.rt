@@ -95,7 +95,7 @@ fn row8(a: &[u8], b: &[u8], depth: u32) -> Walked
 // ---- words
 
 // How many squares fit 32 bits, where no sample has more bits than the depth.
-#[tactic(auto, using(crate::proofs::Parts::depth_half, crate::proofs::Parts::part_shifted))]
+#[tactic(auto, using(crate::proofs::Parts::part_shifted), unfolding(plane::specs::Limits::most_depth))]
 fn part_length(depth: u32) -> usize
     requires { depth ≤ most_depth true }
     ensures { result ≡ part_length depth }
