@@ -55,9 +55,9 @@ part_cut xs x to {rest} {more} {p} e r s =
     let count : length p ≡ to - x = omega arith in (
       sym (take-append_seam p more) ∙ ap₂ (λ (i : ℕ) (t : List ℕ). take i t) count whole,
       sym (drop-append_seam p more)
-      ∙ ap (λ (t : List ℕ). drop (length p) t) whole
-      ∙ drop-drop (length p) x xs
-      ∙ ap (λ (i : ℕ). drop i xs) e,
+          ∙ ap (λ (t : List ℕ). drop (length p) t) whole
+          ∙ drop-drop (length p) x xs
+          ∙ ap (λ (i : ℕ). drop i xs) e,
     )
 
 -- and off two rows of one length at once, each no longer than the size

@@ -179,15 +179,7 @@ fn rises(t: Tally, r: Record) -> bool
 }
 
 // One record more, whatever the tally so far may be.
-#[tactic(
-    auto,
-    unfolding(
-        crate::specs::Inner::Fold::run_with,
-        crate::specs::Limits::record_limit,
-        crate::specs::Limits::count_limit,
-        crate::specs::Limits::total_limit
-    )
-)]
+#[tactic(auto, unfolding(crate::specs::Inner::Fold::run_with, crate::specs::Limits::record_limit, crate::specs::Limits::count_limit, crate::specs::Limits::total_limit))]
 pub fn add_record(t: Tally, r: Record) -> Run
     ensures { result ≡ run_with t r }
 {

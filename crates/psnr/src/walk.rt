@@ -127,11 +127,7 @@ fn part16(a: &[u16], b: &[u16]) -> Part
 }
 
 // What is found in two rows of words, part by part.
-#[tactic(
-    auto,
-    using(plane::proofs::Depth::depth_small, crate::proofs::Parts::part_some),
-    unfolding(crate::specs::Inner::Walk::row_walked)
-)]
+#[tactic(auto, using(plane::proofs::Depth::depth_small, crate::proofs::Parts::part_some), unfolding(crate::specs::Inner::Walk::row_walked))]
 fn row16(a: &[u16], b: &[u16], depth: u32) -> Walked
     requires { (length a.now ≡ length b.now) × (length a.now ≤ side_limit) × (depth ≤ most_depth true) }
     ensures { result ≡ row_walked depth a.now b.now (length a.now) }

@@ -1,5 +1,5 @@
 -- `psnr::series` meets its contract: its run is the fold of all records. Assumes nothing.
-use Rattle.std.proofs.Common.{◌≡◌, fold, sym, ap, ◌∙◌, rules}
+use Rattle.std.proofs.Common.{◌≡◌, fold, ap, ◌∙◌, rules}
 use Rattle.psnr.specs.Inner.Fold.{run_step, run_start, run_finish}
 use Rattle.psnr.proofs.Fold.{series_is}
 use Rattle.psnr.proofs.series.Goals as goal

@@ -1,6 +1,6 @@
 -- `psnr::walk::row16` meets its contract. The loop's invariant: no sample before place x is above sample_max, the sum is theirs, and what
 -- comes from x on is left. Assumes nothing.
-use Rattle.std.proofs.Common.{◌≡◌, ℕ, ◌-◌, true, length, drop}
+use Rattle.std.proofs.Common.{◌≡◌, ◌-◌, true, length, drop}
 use Rattle.std.specs.Iterator.Adapters.{zip_first, zip_second}
 use Rattle.std.specs.Slice.Iter.{chunks_rest, chunks_size}
 use Rattle.psnr.specs.Inner.Walk.{squares_in, pair_suits}

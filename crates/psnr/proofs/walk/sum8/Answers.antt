@@ -1,7 +1,6 @@
 -- `psnr::walk::sum8` meets its contract: part by part, and what is left. Assumes nothing.
-use Rattle.std.proofs.Common.{◌≡◌, ◌*◌, ◌/◌, ◌<◌, ◌≤◌, [], length, length-append, arith, rules}
+use Rattle.std.proofs.Common.{◌≡◌, ◌*◌, ◌/◌, ◌<◌, [], length, length-append, arith, rules}
 use Rattle.std.proofs.lemmas.Slice.Zip.{zip_turn, zip_end}
-use Rattle.psnr.specs.Inner.Walk.{word_most}
 use Rattle.psnr.proofs.Parts.{chunk_length, in_chunk, in_rest}
 use Rattle.psnr.proofs.walk.sum8.Goals as goal
 
@@ -16,8 +15,7 @@ loop-p-preserved c =
     let p = rw first.ensures.front at turn.2 [] in
     let q = rw second.ensures.front at turn.3 [] in
     let long = chunk_length 128 _ k c.args.a.now a (omega arith) p in
-    rw length-append
-    (
+    rw length-append (
       omega arith,
       in_chunk c.args.a.now c.args.b.now 128 k a b (omega arith) (omega arith) p q c.loop-p.invariant.1 c.part8-sum.ensures.value,
       omega (arith, c.part8-sum.ensures.upper_bound, long, c.loop-p.invariant.2),
