@@ -27,13 +27,7 @@ some : (a b : ℕ) → min (suc a) (suc b) ≡ 0 → ⊥
 some a b z = omega (arith, sym (suc-min-suc a b) ∙ z)
 
 least_shared : (o a b : ℕ) → min o (min a b) ≡ min (min o a) (min o b)
-least_shared o a b =
-    let l = min-le_left in
-    let r = min-le_right in
-    le_antisymm
-    (le-min (le-min (l o (min a b)) (le_trans (r o (min a b)) (l a b))) (le-min (l o (min a b)) (le_trans (r o (min a b)) (r a b))))
-    (le-min (le_trans (l (min o a) (min o b)) (l o a))
-    (le-min (le_trans (l (min o a) (min o b)) (r o a)) (le_trans (r (min o a) (min o b)) (r o b))))
+least_shared o a b = omega arith
 
 lower_shared : (o a b : ℕ) → lower_of o (lower_of a b) ≡ lower_of (lower_of o a) (lower_of o b)
 lower_shared zero a b = refl

@@ -10,7 +10,7 @@ use plane::{Layout, Size};
 use psnr::walk::Walked;
 
 // The smaller squared error, as a record has it, and whose it is; on a tie the first's.
-#[derive(Clone, Copy)]
+#[derive(Clone, Copy, Debug, PartialEq)]
 pub enum Better {
     First(f64),
     Second(f64),
@@ -18,7 +18,7 @@ pub enum Better {
 }
 
 // What one pair of planes is found to be: so far apart, or refused.
-#[derive(Clone, Copy)]
+#[derive(Clone, Copy, Debug, PartialEq, Eq)]
 pub enum Judged {
     Apart(u64),
     Refused(u8),
@@ -43,24 +43,20 @@ fn smaller(first: u64, second: u64) -> Better
     ensures { result ≡ smaller_of first second }
 {
     if second < first {
-        return Better::Second(number::double(second));
+        Better::Second(number::double(second))
+    } else {
+        Better::First(number::double(first))
     }
-    Better::First(number::double(first))
 }
 
 // Of two findings the answer: where both refuse, the lower number.
 fn decide(first: Judged, second: Judged) -> Better
     ensures { result ≡ decided first second }
 {
-    match first {
-        Judged::Apart(a) => match second {
-            Judged::Apart(b) => smaller(a, b),
-            Judged::Refused(m) => Better::Refused(m),
-        },
-        Judged::Refused(n) => match second {
-            Judged::Apart(b) => Better::Refused(n),
-            Judged::Refused(m) => Better::Refused(plane::lower(n, m)),
-        },
+    match (first, second) {
+        (Judged::Apart(a), Judged::Apart(b)) => smaller(a, b),
+        (Judged::Refused(n), Judged::Refused(m)) => Better::Refused(plane::lower(n, m)),
+        (Judged::Refused(n), _) | (_, Judged::Refused(n)) => Better::Refused(n),
     }
 }
 
@@ -164,9 +160,9 @@ pub fn winner8<'o, 'c>(
         (contest false o.entry a.entry b.entry width height stride_o stride_a stride_b depth) }
 {
     match better8(o, a, b, width, height, stride_o, stride_a, stride_b, depth) {
-        Better::First(e) => a,
-        Better::Second(e) => b,
-        Better::Refused(n) => &a[0..0],
+        Better::First(_) => a,
+        Better::Second(_) => b,
+        Better::Refused(_) => &a[0..0],
     }
 }
 
@@ -186,8 +182,8 @@ pub fn winner16<'o, 'c>(
         (contest true o.entry a.entry b.entry width height stride_o stride_a stride_b depth) }
 {
     match better16(o, a, b, width, height, stride_o, stride_a, stride_b, depth) {
-        Better::First(e) => a,
-        Better::Second(e) => b,
-        Better::Refused(n) => &a[0..0],
+        Better::First(_) => a,
+        Better::Second(_) => b,
+        Better::Refused(_) => &a[0..0],
     }
 }
