@@ -173,7 +173,8 @@ pub fn rows(a8: &[u8], a16: &[u16], b8: &[u8], b16: &[u16], layout: Layout) -> W
     requires { Readable (planes layout a8 a16 b8 b16) }
     ensures { result ≡ walked_of (planes layout a8.entry a16.entry b8.entry b16.entry) }
 {
-    let mut sum: u64 = 0;
+    let mut sum = 0u64;
+    // by index: a row begins at y times each plane's own stride
     for y in 0..layout.size.height {
         match row(a8, a16, b8, b16, layout, y) {
             Walked::Sum(error) => {
