@@ -5,8 +5,11 @@ use Rattle.std.proofs.lemmas.List.Sums.{fold-append}
 use mathlib.Core.Bool.{and-false}
 use native.Mathlib.Decide.{dec_le}
 use borrow.Author.Tests.{lt-leb}
-use Rattle.refusal.specs.Numbers.{total_no}
-use Rattle.refusal.specs.First.{unless}
+use Rattle.std.specs.Prelude.{Result, Ok}
+use Rattle.refusal.specs.declared.Refusal.{Refusal}
+use Rattle.refusal.specs.declared.Refusal.TheVariants as no
+use Rattle.refusal.specs.First.{unless, unless_refused}
+use Rattle.psnr.specs.declared.Summed.{Summed}
 use Rattle.refusal.proofs.Chain.{and_left, and_right}
 use Rattle.psnr.specs.declared.Record.{Record}
 use Rattle.psnr.specs.declared.Tally.{Tally}
@@ -137,8 +140,10 @@ module _ (E N max cap : ℕ) (l : N ≤ cap) where
   abbrev kept : ℕ
   kept = min (0 + E) (total_limit + 1)
 
-  capped : Dec (E ≤ total_limit)
-      → series_answer (unless (leb kept total_limit) total_no 0) kept (min (0 + N) cap) max ≡ series_answer (unless (leb E total_limit) total_no 0) E N max
+  abbrev answer : ℕ → ℕ → Result Summed Refusal
+  answer error n = unless_refused (unless (leb error total_limit) no.Total (Ok tt)) (Ok (series_answer error n max))
+
+  capped : Dec (E ≤ total_limit) → answer kept (min (0 + N) cap) ≡ answer E N
   capped (yes m) =
       let e : kept ≡ E = omega arith in
       let n : min (0 + N) cap ≡ N = omega arith in

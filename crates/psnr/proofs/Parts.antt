@@ -19,7 +19,8 @@ use Rattle.plane.proofs.Depth.{max_small}
 use Rattle.plane.proofs.Limits.{side_small}
 use Rattle.plane.proofs.Rows.{cut, cut_length, cut_at}
 use Rattle.plane.proofs.Sums.{sum_none, sum_more, sum_ext, sum_split, sum_bound}
-use Rattle.psnr.specs.declared.walk.Walked.TheVariants.{Sum, Above}
+use Rattle.std.specs.Prelude.{Ok, Err}
+use Rattle.refusal.specs.declared.Refusal.TheVariants as no
 use Rattle.psnr.specs.Squared.{square_of}
 use Rattle.psnr.specs.Inner.Walk.{squares_in, bits_in, part_length, walked_if, pair_suits}
 use Rattle.psnr.proofs.Squares.{square_le}
@@ -292,12 +293,12 @@ module _ (depth : ℕ) {a b p q more more' : List ℕ} {x to size bits : ℕ} (t
       in_cut a b x to t.rising t.inside s (rw (t.first, t.second) at v ∙ whole)
 
 -- ---- the answer
-pub found_above : (suit : Bool) (sum : ℕ) → (suit ≡ true → ⊥) → Above ≡ walked_if suit sum
+pub found_above : (suit : Bool) (sum : ℕ) → (suit ≡ true → ⊥) → Err no.Sample ≡ walked_if suit sum
 found_above true sum h = absurd (h refl)
 found_above false sum h = refl
 
-pub found_sum : {suit : Bool} {sum whole : ℕ} → suit ≡ true → sum ≡ whole → Sum sum ≡ walked_if suit whole
-found_sum {suit} {sum} {whole} s e = ap Sum e ∙ ap (λ (t : Bool). walked_if t whole) (sym s)
+pub found_sum : {suit : Bool} {sum whole : ℕ} → suit ≡ true → sum ≡ whole → Ok sum ≡ walked_if suit whole
+found_sum {suit} {sum} {whole} s e = ap Ok e ∙ ap (λ (t : Bool). walked_if t whole) (sym s)
 
 -- a sum and its bits, counted up
 pub ruleset part_steps = (in_none, in_next, in_wrapped, bits_none, bits_next)

@@ -9,7 +9,7 @@ ghost use Rattle.psnr.specs.Series.{series_of};
 ghost use Rattle.psnr.specs.Inner.Fold.{rises, run_with, run_start, run_step, run_finish};
 
 use plane::{Layout, Size};
-use walk::Walked;
+use refusal::Refusal;
 
 pub mod judge;
 pub mod walk;
@@ -30,12 +30,11 @@ pub struct Record {
     pub plane: u32,
 }
 
-// What asking for a squared error answers. Identical says "identical, 100" beside its record.
+// A squared error. Identical says "identical, 100" beside its record.
 #[derive(Clone, Copy, Debug, PartialEq)]
 pub enum SquaredError {
     Differs(Record),
     Identical(Record),
-    Refused(u8),
 }
 
 // The errors and counts of a series, under its one max.
@@ -46,12 +45,11 @@ pub struct Total {
     pub sample_max: u32,
 }
 
-// What a series answers. Identical says "identical, 100" beside its total.
+// A series summed up. Identical says "identical, 100" beside its total.
 #[derive(Clone, Copy, Debug, PartialEq)]
 pub enum Summed {
     Differs(Total),
     Identical(Total),
-    Refused(u8),
 }
 
 // A series so far, in whole numbers: how many records, what they add up to, and the last one's frame and plane. An error above
@@ -83,34 +81,26 @@ fn answer(
     layout: Layout,
     frame: u32,
     plane: u32,
-) -> SquaredError
+) -> Result<SquaredError, Refusal>
     ensures { result ≡ squared_error_of (planes layout a8.entry a16.entry b8.entry b16.entry) frame plane }
 {
-    let no = plane::check_unread(a8, a16, b8, b16, layout, 0);
-    if no != 0 {
-        return SquaredError::Refused(no);
+    plane::check_unread(a8, a16, b8, b16, layout, 0)?;
+    let error = walk::rows(a8, a16, b8, b16, layout)?;
+    let suits = judge::plane_suits(plane);
+    if !suits {
+        return Err(Refusal::Record);
     }
-    let width = layout.size.width;
-    let height = layout.size.height;
-    match walk::rows(a8, a16, b8, b16, layout) {
-        Walked::Sum(error) => {
-            if !judge::plane_suits(plane) {
-                return SquaredError::Refused(refusal::RECORD);
-            }
-            let record = Record {
-                sq_err: number::exact(error),
-                n: (width * height) as u64,
-                sample_max: plane::sample_max(layout.size.depth),
-                frame,
-                plane,
-            };
-            if error == 0 {
-                SquaredError::Identical(record)
-            } else {
-                SquaredError::Differs(record)
-            }
-        }
-        Walked::Above => SquaredError::Refused(refusal::SAMPLE),
+    let record = Record {
+        sq_err: number::exact(error),
+        n: (layout.size.width * layout.size.height) as u64,
+        sample_max: plane::sample_max(layout.size.depth),
+        frame,
+        plane,
+    };
+    if error == 0 {
+        Ok(SquaredError::Identical(record))
+    } else {
+        Ok(SquaredError::Differs(record))
     }
 }
 
@@ -125,7 +115,7 @@ pub fn squared_error8(
     depth: u32,
     frame: u32,
     plane: u32,
-) -> SquaredError
+) -> Result<SquaredError, Refusal>
     ensures { result ≡ squared_error_of (called false a.entry b.entry width height stride_a stride_b depth) frame plane }
 {
     let size = Size {
@@ -153,7 +143,7 @@ pub fn squared_error16(
     depth: u32,
     frame: u32,
     plane: u32,
-) -> SquaredError
+) -> Result<SquaredError, Refusal>
     ensures { result ≡ squared_error_of (called true a.entry b.entry width height stride_a stride_b depth) frame plane }
 {
     let size = Size {
@@ -233,14 +223,13 @@ pub fn step(s: Run, r: Record) -> Run
 
 // What the series answers once its last record has come.
 #[tactic(auto, unfolding(crate::specs::Limits::total_limit, crate::specs::Inner::Fold::run_finish))]
-pub fn finish(s: Run) -> Summed
+pub fn finish(s: Run) -> Result<Summed, Refusal>
     ensures { result ≡ run_finish s }
 {
     match s {
-        Run::Empty => Summed::Refused(refusal::RECORD),
         Run::Sound(t) => {
             if t.error > TOTAL_LIMIT {
-                return Summed::Refused(refusal::TOTAL);
+                return Err(Refusal::Total);
             }
             let total = Total {
                 sq_err: number::exact(t.error),
@@ -248,17 +237,17 @@ pub fn finish(s: Run) -> Summed
                 sample_max: t.sample_max,
             };
             if t.error == 0 {
-                Summed::Identical(total)
+                Ok(Summed::Identical(total))
             } else {
-                Summed::Differs(total)
+                Ok(Summed::Differs(total))
             }
         }
-        Run::Spoiled => Summed::Refused(refusal::RECORD),
+        Run::Empty | Run::Spoiled => Err(Refusal::Record),
     }
 }
 
 // The total of a lent run of records.
-pub fn series(records: &[Record]) -> Summed
+pub fn series(records: &[Record]) -> Result<Summed, Refusal>
     ensures { result ≡ series_of records.now }
 {
     finish(records.iter().copied().fold(start(), step))

@@ -8,13 +8,7 @@ ghost use Rattle.psnr.specs.Inner.Walk.{word_most, Readable, squares_in, bits_in
 ghost use Rattle.psnr.specs.Inner.Walk.{pair_suits, row_walked, walked_at, walked_of};
 
 use plane::Layout;
-
-// What a walk over samples finds: the sum of their squared differences, or that one of them is above sample_max.
-#[derive(Clone, Copy, Debug, PartialEq, Eq)]
-pub enum Walked {
-    Sum(u64),
-    Above,
-}
+use refusal::Refusal;
 
 // (a - b)², of bytes and of words.
 #[tactic(auto, unfolding(crate::specs::Squared::square_of))]
@@ -77,19 +71,19 @@ fn suit8(a: &[u8], b: &[u8], depth: u32) -> bool
     if plane::BYTE_MAX <= max {
         return true;
     }
-    plane::row_suits8(a, max as u8) && plane::row_suits8(b, max as u8)
+    plane::none_above(a, max as u8) && plane::none_above(b, max as u8)
 }
 
-// What is found in two rows of bytes.
+// The sum over two rows of bytes, or that a sample is above sample_max.
 #[tactic(auto, unfolding(crate::specs::Inner::Walk::row_walked))]
-fn row8(a: &[u8], b: &[u8], depth: u32) -> Walked
+fn row8(a: &[u8], b: &[u8], depth: u32) -> Result<u64, Refusal>
     requires { (length a.now ≡ length b.now) × (length a.now ≤ side_limit) × (depth ≤ most_depth false) }
     ensures { result ≡ row_walked depth a.now b.now (length a.now) }
 {
     if !suit8(a, b, depth) {
-        return Walked::Above;
+        return Err(Refusal::Sample);
     }
-    Walked::Sum(u64::from(sum8(a, b)))
+    Ok(u64::from(sum8(a, b)))
 }
 
 // ---- words
@@ -126,9 +120,9 @@ fn part16(a: &[u16], b: &[u16]) -> Part
     Part { sum, bits }
 }
 
-// What is found in two rows of words, part by part.
+// The same of two rows of words, part by part.
 #[tactic(auto, using(plane::proofs::Depth::depth_small, crate::proofs::Parts::part_some), unfolding(crate::specs::Inner::Walk::row_walked))]
-fn row16(a: &[u16], b: &[u16], depth: u32) -> Walked
+fn row16(a: &[u16], b: &[u16], depth: u32) -> Result<u64, Refusal>
     requires { (length a.now ≡ length b.now) × (length a.now ≤ side_limit) × (depth ≤ most_depth true) }
     ensures { result ≡ row_walked depth a.now b.now (length a.now) }
 {
@@ -138,17 +132,17 @@ fn row16(a: &[u16], b: &[u16], depth: u32) -> Walked
     for (p, q) in a.chunks(size).zip(b.chunks(size)) {
         let found = part16(p, q);
         if u32::from(found.bits) > max {
-            return Walked::Above;
+            return Err(Refusal::Sample);
         }
         sum += u64::from(found.sum);
     }
-    Walked::Sum(sum)
+    Ok(sum)
 }
 
 // ---- planes
 
-// What is found in row y.
-fn row(a8: &[u8], a16: &[u16], b8: &[u8], b16: &[u16], layout: Layout, y: usize) -> Walked
+// The same of row y.
+fn row(a8: &[u8], a16: &[u16], b8: &[u8], b16: &[u16], layout: Layout, y: usize) -> Result<u64, Refusal>
     requires readable { Readable (planes layout a8 a16 b8 b16) }
     requires y_lt_height { y < layout.size.height }
     ensures { result ≡ walked_at (planes layout a8.entry a16.entry b8.entry b16.entry) y }
@@ -168,22 +162,15 @@ fn row(a8: &[u8], a16: &[u16], b8: &[u8], b16: &[u16], layout: Layout, y: usize)
     }
 }
 
-// What is found in all rows; no row is read after one in which a sample is above sample_max.
-pub fn rows(a8: &[u8], a16: &[u16], b8: &[u8], b16: &[u16], layout: Layout) -> Walked
+// The same of all rows; no row is read after one in which a sample is above sample_max.
+pub fn rows(a8: &[u8], a16: &[u16], b8: &[u8], b16: &[u16], layout: Layout) -> Result<u64, Refusal>
     requires { Readable (planes layout a8 a16 b8 b16) }
     ensures { result ≡ walked_of (planes layout a8.entry a16.entry b8.entry b16.entry) }
 {
     let mut sum = 0u64;
     // by index: a row begins at y times each plane's own stride
     for y in 0..layout.size.height {
-        match row(a8, a16, b8, b16, layout, y) {
-            Walked::Sum(error) => {
-                sum += error;
-            }
-            Walked::Above => {
-                return Walked::Above;
-            }
-        }
+        sum += row(a8, a16, b8, b16, layout, y)?;
     }
-    Walked::Sum(sum)
+    Ok(sum)
 }
