@@ -1,5 +1,5 @@
 -- The answer of a squared error, from what each of its steps found. Assumes nothing.
-use Rattle.std.proofs.Common.{◌≡◌, ℕ, zero, suc, true, false, ◌&&◌, Ok, Err, sym, refl, ◌∙◌}
+use Rattle.std.proofs.Common.{◌≡◌, ℕ, true, false, Ok, Err, refl, ◌∙◌}
 use Rattle.refusal.specs.declared.Refusal.{Refusal}
 use Rattle.refusal.specs.declared.Refusal.TheVariants as no
 use Rattle.plane.specs.Plane.{Planes, both}
@@ -9,7 +9,7 @@ use Rattle.plane.specs.Inner.Unread.{unread_refusal}
 use Rattle.plane.proofs.Accept.{accepted}
 use Rattle.plane.proofs.Unread.{pair_by}
 use Rattle.psnr.specs.Record.{plane_suits}
-use Rattle.psnr.specs.Squared.{squared_error_score, record_of, error_answer, squared_error_of}
+use Rattle.psnr.specs.Squared.{record_of, error_answer, squared_error_of}
 use Rattle.psnr.specs.Inner.Walk.{walked_of}
 use Rattle.psnr.proofs.Accept.{planes_refuse, number_refuses, none_refuses}
 use Rattle.psnr.proofs.Walks.{whole_says, whole_breaks}

@@ -1,6 +1,6 @@
 -- What a user may count on, stated about the definitions: equal planes differ by 0, only visible samples count, it does not matter which
 -- plane comes first, and the record that a call answers is never bad. Assumes nothing.
-use Rattle.std.proofs.Common.{◌≡◌, ℕ, ◌+◌, ◌-◌, ◌*◌, ◌<◌, ◌≤◌, Bool, true, false, sym, refl, le_trans, le_refl, le_of_lt, mul_assoc, mul_comm, mul-pos, arith, lit≤, eq-eqb, le-leb}
+use Rattle.std.proofs.Common.{◌≡◌, ℕ, ◌+◌, ◌-◌, ◌*◌, ◌<◌, ◌≤◌, Bool, true, false, refl, le_trans, le_refl, le_of_lt, mul_assoc, mul_comm, mul-pos, arith, lit≤, eq-eqb, le-leb}
 use borrow.Author.Tests.{lt-leb}
 use Rattle.std.specs.Prelude.{Ok, Err}
 use Rattle.refusal.specs.declared.Refusal.TheVariants as no

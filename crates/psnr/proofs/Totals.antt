@@ -1,5 +1,5 @@
 -- What the total of a series that is not refused is known to be. Assumes nothing.
-use Rattle.std.proofs.Common.{◌≡◌, ◌*◌, ◌≤◌, true, ◌&&◌, leb, List, [], ◌∷◌, length, le_trans, mul-le-mul_right, arith, lit≤, leb-true}
+use Rattle.std.proofs.Common.{◌≡◌, ◌*◌, ◌≤◌, true, ◌&&◌, leb, List, [], ◌∷◌, length, le_trans, mul-le-mul_right, arith, leb-true}
 use Rattle.std.specs.Prelude.{Ok}
 use Rattle.refusal.proofs.Chain.{and_left, and_right, passed}
 use Rattle.psnr.specs.declared.Record.{Record}

@@ -11,7 +11,7 @@ use Rattle.plane.proofs.Limits.{deepest}
 use Rattle.plane.proofs.Rows.{part, part_length, part_at}
 use Rattle.plane.proofs.Sums.{sum_ext}
 use Rattle.plane.proofs.Unread.{unread_says, unread_depth}
-use Rattle.std.specs.Prelude.{Result, Ok, Err}
+use Rattle.std.specs.Prelude.{Ok, Err}
 use Rattle.refusal.specs.declared.Refusal.{Refusal}
 use Rattle.refusal.specs.declared.Refusal.TheVariants as no
 use Rattle.psnr.specs.Limits.{total_limit}

@@ -142,7 +142,14 @@ fn row16(a: &[u16], b: &[u16], depth: u32) -> Result<u64, Refusal>
 // ---- planes
 
 // The same of row y.
-fn row(a8: &[u8], a16: &[u16], b8: &[u8], b16: &[u16], layout: Layout, y: usize) -> Result<u64, Refusal>
+fn row(
+    a8: &[u8],
+    a16: &[u16],
+    b8: &[u8],
+    b16: &[u16],
+    layout: Layout,
+    y: usize,
+) -> Result<u64, Refusal>
     requires readable { Readable (planes layout a8 a16 b8 b16) }
     requires y_lt_height { y < layout.size.height }
     ensures { result ≡ walked_at (planes layout a8.entry a16.entry b8.entry b16.entry) y }

@@ -1,11 +1,10 @@
 -- `psnr::walk::rows` meets its contract. The loop's invariant: no sample of the rows passed is above sample_max, and the sum is theirs.
 -- Assumes nothing.
-use Rattle.std.proofs.Common.{◌≡◌, ◌+◌, true, Err, sym, ◌∙◌, arith, rules}
+use Rattle.std.proofs.Common.{◌≡◌, ◌+◌, Err, sym, ◌∙◌, arith, rules}
 use Rattle.plane.specs.Plane.{Planes}
 use Rattle.plane.specs.Inner.Lent.{planes}
-use Rattle.psnr.specs.Squared.{error_to}
 use Rattle.psnr.proofs.Squares.{error_none, total_fits}
-use Rattle.psnr.proofs.Walks.{suit_to, suit_none, row_adds, row_breaks, rows_end, rows_below}
+use Rattle.psnr.proofs.Walks.{suit_none, row_adds, row_breaks, rows_end, rows_below}
 use Rattle.psnr.proofs.walk.rows.Goals as goal
 
 pub loop-y-init : goal.loop-y-init
