@@ -1,8 +1,7 @@
 // PSNR in whole hundredths of a decibel. The places lent are written where the answer is 0, and as they were otherwise.
 ghost use Rattle.std.specs.Prelude.{◌≡◌};
-ghost use Rattle.refusal.specs.First.{answer_number};
 ghost use Rattle.decibels.specs.Answer.{total_decibels, series_decibels};
-ghost use Rattle.fuavelino.specs.Decibels.{hundredths_written, identical_written};
+ghost use Rattle.fuavelino.specs.Decibels.{decibels_number, hundredths_written, identical_written};
 
 use decibels::Decibels;
 use psnr::{Record, Total};
@@ -14,7 +13,7 @@ fn put_decibels(
     hundredths: &mut u32,
     identical: &mut u8,
 ) -> u8
-    ensures { (result ≡ answer_number answer)
+    ensures { (result ≡ decibels_number answer)
         × (hundredths.new ≡ hundredths_written answer hundredths.old)
         × (identical.new ≡ identical_written answer identical.old) }
 {
@@ -40,7 +39,7 @@ pub extern "C" fn fuavelino_decibels(
     hundredths: &mut u32,
     identical: &mut u8,
 ) -> u8
-    ensures { (result ≡ answer_number (series_decibels records.now))
+    ensures { (result ≡ decibels_number (series_decibels records.now))
         × (hundredths.new ≡ hundredths_written (series_decibels records.now) hundredths.old)
         × (identical.new ≡ identical_written (series_decibels records.now) identical.old) }
 {
@@ -57,7 +56,7 @@ pub extern "C" fn fuavelino_total_decibels(
     hundredths: &mut u32,
     identical: &mut u8,
 ) -> u8
-    ensures { (result ≡ answer_number (total_decibels (record { sq_err = sq_err; n = n; sample_max = sample_max })))
+    ensures { (result ≡ decibels_number (total_decibels (record { sq_err = sq_err; n = n; sample_max = sample_max })))
         × (hundredths.new ≡ hundredths_written
         (total_decibels (record { sq_err = sq_err; n = n; sample_max = sample_max })) hundredths.old)
         × (identical.new ≡ identical_written

@@ -1,10 +1,9 @@
 // Squared error and series of records. An accepted answer whose error is 0 says "identical, 100".
 ghost use Rattle.std.specs.Prelude.{◌≡◌, true, false};
-ghost use Rattle.refusal.specs.First.{answer_number};
 ghost use Rattle.plane.specs.Plane.{called};
 ghost use Rattle.psnr.specs.Squared.{squared_error_of};
 ghost use Rattle.psnr.specs.Series.{series_of};
-ghost use Rattle.fuavelino.specs.Psnr.{error_written, series_written};
+ghost use Rattle.fuavelino.specs.Psnr.{error_number, error_written, series_number, series_written};
 
 use psnr::{Record, SquaredError, Summed};
 use refusal::Refusal;
@@ -16,7 +15,7 @@ fn put_record(
     n: &mut u64,
     sample_max: &mut u32,
 ) -> u8
-    ensures value { result ≡ answer_number answer }
+    ensures value { result ≡ error_number answer }
     ensures sample_max_after { record { sq_err = sq_err.new; n = n.new; sample_max = sample_max.new }
         ≡ error_written answer
         (record { sq_err = sq_err.old; n = n.old; sample_max = sample_max.old }) }
@@ -49,7 +48,7 @@ pub extern "C" fn fuavelino_squared_error8(
     n: &mut u64,
     sample_max: &mut u32,
 ) -> u8
-    ensures value { result ≡ answer_number
+    ensures value { result ≡ error_number
         (squared_error_of (called false a.entry b.entry width height stride_a stride_b depth) frame plane) }
     ensures sample_max_after { record { sq_err = sq_err.new; n = n.new; sample_max = sample_max.new }
         ≡ error_written (squared_error_of (called false a.entry b.entry width height stride_a stride_b depth) frame plane)
@@ -75,7 +74,7 @@ pub extern "C" fn fuavelino_squared_error16(
     n: &mut u64,
     sample_max: &mut u32,
 ) -> u8
-    ensures value { result ≡ answer_number
+    ensures value { result ≡ error_number
         (squared_error_of (called true a.entry b.entry width height stride_a stride_b depth) frame plane) }
     ensures sample_max_after { record { sq_err = sq_err.new; n = n.new; sample_max = sample_max.new }
         ≡ error_written (squared_error_of (called true a.entry b.entry width height stride_a stride_b depth) frame plane)
@@ -94,7 +93,7 @@ fn put_total(
     n: &mut u64,
     sample_max: &mut u32,
 ) -> u8
-    ensures { (result ≡ answer_number answer)
+    ensures { (result ≡ series_number answer)
         × (record { sq_err = sq_err.new; n = n.new; sample_max = sample_max.new }
         ≡ series_written answer
         (record { sq_err = sq_err.old; n = n.old; sample_max = sample_max.old })) }
@@ -118,7 +117,7 @@ pub extern "C" fn fuavelino_series(
     n: &mut u64,
     sample_max: &mut u32,
 ) -> u8
-    ensures { (result ≡ answer_number (series_of records.now))
+    ensures { (result ≡ series_number (series_of records.now))
         × (record { sq_err = sq_err.new; n = n.new; sample_max = sample_max.new }
         ≡ series_written (series_of records.now)
         (record { sq_err = sq_err.old; n = n.old; sample_max = sample_max.old })) }
