@@ -23,7 +23,7 @@ pub struct T8 {
     pub t7: i32,
 }
 
-// The steps, in the order of SCOPE.
+// The steps, in the order of SCOPE. Past forty lines as laid out: the new form, in stages, is no plainer, since SCOPE has one list.
 pub fn run_steps(t0: i32, t1: i32, t2: i32, t3: i32, t4: i32, t5: i32, t6: i32, t7: i32) -> T8
     requires { AllWithin run_limit (t0 ∷ t1 ∷ t2 ∷ t3 ∷ t4 ∷ t5 ∷ t6 ∷ t7 ∷ []) }
     ensures { vals result ≡ run steps (t0 ∷ t1 ∷ t2 ∷ t3 ∷ t4 ∷ t5 ∷ t6 ∷ t7 ∷ []) }
