@@ -1,5 +1,4 @@
 -- What combining answers case by case, and the laws of its figures.
-mod Answers
 pub mod Average
 mod Joined
 mod Rounded
