@@ -1,4 +1,4 @@
--- What combining answers case by case, and the laws of its figures.
+-- The laws of what combining answers, and of its figures.
 pub mod Average
 mod Joined
 mod Rounded

@@ -32,8 +32,9 @@ pub enum CombinedHvs {
 fn combinable(c: f64, scores: Planar) -> bool
     ensures { result ≡ combinable c scores }
 {
-    let three = number::finite(scores.y) & number::finite(scores.u) & number::finite(scores.v);
-    (0.0 <= c) & (c <= 1.0) & three
+    // a range with `contains` was tried, and the proof did not close: the search does not look into what it promises of two doubles
+    let three = number::finite(scores.y) && number::finite(scores.u) && number::finite(scores.v);
+    0.0 <= c && c <= 1.0 && three
 }
 
 #[tactic(auto, unfolding(crate::specs::Combine::weighted_sum))]
@@ -66,7 +67,7 @@ pub fn ssim(c: f64, scores: Planar) -> CombinedSsim
     }
     let sum = weighted_sum(c, scores);
     let weight = whole_weight(c);
-    if number::finite(sum) & number::finite(weight) {
+    if number::finite(sum) && number::finite(weight) {
         CombinedSsim::Sum { sum, weight }
     } else {
         CombinedSsim::Refused(refusal::NOT_FINITE)
