@@ -85,17 +85,6 @@ pub fn fdct8_columns(x: &[i32]) -> [i32; BLOCK_SIZE]
     y
 }
 
-pub fn copy(x: &[i32], out: &mut [i32])
-    requires { length out.old ≡ length x.now }
-    ensures { out.new ≡ x.now }
-{
-    let mut i = 0;
-    while i < x.len() {
-        out[i] = x[i];
-        i += 1;
-    }
-}
-
 // Row i of x goes through the inverse pass to the front of out.
 pub fn idct8(x: &[i32], i: usize, out: &mut [i32])
     requires i_lt_block_side { i < block_side }

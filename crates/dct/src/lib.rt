@@ -10,7 +10,7 @@ ghost use Rattle.lifting.specs.Inner.Within.{AllWithin};
 ghost use Rattle.dct.specs.Block as Block;
 ghost use Rattle.dct.specs.Call.{all_within, block_suits, transform_refusal, out_after};
 
-use crate::block::{copy, fdct8_columns, idct8_rows};
+use crate::block::{fdct8_columns, idct8_rows};
 
 // The side of a block, its places, and the largest sizes that the two calls take. specs/Limits.antt has the same for definitions.
 pub const BLOCK_SIDE: usize = 8;
@@ -25,24 +25,15 @@ fn within(v: i32, limit: i32) -> bool
     requires { T (non_neg limit) }
     ensures { result ≡ leb (nat_abs v) (nat_abs limit) }
 {
-    if v < -limit {
-        return false;
-    }
-    if limit < v {
-        return false;
-    }
-    true
+    -limit <= v && v <= limit
 }
 
 fn all_within(x: &[i32], limit: i32) -> bool
     requires { T (non_neg limit) }
     ensures { result ≡ all_within (nat_abs limit) x.now }
 {
-    let mut i = 0;
-    while i < x.len() {
-        if within(x[i], limit) {
-            i += 1;
-        } else {
+    for v in x {
+        if !within(*v, limit) {
             return false;
         }
     }
@@ -54,13 +45,7 @@ fn block_suits(given: &[i32], places: usize, limit: i32) -> bool
     requires { T (non_neg limit) }
     ensures { result ≡ block_suits (nat_abs limit) given.now places }
 {
-    if given.len() != BLOCK_SIZE {
-        return false;
-    }
-    if places != BLOCK_SIZE {
-        return false;
-    }
-    all_within(given, limit)
+    given.len() == BLOCK_SIZE && places == BLOCK_SIZE && all_within(given, limit)
 }
 
 // The transform, for a caller who knows that the block is in range.
@@ -91,7 +76,7 @@ pub fn forward(block: &[i32], out: &mut [i32]) -> u8
 {
     if block_suits(block, out.len(), FORWARD_LIMIT) {
         let y = fdct8x8(block);
-        copy(&y, out);
+        out.copy_from_slice(&y);
         return 0;
     }
     refusal::VALUE

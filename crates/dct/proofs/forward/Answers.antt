@@ -18,8 +18,8 @@ fdct8x8-y-requires c =
       all_within = lawful.sizes;
     }
 
-pub copy-requires : goal.copy-requires
-copy-requires c =
+pub copy_from_slice-requires : goal.copy_from_slice-requires
+copy_from_slice-requires c =
     let passed : block_suits forward_limit c.args.block.now (length c.args.out.now) ≡ true = sym c.block_suits.ensures ∙ c.if-block_suits.true in
     let lawful : Taken forward_limit c.args.block.now (length c.args.out.now) = taken _ _ _ passed in
     lawful.out_places ∙ sym (ap length c.fdct8x8-y.ensures ∙ length_fdct8x8 _)
@@ -30,7 +30,7 @@ returns-then-block_suits c =
     let a = accepted forward_limit fdct8x8 c.args.block.now c.args.out.now passed in
     record {
       answer = sym a.0;
-      content = c.copy.ensures ∙ c.fdct8x8-y.ensures ∙ sym a.1;
+      content = c.copy_from_slice.ensures.after ∙ c.fdct8x8-y.ensures ∙ sym a.1;
     }
 
 pub returns : goal.returns
