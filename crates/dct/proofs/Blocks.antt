@@ -1,12 +1,12 @@
 -- Blocks of 64 as rows and columns. Assumes nothing.
 use mathlib.Core.Path.{◌≡◌, refl, sym, ap, ap₂, ◌∙◌}
 use mathlib.Core.List.{List, [], ◌∷◌, ◌++◌, append_assoc, append-nil}
-use Prim.Native.Nat.{ℕ, zero, suc, ◌+◌, ◌-◌, ◌*◌, ◌≤◌, ◌<◌, zero-le}
+use Prim.Native.Nat.{ℕ, zero, suc, ◌+◌, ◌-◌, ◌*◌, ◌≤◌, zero-le}
 use native.Mathlib.Omega.{arith}
 use native.Mathlib.Numerals.{add-one}
 use lib.IntN.{ℤ, pos}
-use lib.ListN.{length, get_or, set, take, drop, length-append, drop_of_length-le}
-use lib.Seq.{take-suc, take-suc-set, take_at, drop_at, take-length, drop-length, drop-drop}
+use lib.ListN.{length, get_or, take, drop, length-append, drop_of_length-le}
+use lib.Seq.{take_at, drop_at, take-length, drop-length, drop-drop}
 use borrow.Rule.Slice.PartMut.{put_mid}
 use Rattle.lifting.specs.Inner.Within.{AllWithin, Within}
 use Rattle.dct.specs.Block.{rows, spaced, column, row, fdct8, input_order}
@@ -66,11 +66,3 @@ rows_all f i out out₀ l k h e =
     let q : i ≡ 8 = omega arith in
     e ∙ ap (λ (n : ℕ). rows f n ++ drop (8 * n) out₀) q
     ∙ ap (λ (y : List ℤ). rows f 8 ++ y) (drop_of_length-le out₀ {i = 64} (omega arith)) ∙ append-nil (rows f 8)
-
--- ---- a copy, one more at a time
-
-pub copied_more : (x out : List ℤ) (i : ℕ) (w : ℤ) → i < length x → length out ≡ length x → w ≡ get_or x i (pos 0) → take i out ≡ take i x
-    → take (i + 1) (set out i w) ≡ take (i + 1) x
-copied_more x out i w l e p h =
-    let q : i < length out = omega arith in
-    rw (add-one, take-suc-set out i w q, take-suc x i (pos 0) l, h, p)

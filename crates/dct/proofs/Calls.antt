@@ -37,14 +37,29 @@ module _ (n : ℕ) (given : List ℤ) (p : ℕ) where
 
 -- ---- the answer, and what is in out
 
-module _ (n : ℕ) (f : List ℤ → List ℤ) (given out : List ℤ) where
-  pub accepted : block_suits n given (length out) ≡ true → (transform_refusal n given out ≡ 0) × (out_after n f given out ≡ f given)
-  unfolding transform_refusal out_after
-  accepted h = (rw h, rw h)
+module _ (n : ℕ) (given out : List ℤ) where
+  pub taken_zero : block_suits n given (length out) ≡ true → transform_refusal n given out ≡ 0
+  unfolding transform_refusal
+  taken_zero h = rw h
 
-  pub refused : block_suits n given (length out) ≡ false → (transform_refusal n given out ≡ value_no) × (out_after n f given out ≡ out)
-  unfolding transform_refusal out_after
-  refused h = (rw h, rw h)
+  pub refused_twelve : block_suits n given (length out) ≡ false → transform_refusal n given out ≡ value_no
+  unfolding transform_refusal
+  refused_twelve h = rw h
+
+module _ (n : ℕ) (f : List ℤ → List ℤ) (given out : List ℤ) where
+  pub taken_after : block_suits n given (length out) ≡ true → out_after n f given out ≡ f given
+  unfolding out_after
+  taken_after h = rw h
+
+  pub refused_after : block_suits n given (length out) ≡ false → out_after n f given out ≡ out
+  unfolding out_after
+  refused_after h = rw h
+
+  accepted : block_suits n given (length out) ≡ true → (transform_refusal n given out ≡ 0) × (out_after n f given out ≡ f given)
+  accepted h = (taken_zero n given out h, taken_after h)
+
+-- what a call learns of the test of what it is given
+pub ruleset call_steps = (taken, taken_zero, refused_twelve, taken_after, refused_after, length_fdct8x8, transform_undo)
 
 -- ---- the calls one after the other
 

@@ -145,6 +145,7 @@ pub fn transpose(x: &[i32], out: &mut [i32])
 }
 
 // Row i goes back to column i, for each of the eight.
+#[tactic(auto, unfolding(crate::specs::Block::idct8_rows))]
 pub fn idct8_rows(x: &[i32], out: &mut [i32])
     requires x_len { length x.now ≡ block_size }
     requires out_len { length out.old ≡ block_size }

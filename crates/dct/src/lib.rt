@@ -49,6 +49,7 @@ fn block_suits(given: &[i32], places: usize, limit: i32) -> bool
 }
 
 // The transform, for a caller who knows that the block is in range.
+#[tactic(auto, using(crate::proofs::Bound::two_rounds, crate::proofs::Round::length_fdct8_columns), unfolding(crate::specs::Block::fdct8x8))]
 pub fn fdct8x8(block: &[i32]) -> [i32; BLOCK_SIZE]
     requires block_len { length block.now ≡ block_size }
     requires all_within { AllWithin forward_limit block.now }
@@ -58,6 +59,7 @@ pub fn fdct8x8(block: &[i32]) -> [i32; BLOCK_SIZE]
     fdct8_columns(&z)
 }
 
+#[tactic(auto, using(crate::proofs::Bound::two_rounds), unfolding(crate::specs::Block::idct8x8))]
 fn idct8x8(coefs: &[i32], out: &mut [i32])
     requires coefs_len { length coefs.now ≡ block_size }
     requires out_len { length out.old ≡ block_size }
@@ -70,6 +72,7 @@ fn idct8x8(coefs: &[i32], out: &mut [i32])
 }
 
 // The transform of a block into `out`: 0, or 12 and nothing altered.
+#[tactic(auto, using(crate::proofs::Calls::call_steps))]
 pub fn forward(block: &[i32], out: &mut [i32]) -> u8
     ensures answer { result ≡ transform_refusal forward_limit block.now out.old }
     ensures content { out.new ≡ out_after forward_limit Block.fdct8x8 block.now out.old }
@@ -83,6 +86,7 @@ pub fn forward(block: &[i32], out: &mut [i32]) -> u8
 }
 
 // The one block that the transform carries to the coefficients, into `out`: 0, or 12 and nothing altered.
+#[tactic(auto, using(crate::proofs::Calls::call_steps))]
 pub fn inverse(coefs: &[i32], out: &mut [i32]) -> u8
     ensures answer { result ≡ transform_refusal inverse_limit coefs.now out.old }
     ensures content { out.new ≡ out_after inverse_limit Block.idct8x8 coefs.now out.old }
