@@ -62,6 +62,7 @@ pub fn fdct8(x: &[i32], i: usize, out: &mut [i32])
 }
 
 // Column i goes to row i, for each of the eight.
+#[tactic(auto, using(crate::proofs::Blocks::row_steps))]
 pub fn fdct8_columns_into(x: &[i32], out: &mut [i32])
     requires x_len { length x.now ≡ block_size }
     requires out_len { length out.old ≡ block_size }
@@ -110,6 +111,7 @@ pub fn idct8(x: &[i32], i: usize, out: &mut [i32])
 }
 
 // Each row through the inverse pass.
+#[tactic(auto, using(crate::proofs::Blocks::row_steps, crate::proofs::Round::length_idct8))]
 pub fn idct8_each_row(x: &[i32], out: &mut [i32])
     requires x_len { length x.now ≡ block_size }
     requires out_len { length out.old ≡ block_size }
@@ -133,6 +135,7 @@ pub fn transpose_row(x: &[i32], i: usize, out: &mut [i32])
     store(c, out);
 }
 
+#[tactic(auto, using(crate::proofs::Blocks::row_steps))]
 pub fn transpose(x: &[i32], out: &mut [i32])
     requires x_len { length x.now ≡ block_size }
     requires out_len { length out.old ≡ block_size }
