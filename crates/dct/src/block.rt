@@ -13,22 +13,14 @@ pub fn store(r: T8, out: &mut [i32])
     requires { 8 ≤ length out.old }
     ensures { out.new ≡ vals r ++ drop 8 out.old }
 {
-    let y0 = r.t0;
-    let y1 = r.t1;
-    let y2 = r.t2;
-    let y3 = r.t3;
-    let y4 = r.t4;
-    let y5 = r.t5;
-    let y6 = r.t6;
-    let y7 = r.t7;
-    out[0] = y0;
-    out[1] = y1;
-    out[2] = y2;
-    out[3] = y3;
-    out[4] = y4;
-    out[5] = y5;
-    out[6] = y6;
-    out[7] = y7;
+    out[0] = r.t0;
+    out[1] = r.t1;
+    out[2] = r.t2;
+    out[3] = r.t3;
+    out[4] = r.t4;
+    out[5] = r.t5;
+    out[6] = r.t6;
+    out[7] = r.t7;
 }
 
 // Eight numbers of a block, each `by` places after the one before: a column by 8, a row by 1.
@@ -69,6 +61,7 @@ pub fn fdct8_columns_into(x: &[i32], out: &mut [i32])
     requires all_within { AllWithin run_limit x.now }
     ensures { out.new ≡ Block.fdct8_columns x.now }
 {
+    // by index: column i of one block and row i of the other are taken together
     for i in 0..BLOCK_SIDE {
         let at = BLOCK_SIDE * i;
         fdct8(x, i, &mut out[at..]);
@@ -118,6 +111,7 @@ pub fn idct8_each_row(x: &[i32], out: &mut [i32])
     requires all_within { AllWithin undo_limit x.now }
     ensures { out.new ≡ Block.rows (λ i. Block.idct8 (Block.row i x.now)) block_side }
 {
+    // by index: row i of both blocks is taken together
     for i in 0..BLOCK_SIDE {
         let at = BLOCK_SIDE * i;
         idct8(x, i, &mut out[at..]);
@@ -141,6 +135,7 @@ pub fn transpose(x: &[i32], out: &mut [i32])
     requires out_len { length out.old ≡ block_size }
     ensures { out.new ≡ Block.transposed x.now }
 {
+    // by index: column i of one block and row i of the other are taken together
     for i in 0..BLOCK_SIDE {
         let at = BLOCK_SIDE * i;
         transpose_row(x, i, &mut out[at..]);
