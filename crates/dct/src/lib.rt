@@ -3,7 +3,7 @@
 
 mod block;
 
-ghost use Rattle.std.specs.Prelude.{◌≡◌, T, leb, nat_abs, length};
+ghost use Rattle.std.specs.Prelude.{◌≡◌, T, leb, nat_abs, length, Ok};
 ghost use Rattle.std.specs.Int.Signed.{non_neg};
 ghost use Rattle.dct.specs.Limits.{block_size, forward_limit, inverse_limit};
 ghost use Rattle.lifting.specs.Inner.Within.{AllWithin};
@@ -11,6 +11,7 @@ ghost use Rattle.dct.specs.Block as Block;
 ghost use Rattle.dct.specs.Call.{all_within, block_suits, transform_refusal, out_after};
 
 use crate::block::{fdct8_columns, idct8_rows};
+use refusal::Refusal;
 
 // The side of a block, its places, and the largest sizes that the two calls take. specs/Limits.antt has the same for definitions.
 pub const BLOCK_SIDE: usize = 8;
@@ -71,30 +72,29 @@ fn idct8x8(coefs: &[i32], out: &mut [i32])
     idct8_rows(&z, out);
 }
 
-// The transform of a block into `out`: 0, or 12 and nothing altered.
+// The transform of a block into `out`, or 12 and nothing altered.
 #[tactic(auto, using(crate::proofs::Calls::call_steps))]
-pub fn forward(block: &[i32], out: &mut [i32]) -> u8
+pub fn forward(block: &[i32], out: &mut [i32]) -> Result<(), Refusal>
     ensures answer { result ≡ transform_refusal forward_limit block.now out.old }
     ensures content { out.new ≡ out_after forward_limit Block.fdct8x8 block.now out.old }
 {
-    if block_suits(block, out.len(), FORWARD_LIMIT) {
-        let y = fdct8x8(block);
-        out.copy_from_slice(&y);
-        return 0;
+    if !block_suits(block, out.len(), FORWARD_LIMIT) {
+        return Err(Refusal::Value);
     }
-    refusal::VALUE
+    out.copy_from_slice(&fdct8x8(block));
+    Ok(())
 }
 
-// The one block that the transform carries to the coefficients, into `out`: 0, or 12 and nothing altered.
+// The one block that the transform carries to the coefficients, into `out`, or 12 and nothing altered.
 #[tactic(auto, using(crate::proofs::Calls::call_steps))]
-pub fn inverse(coefs: &[i32], out: &mut [i32]) -> u8
+pub fn inverse(coefs: &[i32], out: &mut [i32]) -> Result<(), Refusal>
     ensures answer { result ≡ transform_refusal inverse_limit coefs.now out.old }
     ensures content { out.new ≡ out_after inverse_limit Block.idct8x8 coefs.now out.old }
-    ensures carried { result ≡ 0 → Block.fdct8x8 out.new ≡ coefs.now }
+    ensures carried { result ≡ Ok tt → Block.fdct8x8 out.new ≡ coefs.now }
 {
-    if block_suits(coefs, out.len(), INVERSE_LIMIT) {
-        idct8x8(coefs, out);
-        return 0;
+    if !block_suits(coefs, out.len(), INVERSE_LIMIT) {
+        return Err(Refusal::Value);
     }
-    refusal::VALUE
+    idct8x8(coefs, out);
+    Ok(())
 }
