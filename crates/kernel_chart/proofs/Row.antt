@@ -6,8 +6,8 @@ use Prim.Native.Nat.{ℕ, ◌<◌}
 use Rattle.std.proofs.Common.{◌≢◌}
 use native.Mathlib.Omega.{arith}
 use lib.ListN.{length, get_or}
-use Rattle.refusal.specs.Numbers.{height_no}
-use Rattle.kernel_chart.specs.declared.Charted.TheVariants.{Refused}
+use Rattle.std.specs.Prelude.{Err}
+use Rattle.refusal.specs.declared.Refusal.TheVariants.{Height}
 use Rattle.kernel_chart.specs.Rows.{chart}
 use Rattle.kernel_chart.specs.Chart.{listed, kernel_of, charted_of, taps_after, answer_by, after_by}
 use Rattle.kernel_chart.specs.Inner.Flat.{kernels_in}
@@ -23,7 +23,7 @@ module _ (height : ℕ) (old : List ℕ) (none : place_in chart height ≡ 14) w
   unfolding listed
   not_listed = nowhere chart height (none ∙ sym rows_count)
 
-  pub unlisted_answer : charted_of height old ≡ Refused height_no
+  pub unlisted_answer : charted_of height old ≡ Err Height
   unfolding charted_of
   unlisted_answer = rw (unlisted_fourteen height (length old) not_listed)
 

@@ -10,12 +10,7 @@ ghost use Rattle.kernel_chart.specs.Inner.Room.{room_refusal};
 
 mod rows;
 
-// What the call answers: how many taps it wrote, or the refusal.
-#[derive(Clone, Copy, Debug, PartialEq, Eq)]
-pub enum Charted {
-    Taps(usize),
-    Refused(u8),
-}
+use refusal::Refusal;
 
 // The height of each row.
 #[tactic(auto, unfolding(crate::specs::Rows::chart))]
@@ -66,28 +61,28 @@ fn kernel_at(k: usize) -> &'static [u16]
     &all_taps()[from..end]
 }
 
-// Writes these taps to the first places of `taps`, where these are enough.
-fn put(ker: &[u16], taps: &mut [u16]) -> Charted
+// Writes these taps to the first places of `taps`, where these are enough, and counts them.
+fn put(ker: &[u16], taps: &mut [u16]) -> Result<usize, Refusal>
     ensures value { result ≡ answer_by (room_refusal (length ker.now) (length taps.old)) (length ker.now) }
     ensures taps_after { taps.new ≡ after_by (room_refusal (length ker.now) (length taps.old)) ker.now taps.old }
 {
     let n = ker.len();
     if taps.len() < n {
-        return Charted::Refused(refusal::SCRATCH);
+        return Err(Refusal::Scratch);
     }
     taps[..n].copy_from_slice(ker);
-    Charted::Taps(n)
+    Ok(n)
 }
 
-// The kernel for planes of this height, to the first places of `taps`.
+// The kernel for planes of this height, to the first places of `taps`: how many taps it has.
 #[tactic(auto, using(crate::proofs::Row::row_facts))]
-pub fn kernel_for(height: usize, taps: &mut [u16]) -> Charted
+pub fn kernel_for(height: usize, taps: &mut [u16]) -> Result<usize, Refusal>
     ensures value { result ≡ charted_of height taps.old }
     ensures taps_after { taps.new ≡ taps_after height taps.old }
 {
     let k = find(height);
     if k == rows::COUNT {
-        return Charted::Refused(refusal::HEIGHT);
+        return Err(Refusal::Height);
     }
     put(kernel_at(k), taps)
 }
