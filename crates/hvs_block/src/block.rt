@@ -35,6 +35,7 @@ fn energies(d1: &[i32], d2: &[i32], mask: &[[f64; BLOCK_SIDE]; BLOCK_SIDE]) -> E
 {
     let mut s = 0.0;
     let mut t = 0.0;
+    // by index: two blocks and a table of rows are read at one place
     for k in 1..BLOCK_SIZE {
         let m = mask[k / BLOCK_SIDE][k % BLOCK_SIDE];
         s = s + square(d1[k]) * m;
@@ -44,12 +45,13 @@ fn energies(d1: &[i32], d2: &[i32], mask: &[[f64; BLOCK_SIDE]; BLOCK_SIDE]) -> E
 }
 
 // The mask of a block, of its energy and the ratio of its variances.
+#[tactic(auto, unfolding(crate::specs::Block::mask_for))]
 fn mask_for(e: f64, r: f64) -> f64
     ensures { result ≡ Block.mask_for e r }
 {
     match number::root(e * r) {
         Rooted::Root(s) => s / 32.0,
-        Rooted::Refused(_) => 0.0 / 0.0,
+        Rooted::Refused(_) => f64::NAN,
     }
 }
 
@@ -62,6 +64,7 @@ fn larger(m1: f64, m2: f64) -> f64
 }
 
 // The mask of two blocks p1 and p2, of which d1 and d2 are the coefficients.
+#[tactic(auto, unfolding(crate::specs::Block::mask_of_both))]
 fn mask_of_both(
     p1: &[i32],
     p2: &[i32],
@@ -128,6 +131,7 @@ fn errors(
     ensures { result ≡ Block.errors d1.now d2.now csf.now mask.now m so_far }
 {
     let mut s = so_far;
+    // by index: two blocks and two tables of rows are read at one place
     for k in 0..BLOCK_SIZE {
         let err = distance(d1[k], d2[k]);
         s = s
