@@ -20,7 +20,7 @@ use plane::{Layout, Size};
 const STEP: usize = 7;
 
 // What asking for a score answers.
-#[derive(Clone, Copy)]
+#[derive(Clone, Copy, Debug, PartialEq)]
 pub enum Hvs {
     Score(f64),
     Refused(u8),
@@ -34,7 +34,7 @@ fn blocks_per_side(side: usize) -> usize
     (side - BLOCK_SIDE) / STEP + 1
 }
 
-// One row of blocks, which begins at row y of the planes, added to `res`.
+// One row of blocks, which begins at row y of the planes, added to `so_far`.
 fn along_row(
     a8: &[u8],
     a16: &[u16],
@@ -44,15 +44,15 @@ fn along_row(
     y: usize,
     csf: &[[f64; BLOCK_SIDE]; BLOCK_SIDE],
     mask: &[[f64; BLOCK_SIDE]; BLOCK_SIDE],
-    res: f64,
+    so_far: f64,
 ) -> f64
     requires block_side_le_width { (block_side ≤ layout.size.width) × (y + block_side ≤ layout.size.height) }
     requires bounded_pair { BoundedPair sample_limit (planes layout a8 a16 b8 b16) }
     ensures { result ≡ along_row (planes layout a8.entry a16.entry b8.entry b16.entry) y
-        csf.now mask.now res (blocks_per_side layout.size.width) }
+        csf.now mask.now so_far (blocks_per_side layout.size.width) }
 {
     let n = blocks_per_side(layout.size.width);
-    let mut s = res;
+    let mut s = so_far;
     for x in 0..n {
         s = block::block_at(a8, a16, b8, b16, layout, STEP * x, y, csf, mask, s);
     }

@@ -31,21 +31,21 @@ module _ {size : Size} {p : Plane} {x y : ℕ} (k : ℕ) (f : BlockFits size x y
 pub loop-k-init : goal.loop-k-init
 loop-k-init c = (search rules, search rules, filled_none _ _)
 
-pub overflow_mul-y : goal.overflow_mul-y
-overflow_mul-y c =
+pub overflow_mul-row : goal.overflow_mul-row
+overflow_mul-row c =
     let p = place_inside c.loop-k.k c.requires.block_fits c.requires.bounded (omega arith) in
     omega (arith, p, count_fits c.args.size.wide c.args.bytes.now c.args.words.now (omega arith) (omega arith))
 
-pub overflow_add-y-in-loop-k : goal.overflow_add-y-in-loop-k
-overflow_add-y-in-loop-k c =
+pub overflow_add-row-in-loop-k : goal.overflow_add-row-in-loop-k
+overflow_add-row-in-loop-k c =
     let p = place_inside c.loop-k.k c.requires.block_fits c.requires.bounded (omega arith) in
     omega (arith, p, count_fits c.args.size.wide c.args.bytes.now c.args.words.now (omega arith) (omega arith))
 
 pub sample-requires : goal.sample-requires
 sample-requires c = place_inside c.loop-k.k c.requires.block_fits c.requires.bounded (omega arith)
 
-pub overflow_cast-out : goal.overflow_cast-out
-overflow_cast-out c = fits (pos c.sample.result) (rw c.sample.ensures (place_small c.loop-k.k c.requires.block_fits c.requires.bounded (omega arith)))
+pub overflow_cast-place : goal.overflow_cast-place
+overflow_cast-place c = fits (pos c.sample.result) (rw c.sample.ensures (place_small c.loop-k.k c.requires.block_fits c.requires.bounded (omega arith)))
 
 pub loop-k-preserved : goal.loop-k-preserved
 loop-k-preserved c =
