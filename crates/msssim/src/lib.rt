@@ -22,7 +22,7 @@ pub const LEAST_SIDE: usize = 16;
 const TAPS: usize = 9;
 
 // ssim and cs of the five scales, the first the planes themselves.
-#[derive(Clone, Copy)]
+#[derive(Clone, Copy, Debug, PartialEq)]
 pub struct Pairs {
     pub ssim1: f64,
     pub cs1: f64,
@@ -37,7 +37,7 @@ pub struct Pairs {
 }
 
 // What MS-SSIM answers.
-#[derive(Clone, Copy)]
+#[derive(Clone, Copy, Debug, PartialEq)]
 pub enum MsSsim {
     Five(Pairs),
     Refused(u8),
@@ -60,13 +60,14 @@ pub fn samples_needed(width: usize, height: usize) -> usize
 }
 
 // None of the three that are lent is too short.
+#[tactic(auto, unfolding(crate::specs::Scratch::scratch_suits))]
 fn scratch_suits(size: Size, scratch: &[i64], a32: &[u32], b32: &[u32]) -> bool
     requires { (size.width ≤ side_limit) × (size.height ≤ side_limit) }
     ensures { result ≡ scratch_suits size (scratch_of scratch.now a32.now b32.now) }
 {
     let places = places_needed(size.width);
     let samples = samples_needed(size.width, size.height);
-    (places <= scratch.len()) & ((samples <= a32.len()) & (samples <= b32.len()))
+    (places <= scratch.len()) && (samples <= a32.len()) && (samples <= b32.len())
 }
 
 // The lowest of 1 2 3 4 5 6 8 that applies, and 0 where none does.

@@ -17,8 +17,7 @@ use plane::Layout;
 
 // How many scales there are, and how many numbers their pairs are.
 const SCALES: usize = 5;
-
-const NUMBERS: usize = 2 * SCALES;
+pub const NUMBERS: usize = 2 * SCALES;
 
 // The pairs of a scale and of the `left - 1` below it: this one is scored, the planes are downscaled in place, and the same is done to
 // what is left. `max` is the scale's largest sample.
