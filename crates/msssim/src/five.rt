@@ -3,8 +3,7 @@ ghost use Rattle.std.specs.Prelude.{◌≡◌, ◌*◌, length};
 ghost use Rattle.msssim.specs.Scale.{scale_count};
 ghost use Rattle.msssim.specs.Answer.{all_finite, five_of};
 
-use crate::scales::NUMBERS;
-use crate::{MsSsim, Pairs};
+use crate::{MsSsim, Pairs, scales::NUMBERS};
 
 // None is infinite or not a number.
 fn all_finite(l: &[f64]) -> bool

@@ -44,6 +44,7 @@ pub enum MsSsim {
 }
 
 // How many 64-bit places are needed: those of SSIM under a kernel of nine taps.
+#[tactic(auto, unfolding(kernel::specs::Kernel::most_taps))]
 pub fn places_needed(width: usize) -> usize
     requires { width ≤ side_limit }
     ensures { result ≡ places_needed width }
@@ -52,6 +53,7 @@ pub fn places_needed(width: usize) -> usize
 }
 
 // How many 32-bit places are needed for each plane: one to a sample.
+#[tactic(auto, using(plane::proofs::Limits::area_fits))]
 pub fn samples_needed(width: usize, height: usize) -> usize
     requires { (width ≤ side_limit) × (height ≤ side_limit) }
     ensures { result ≡ samples_needed width height }

@@ -15,12 +15,13 @@ ghost use Rattle.msssim.specs.Inner.Sound.{Sound};
 use crate::{MsSsim, five, scale};
 use plane::Layout;
 
-// How many scales there are, and how many numbers their pairs are.
+// How many scales there are.
 const SCALES: usize = 5;
+// How many numbers their pairs are.
 pub const NUMBERS: usize = 2 * SCALES;
 
 // The pairs of a scale and of the `left - 1` below it: this one is scored, the planes are downscaled in place, and the same is done to
-// what is left. `max` is the scale's largest sample.
+// what is left. `max` is the scale's largest sample. It calls itself, as the definition does: a loop would have to say what is left too.
 fn pairs_from(
     a32: &mut [u32],
     b32: &mut [u32],
