@@ -32,9 +32,7 @@ fn held(kernel: &[u16]) -> [u16; 255]
     ensures { result ≡ held_kernel kernel.now }
 {
     let mut places = [0u16; 255];
-    for k in 0..kernel.len() {
-        places[k] = kernel[k];
-    }
+    places[..kernel.len()].copy_from_slice(kernel);
     places
 }
 

@@ -31,7 +31,7 @@ pub struct State {
 }
 
 // What begin and feed answer.
-#[derive(Clone, Copy)]
+#[derive(Clone, Copy, Debug, PartialEq, Eq)]
 pub enum Took {
     Yes,
     Refused(u8),

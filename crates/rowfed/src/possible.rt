@@ -9,8 +9,8 @@ fn all_zero(l: &[u16]) -> bool
     ensures { result ≡ zeros l.now }
 {
     let mut ok = true;
-    for k in 0..l.len() {
-        ok = ok & (l[k] == 0);
+    for k in l {
+        ok &= *k == 0;
     }
     ok
 }
@@ -25,19 +25,11 @@ fn places_suit(places: &[u16], taps: usize) -> bool
     kernel::is_lawful(&places[..taps]) && all_zero(&places[taps..])
 }
 
-// The same of so many places as a state has.
-fn held_suits(places: &[u16; 255], taps: usize) -> bool
-    ensures { result ≡ places_suit places.now taps }
-{
-    places_suit(places, taps)
-}
-
 // The same of a state.
 fn kernel_suits(s: State) -> bool
     ensures { result ≡ places_suit s.kernel s.taps }
 {
-    let places = s.kernel;
-    held_suits(&places, s.taps)
+    places_suit(&s.kernel, s.taps)
 }
 
 // No more rows than the height, and as many scored as so many rows allow.

@@ -151,37 +151,18 @@ fn take_under(
     )
 }
 
-// The same, where they are the state's own places.
-fn take_held(
-    a8: &[u8],
-    a16: &[u16],
-    b8: &[u8],
-    b16: &[u16],
-    layout: Layout,
-    state: State,
-    kernel: &[u16; 255],
-    scratch: &mut [i64],
-) -> Totals
-    requires kernel_value { kernel.now ≡ state.kernel }
-    requires sound_feed { SoundFeed state (planes layout a8 a16 b8 b16) (length scratch.old) }
-    ensures value { result ≡ (taken_in state (planes layout a8.entry a16.entry b8.entry b16.entry) scratch.old).totals }
-    ensures scratch_after { scratch.new ≡ (taken_in state (planes layout a8.entry a16.entry b8.entry b16.entry)
-        scratch.old).places ++ drop (used_places state) scratch.old }
-{
-    take_under(a8, a16, b8, b16, layout, state, kernel, scratch)
-}
-
 // The state with so many more rows, and these sums.
 fn with_rows(state: State, rows: usize, sums: Totals) -> State
     requires { (state.rows + rows ≤ state.height) × (state.height ≤ side_limit) }
     ensures { result ≡ with_rows state rows sums }
 {
     let received = state.rows + rows;
-    let mut next = state;
-    next.rows = received;
-    next.scored = row_ring::scored_after(received, state.height, state.taps / 2);
-    next.sums = sums;
-    next
+    State {
+        rows: received,
+        scored: row_ring::scored_after(received, state.height, state.taps / 2),
+        sums,
+        ..state
+    }
 }
 
 // Feed, of either sample width.
@@ -206,8 +187,7 @@ pub fn feed(
             state,
         };
     }
-    let kernel = state.kernel;
-    let sums = take_held(a8, a16, b8, b16, layout, state, &kernel, scratch);
+    let sums = take_under(a8, a16, b8, b16, layout, state, &state.kernel, scratch);
     Fed {
         answer: Took::Yes,
         state: with_rows(state, layout.size.height, sums),

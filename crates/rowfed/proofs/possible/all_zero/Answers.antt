@@ -15,5 +15,5 @@ loop-k-preserved c = (search rules, rw (all_more, ← c.loop-k.invariant.1))
 
 pub returns : goal.returns
 unfolding zeros
-returns c = let e : c.loop-k.k ≡ length c.args.l.now = omega arith in
+returns c = let e : c.loop-k.k-index ≡ length c.args.l.now = omega arith in
     rw e at c.loop-k.invariant.1

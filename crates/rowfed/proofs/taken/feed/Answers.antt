@@ -11,8 +11,8 @@ returns-then-no-ne0 c =
       scratch_after = rw (← c.refusal-no.ensures) (refused _ _ _ c.if-no-ne0.true);
     }
 
-pub take_held-sums-requires : goal.take_held-sums-requires
-take_held-sums-requires c =
+pub take_under-sums-requires : goal.take_under-sums-requires
+take_under-sums-requires c =
     record { kernel_value = refl; sound_feed = sound_feed _ _ _ c.requires.0 (taken _ _ _ c.refusal-no.ensures c.if-no-ne0.false) }
 
 pub with_rows-requires : goal.with_rows-requires
@@ -22,7 +22,7 @@ with_rows-requires c =
 
 pub returns : goal.returns
 returns c =
-    let t = c.take_held-sums.ensures in
+    let t = c.take_under-sums.ensures in
     record {
       value = rw (sym c.refusal-no.ensures ∙ c.if-no-ne0.false) (rw (c.with_rows.ensures, t.value));
       scratch_after = rw (sym c.refusal-no.ensures ∙ c.if-no-ne0.false) t.scratch_after;
