@@ -1,14 +1,8 @@
 -- The zeros past a kernel in the places of a state. Assumes nothing.
-use mathlib.Core.Path.{◌≡◌, refl}
-use mathlib.Core.List.{List, ◌++◌}
-use Prim.Native.Nat.{ℕ, zero, suc, ◌+◌, ◌-◌, ◌≤◌, ◌<◌}
-use native.Mathlib.Nat.{le_refl}
+use mathlib.Core.Path.{◌≡◌}
+use Prim.Native.Nat.{ℕ, zero, suc, ◌-◌}
 use native.Mathlib.Omega.{arith}
-use lib.ListN.{length, get_or, set, take, drop, replicate, length-replicate}
-use lib.Seq.{take_all}
-use Rattle.kernel.specs.Kernel.{most_taps}
-use Rattle.kernel.proofs.Copy.{copied_more}
-use Rattle.rowfed.specs.State.{held_kernel}
+use lib.ListN.{drop, replicate}
 
 -- zeros past a kernel
 pub drop_zeros : (n m : ℕ) → drop {A = ℕ} n (replicate m 0) ≡ replicate (m - n) 0

@@ -48,6 +48,7 @@ fn no_sums() -> Totals
 }
 
 // Beside a refusal: a state that no call takes.
+#[tactic(auto, unfolding(kernel::specs::Kernel::most_taps))]
 fn no_state() -> State
     ensures { result ≡ no_state }
 {

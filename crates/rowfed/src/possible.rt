@@ -5,6 +5,7 @@ ghost use Rattle.rowfed.specs.State.{zeros, places_suit, counts_suit, possible};
 use crate::State;
 
 // All of a list is 0.
+#[tactic(auto, using(plane::proofs::All::all_none, plane::proofs::All::all_more), unfolding(crate::specs::State::zeros))]
 fn all_zero(l: &[u16]) -> bool
     ensures { result ≡ zeros l.now }
 {
@@ -33,6 +34,7 @@ fn kernel_suits(s: State) -> bool
 }
 
 // No more rows than the height, and as many scored as so many rows allow.
+#[tactic(auto, unfolding(crate::specs::State::counts_suit))]
 fn counts_suit(s: State) -> bool
     ensures { result ≡ counts_suit s }
 {
@@ -43,6 +45,7 @@ fn counts_suit(s: State) -> bool
 }
 
 // Whether a begin and feeds of this sample width can give these numbers. The running sums are not judged.
+#[tactic(auto, unfolding(crate::specs::State::possible))]
 pub fn is_possible(wide: bool, s: State) -> bool
     ensures { result ≡ possible wide s }
 {

@@ -1,5 +1,5 @@
 -- `held` is the taps, then the zeros past them. Assumes nothing.
-use Rattle.std.proofs.Common.{◌≡◌, ◌≤◌, ℕ, length, sym, arith}
+use Rattle.std.proofs.Common.{◌≤◌, length, sym, arith}
 use lib.Seq.{length-take-le}
 use Rattle.kernel.specs.Kernel.{most_taps}
 use Rattle.rowfed.proofs.Held.{drop_zeros}
