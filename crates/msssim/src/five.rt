@@ -3,9 +3,11 @@ ghost use Rattle.std.specs.Prelude.{◌≡◌, ◌*◌, length};
 ghost use Rattle.msssim.specs.Scale.{scale_count};
 ghost use Rattle.msssim.specs.Answer.{all_finite, five_of};
 
-use crate::{MsSsim, Pairs, scales::NUMBERS};
+use crate::scales::NUMBERS;
+use crate::{MsSsim, Pairs};
 
 // None is infinite or not a number.
+#[tactic(auto, using(plane::proofs::All::all_none, plane::proofs::All::all_more), unfolding(crate::specs::Answer::all_finite))]
 fn all_finite(l: &[f64]) -> bool
     ensures { result ≡ all_finite l.now }
 {
