@@ -8,7 +8,6 @@ ghost use Rattle.hvs_block.specs.Inner.Levels.{Samples};
 
 use crate::variance;
 use dct::{BLOCK_SIDE, BLOCK_SIZE};
-use number::Rooted;
 
 // The square of a coefficient. By what the transform promises of its size, 32 bits may not hold it.
 fn square(v: i32) -> f64
@@ -49,10 +48,7 @@ fn energies(d1: &[i32], d2: &[i32], mask: &[[f64; BLOCK_SIDE]; BLOCK_SIDE]) -> E
 fn mask_for(e: f64, r: f64) -> f64
     ensures { result ≡ Block.mask_for e r }
 {
-    match number::root(e * r) {
-        Rooted::Root(s) => s / 32.0,
-        Rooted::Refused(_) => f64::NAN,
-    }
+    number::root(e * r).unwrap_or(f64::NAN) / 32.0
 }
 
 // The larger of two masks.
