@@ -44,7 +44,6 @@ fn energies(d1: &[i32], d2: &[i32], mask: &[[f64; BLOCK_SIDE]; BLOCK_SIDE]) -> E
 }
 
 // The mask of a block, of its energy and the ratio of its variances.
-#[tactic(auto, unfolding(crate::specs::Block::mask_for))]
 fn mask_for(e: f64, r: f64) -> f64
     ensures { result ≡ Block.mask_for e r }
 {

@@ -26,7 +26,7 @@ fn loaded(
     for (k, place) in out.iter_mut().enumerate() {
         let row = y + k / BLOCK_SIDE;
         let column = x + k % BLOCK_SIDE;
-        *place = plane::sample(bytes, words, size.wide, row * stride + column) as i32;
+        *place = plane::sample_of(bytes, words, size.wide, row * stride + column) as i32;
     }
     out
 }

@@ -56,8 +56,8 @@ fn store_row(
     for x in 0..layout.size.width {
         pair::put(
             to + x,
-            plane::sample(a8, a16, wide, first + x),
-            plane::sample(b8, b16, wide, second + x),
+            plane::sample_of(a8, a16, wide, first + x),
+            plane::sample_of(b8, b16, wide, second + x),
             s,
         );
     }
