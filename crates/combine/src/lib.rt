@@ -6,7 +6,7 @@ ghost use Rattle.std.specs.Prelude.{◌≡◌};
 ghost use Rattle.combine.specs.Combine.{weighted_sum, whole_weight, visual_score, combinable, combined_ssim_of, combined_hvs_of};
 
 // The scores of the three planes.
-#[derive(Clone, Copy)]
+#[derive(Clone, Copy, Debug, PartialEq)]
 pub struct Planar {
     pub y: f64,
     pub u: f64,
@@ -14,39 +14,44 @@ pub struct Planar {
 }
 
 // What combining SSIM answers: the weighted sum, and the weight that belongs to it.
-#[derive(Clone, Copy)]
+#[derive(Clone, Copy, Debug, PartialEq)]
 pub enum CombinedSsim {
     Sum { sum: f64, weight: f64 },
     Refused(u8),
 }
 
 // What combining PSNR-HVS answers.
-#[derive(Clone, Copy)]
+#[derive(Clone, Copy, Debug, PartialEq)]
 pub enum CombinedHvs {
     Score(f64),
     Refused(u8),
 }
 
 // Whether the weight is from 0 to 1 and the three numbers are finite.
+#[tactic(auto, unfolding(crate::specs::Combine::combinable))]
 fn combinable(c: f64, scores: Planar) -> bool
     ensures { result ≡ combinable c scores }
 {
-    let three = number::finite(scores.y) & number::finite(scores.u) & number::finite(scores.v);
-    (0.0 <= c) & (c <= 1.0) & three
+    // a range with `contains` was tried, and the proof did not close: the search does not look into what it promises of two doubles
+    let three = number::finite(scores.y) && number::finite(scores.u) && number::finite(scores.v);
+    0.0 <= c && c <= 1.0 && three
 }
 
+#[tactic(auto, unfolding(crate::specs::Combine::weighted_sum))]
 fn weighted_sum(c: f64, scores: Planar) -> f64
     ensures { result ≡ weighted_sum c scores }
 {
     scores.y + c * (scores.u + scores.v)
 }
 
+#[tactic(auto, unfolding(crate::specs::Combine::whole_weight))]
 fn whole_weight(c: f64) -> f64
     ensures { result ≡ whole_weight c }
 {
     1.0 + 2.0 * c
 }
 
+#[tactic(auto, unfolding(crate::specs::Combine::visual_score))]
 fn visual_score(c: f64, scores: Planar) -> f64
     ensures { result ≡ visual_score c scores }
 {
@@ -62,7 +67,7 @@ pub fn ssim(c: f64, scores: Planar) -> CombinedSsim
     }
     let sum = weighted_sum(c, scores);
     let weight = whole_weight(c);
-    if number::finite(sum) & number::finite(weight) {
+    if number::finite(sum) && number::finite(weight) {
         CombinedSsim::Sum { sum, weight }
     } else {
         CombinedSsim::Refused(refusal::NOT_FINITE)
