@@ -1,5 +1,6 @@
 pub mod Answer
 pub mod Better
+pub mod Called
 pub mod Combine
 pub mod Decibels
 pub mod Locate

@@ -2,55 +2,16 @@
 // written where the answer is 0, and as it was otherwise.
 ghost use Rattle.std.specs.Prelude.{◌≡◌, true, false};
 ghost use Rattle.refusal.specs.First.{answer_number};
-ghost use Rattle.plane.specs.Plane.{called};
+ghost use Rattle.fuavelino.specs.Called.{called};
 ghost use Rattle.hvs_block.specs.declared.Kind.TheVariants.{Luma, Cb, Cr};
 ghost use Rattle.psnr_hvs.specs.Score.{hvs_of};
 ghost use Rattle.fuavelino.specs.Answer.{written};
 
-use crate::put;
+use crate::{pair, put};
 use psnr_hvs::Kind;
 
-// PSNR-HVS of two planes of bytes of this kind: the answer as a number, with the score written.
-fn score8(
-    a: &[u8],
-    b: &[u8],
-    width: usize,
-    height: usize,
-    stride_a: usize,
-    stride_b: usize,
-    depth: u32,
-    kind: Kind,
-    score: &mut f64,
-) -> u8
-    ensures value { result ≡ answer_number (hvs_of (called false a.entry b.entry width height stride_a stride_b depth) kind) }
-    ensures score_after { score.new ≡ written (λ x. x) (hvs_of
-        (called false a.entry b.entry width height stride_a stride_b depth) kind) score.old }
-{
-    let answer = psnr_hvs::psnr_hvs8(a, b, width, height, stride_a, stride_b, depth, kind);
-    put(answer, score)
-}
-
-// The same of words.
-fn score16(
-    a: &[u16],
-    b: &[u16],
-    width: usize,
-    height: usize,
-    stride_a: usize,
-    stride_b: usize,
-    depth: u32,
-    kind: Kind,
-    score: &mut f64,
-) -> u8
-    ensures value { result ≡ answer_number (hvs_of (called true a.entry b.entry width height stride_a stride_b depth) kind) }
-    ensures score_after { score.new ≡ written (λ x. x) (hvs_of
-        (called true a.entry b.entry width height stride_a stride_b depth) kind) score.old }
-{
-    let answer = psnr_hvs::psnr_hvs16(a, b, width, height, stride_a, stride_b, depth, kind);
-    put(answer, score)
-}
-
 // PSNR-HVS of two y planes of bytes: 0, or the lowest of 1 2 3 4 5 6 9.
+#[tactic(auto, using(crate::proofs::Called::called_is))]
 #[unsafe(no_mangle)]
 pub extern "C" fn fuavelino_psnr_hvs_y8(
     a: &[u8],
@@ -66,20 +27,17 @@ pub extern "C" fn fuavelino_psnr_hvs_y8(
     ensures score_after { score.new ≡ written (λ x. x) (hvs_of
         (called false a.entry b.entry width height stride_a stride_b depth) Luma) score.old }
 {
-    score8(
-        a,
-        b,
-        width,
-        height,
-        stride_a,
-        stride_b,
-        depth,
-        Kind::Luma,
+    put(
+        psnr_hvs::psnr_hvs(
+            pair(a, b, width, height, stride_a, stride_b, depth),
+            Kind::Luma,
+        ),
         score,
     )
 }
 
 // The same of two u planes of bytes.
+#[tactic(auto, using(crate::proofs::Called::called_is))]
 #[unsafe(no_mangle)]
 pub extern "C" fn fuavelino_psnr_hvs_u8(
     a: &[u8],
@@ -95,20 +53,17 @@ pub extern "C" fn fuavelino_psnr_hvs_u8(
     ensures score_after { score.new ≡ written (λ x. x) (hvs_of
         (called false a.entry b.entry width height stride_a stride_b depth) Cb) score.old }
 {
-    score8(
-        a,
-        b,
-        width,
-        height,
-        stride_a,
-        stride_b,
-        depth,
-        Kind::Cb,
+    put(
+        psnr_hvs::psnr_hvs(
+            pair(a, b, width, height, stride_a, stride_b, depth),
+            Kind::Cb,
+        ),
         score,
     )
 }
 
 // The same of two v planes of bytes.
+#[tactic(auto, using(crate::proofs::Called::called_is))]
 #[unsafe(no_mangle)]
 pub extern "C" fn fuavelino_psnr_hvs_v8(
     a: &[u8],
@@ -124,20 +79,17 @@ pub extern "C" fn fuavelino_psnr_hvs_v8(
     ensures score_after { score.new ≡ written (λ x. x) (hvs_of
         (called false a.entry b.entry width height stride_a stride_b depth) Cr) score.old }
 {
-    score8(
-        a,
-        b,
-        width,
-        height,
-        stride_a,
-        stride_b,
-        depth,
-        Kind::Cr,
+    put(
+        psnr_hvs::psnr_hvs(
+            pair(a, b, width, height, stride_a, stride_b, depth),
+            Kind::Cr,
+        ),
         score,
     )
 }
 
 // The same of two y planes of words.
+#[tactic(auto, using(crate::proofs::Called::called_is))]
 #[unsafe(no_mangle)]
 pub extern "C" fn fuavelino_psnr_hvs_y16(
     a: &[u16],
@@ -153,20 +105,17 @@ pub extern "C" fn fuavelino_psnr_hvs_y16(
     ensures score_after { score.new ≡ written (λ x. x) (hvs_of
         (called true a.entry b.entry width height stride_a stride_b depth) Luma) score.old }
 {
-    score16(
-        a,
-        b,
-        width,
-        height,
-        stride_a,
-        stride_b,
-        depth,
-        Kind::Luma,
+    put(
+        psnr_hvs::psnr_hvs(
+            pair(a, b, width, height, stride_a, stride_b, depth),
+            Kind::Luma,
+        ),
         score,
     )
 }
 
 // The same of two u planes of words.
+#[tactic(auto, using(crate::proofs::Called::called_is))]
 #[unsafe(no_mangle)]
 pub extern "C" fn fuavelino_psnr_hvs_u16(
     a: &[u16],
@@ -182,20 +131,17 @@ pub extern "C" fn fuavelino_psnr_hvs_u16(
     ensures score_after { score.new ≡ written (λ x. x) (hvs_of
         (called true a.entry b.entry width height stride_a stride_b depth) Cb) score.old }
 {
-    score16(
-        a,
-        b,
-        width,
-        height,
-        stride_a,
-        stride_b,
-        depth,
-        Kind::Cb,
+    put(
+        psnr_hvs::psnr_hvs(
+            pair(a, b, width, height, stride_a, stride_b, depth),
+            Kind::Cb,
+        ),
         score,
     )
 }
 
 // The same of two v planes of words.
+#[tactic(auto, using(crate::proofs::Called::called_is))]
 #[unsafe(no_mangle)]
 pub extern "C" fn fuavelino_psnr_hvs_v16(
     a: &[u16],
@@ -211,15 +157,11 @@ pub extern "C" fn fuavelino_psnr_hvs_v16(
     ensures score_after { score.new ≡ written (λ x. x) (hvs_of
         (called true a.entry b.entry width height stride_a stride_b depth) Cr) score.old }
 {
-    score16(
-        a,
-        b,
-        width,
-        height,
-        stride_a,
-        stride_b,
-        depth,
-        Kind::Cr,
+    put(
+        psnr_hvs::psnr_hvs(
+            pair(a, b, width, height, stride_a, stride_b, depth),
+            Kind::Cr,
+        ),
         score,
     )
 }

@@ -7,7 +7,7 @@ ghost use Rattle.std.specs.Prelude.{◌≡◌, true, false, Result};
 ghost use Rattle.refusal.specs.declared.Refusal.{Refusal};
 ghost use Rattle.refusal.specs.First.{answer_number};
 ghost use Rattle.number.specs.Root.{root_of};
-ghost use Rattle.plane.specs.Plane.{called};
+ghost use Rattle.fuavelino.specs.Called.{called};
 ghost use Rattle.plane.specs.Tests.{pair_refusal};
 ghost use Rattle.fuavelino.specs.Answer.{written};
 ghost use Rattle.fuavelino.specs.Version.{version};
@@ -26,6 +26,7 @@ pub mod psnr_calls;
 pub mod rows_calls;
 pub mod ssim_calls;
 
+use plane::{Format, Pair, Plane};
 use refusal::Refusal;
 
 // The version: 0.1.0.
@@ -41,6 +42,39 @@ pub extern "C" fn fuavelino_version() -> u32
     ensures { result ≡ version }
 {
     10000 * MAJOR + 100 * MINOR + PATCH
+}
+
+// The two planes of a call, whose parameters come one by one.
+fn pair<'a, S>(
+    a: &'a [S],
+    b: &'a [S],
+    width: usize,
+    height: usize,
+    stride_a: usize,
+    stride_b: usize,
+    depth: u32,
+) -> Pair<'a, S>
+    ensures { result ≡ (record {
+        format = record { width = width; height = height; depth = depth };
+        a = record { samples = a.entry; stride = stride_a };
+        b = record { samples = b.entry; stride = stride_b } }) }
+{
+    let format = Format {
+        width,
+        height,
+        depth,
+    };
+    Pair {
+        format,
+        a: Plane {
+            samples: a,
+            stride: stride_a,
+        },
+        b: Plane {
+            samples: b,
+            stride: stride_b,
+        },
+    }
 }
 
 // Writes an answer that is one number, where there is one: 0, or the number of the refusal.
@@ -77,6 +111,7 @@ pub extern "C" fn fuavelino_root(x: f64, out: &mut f64) -> u8
 }
 
 // The lowest of 1 to 6 that applies to two planes of bytes, or 0. `least` is the least side that the caller takes, 0 where it takes any.
+#[tactic(auto, using(crate::proofs::Called::called_is))]
 #[unsafe(no_mangle)]
 pub extern "C" fn fuavelino_check8(
     a: &[u8],
@@ -90,12 +125,14 @@ pub extern "C" fn fuavelino_check8(
 ) -> u8
     ensures { result ≡ answer_number (pair_refusal (called false a.entry b.entry width height stride_a stride_b depth) least) }
 {
-    number_of(plane::check8(
-        a, b, width, height, stride_a, stride_b, depth, least,
+    number_of(plane::check(
+        pair(a, b, width, height, stride_a, stride_b, depth),
+        least,
     ))
 }
 
 // The same of words.
+#[tactic(auto, using(crate::proofs::Called::called_is))]
 #[unsafe(no_mangle)]
 pub extern "C" fn fuavelino_check16(
     a: &[u16],
@@ -109,7 +146,8 @@ pub extern "C" fn fuavelino_check16(
 ) -> u8
     ensures { result ≡ answer_number (pair_refusal (called true a.entry b.entry width height stride_a stride_b depth) least) }
 {
-    number_of(plane::check16(
-        a, b, width, height, stride_a, stride_b, depth, least,
+    number_of(plane::check(
+        pair(a, b, width, height, stride_a, stride_b, depth),
+        least,
     ))
 }

@@ -1,12 +1,13 @@
 // Where two planes differ, for other languages. Of what is lent for an answer only what the answer has is written; the rest is as it was.
 ghost use Rattle.std.specs.Prelude.{◌≡◌, true, false};
 ghost use Rattle.refusal.specs.First.{answer_number};
-ghost use Rattle.plane.specs.Plane.{called};
+ghost use Rattle.fuavelino.specs.Called.{called};
 ghost use Rattle.locate.specs.Where.{located_of};
 ghost use Rattle.locate.specs.Map.{mapped_of, map_after};
 ghost use Rattle.fuavelino.specs.Locate.{differs_written, row_written, column_written};
 ghost use Rattle.fuavelino.specs.Locate.{across_written, down_written};
 
+use crate::pair;
 use locate::{Place, Tiles};
 use refusal::Refusal;
 
@@ -38,6 +39,7 @@ fn put_place(
 }
 
 // The first place at which two planes of bytes differ: 0, or the lowest of 1 2 4 5 6.
+#[tactic(auto, using(crate::proofs::Called::called_is))]
 #[unsafe(no_mangle)]
 pub extern "C" fn fuavelino_first_difference8(
     a: &[u8],
@@ -59,11 +61,12 @@ pub extern "C" fn fuavelino_first_difference8(
         × (column.new ≡ column_written
         (located_of (called false a.entry b.entry width height stride_a stride_b depth)) column.old) }
 {
-    let answer = locate::first_difference8(a, b, width, height, stride_a, stride_b, depth);
+    let answer = locate::first_difference(pair(a, b, width, height, stride_a, stride_b, depth));
     put_place(answer, differs, row, column)
 }
 
 // The same of words.
+#[tactic(auto, using(crate::proofs::Called::called_is))]
 #[unsafe(no_mangle)]
 pub extern "C" fn fuavelino_first_difference16(
     a: &[u16],
@@ -85,7 +88,7 @@ pub extern "C" fn fuavelino_first_difference16(
         × (column.new ≡ column_written
         (located_of (called true a.entry b.entry width height stride_a stride_b depth)) column.old) }
 {
-    let answer = locate::first_difference16(a, b, width, height, stride_a, stride_b, depth);
+    let answer = locate::first_difference(pair(a, b, width, height, stride_a, stride_b, depth));
     put_place(answer, differs, row, column)
 }
 
@@ -106,6 +109,7 @@ fn put_tiles(answer: Result<Tiles, Refusal>, across: &mut usize, down: &mut usiz
 }
 
 // The squared error of each tile of two planes of bytes, to the first places of `map`: 0, or the lowest of 1 2 4 5 6 8.
+#[tactic(auto, using(crate::proofs::Called::called_is))]
 #[unsafe(no_mangle)]
 pub extern "C" fn fuavelino_error_map8(
     a: &[u8],
@@ -128,11 +132,15 @@ pub extern "C" fn fuavelino_error_map8(
         × (down.new ≡ down_written
         (mapped_of (called false a.entry b.entry width height stride_a stride_b depth) map.old) down.old) }
 {
-    let answer = locate::error_map8(a, b, width, height, stride_a, stride_b, depth, map);
+    let answer = locate::error_map(
+        pair(a, b, width, height, stride_a, stride_b, depth),
+        map,
+    );
     put_tiles(answer, across, down)
 }
 
 // The same of words.
+#[tactic(auto, using(crate::proofs::Called::called_is))]
 #[unsafe(no_mangle)]
 pub extern "C" fn fuavelino_error_map16(
     a: &[u16],
@@ -155,6 +163,9 @@ pub extern "C" fn fuavelino_error_map16(
         × (down.new ≡ down_written
         (mapped_of (called true a.entry b.entry width height stride_a stride_b depth) map.old) down.old) }
 {
-    let answer = locate::error_map16(a, b, width, height, stride_a, stride_b, depth, map);
+    let answer = locate::error_map(
+        pair(a, b, width, height, stride_a, stride_b, depth),
+        map,
+    );
     put_tiles(answer, across, down)
 }

@@ -2,11 +2,12 @@
 // is the planes themselves, then of the second, and so on.
 ghost use Rattle.std.specs.Prelude.{◌≡◌, true, false};
 ghost use Rattle.refusal.specs.First.{answer_number};
-ghost use Rattle.plane.specs.Plane.{called};
+ghost use Rattle.fuavelino.specs.Called.{called};
 ghost use Rattle.msssim.specs.Scratch.{scratch_of};
 ghost use Rattle.msssim.specs.Answer.{msssim_of, scratch_after};
 ghost use Rattle.fuavelino.specs.Msssim.{pairs_written};
 
+use crate::pair;
 use msssim::Pairs;
 use refusal::Refusal;
 
@@ -27,6 +28,7 @@ fn put_pairs(answer: Result<Pairs, Refusal>, pairs: &mut [f64; 10]) -> u8
 }
 
 // MS-SSIM of two planes of bytes: 0, or the lowest of 1 2 3 4 5 6 8 9.
+#[tactic(auto, using(crate::proofs::Called::called_is))]
 #[unsafe(no_mangle)]
 pub extern "C" fn fuavelino_msssim8(
     a: &[u8],
@@ -49,13 +51,17 @@ pub extern "C" fn fuavelino_msssim8(
         (msssim_of (called false a.entry b.entry width height stride_a stride_b depth)
         (scratch_of scratch.old a32.old b32.old)) pairs.old }
 {
-    let answer = msssim::msssim8(
-        a, b, width, height, stride_a, stride_b, depth, scratch, a32, b32,
+    let answer = msssim::msssim(
+        pair(a, b, width, height, stride_a, stride_b, depth),
+        scratch,
+        a32,
+        b32,
     );
     put_pairs(answer, pairs)
 }
 
 // The same of words.
+#[tactic(auto, using(crate::proofs::Called::called_is))]
 #[unsafe(no_mangle)]
 pub extern "C" fn fuavelino_msssim16(
     a: &[u16],
@@ -78,8 +84,11 @@ pub extern "C" fn fuavelino_msssim16(
         (msssim_of (called true a.entry b.entry width height stride_a stride_b depth)
         (scratch_of scratch.old a32.old b32.old)) pairs.old }
 {
-    let answer = msssim::msssim16(
-        a, b, width, height, stride_a, stride_b, depth, scratch, a32, b32,
+    let answer = msssim::msssim(
+        pair(a, b, width, height, stride_a, stride_b, depth),
+        scratch,
+        a32,
+        b32,
     );
     put_pairs(answer, pairs)
 }

@@ -1,13 +1,15 @@
 // Plain SSIM for other languages. `ssim` and `cs` are written where the answer is 0, and as they were otherwise.
 ghost use Rattle.std.specs.Prelude.{◌≡◌, true, false};
 ghost use Rattle.refusal.specs.First.{answer_number};
-ghost use Rattle.plane.specs.Plane.{called};
+ghost use Rattle.fuavelino.specs.Called.{called};
 ghost use Rattle.plain.specs.Plain.{plain_of};
 ghost use Rattle.fuavelino.specs.Ssim.{ssim_written, cs_written};
 
+use crate::pair;
 use crate::ssim_calls::put_pair;
 
 // SSIM of two planes of bytes with no scratch: 0, or the lowest of 1 2 4 5 6 7 9.
+#[tactic(auto, using(crate::proofs::Called::called_is))]
 #[unsafe(no_mangle)]
 pub extern "C" fn fuavelino_plain_ssim8(
     a: &[u8],
@@ -28,11 +30,15 @@ pub extern "C" fn fuavelino_plain_ssim8(
         × (cs.new ≡ cs_written
         (plain_of (called false a.entry b.entry width height stride_a stride_b depth) kernel.now) cs.old) }
 {
-    let answer = plain::plain8(a, b, width, height, stride_a, stride_b, depth, kernel);
+    let answer = plain::plain(
+        pair(a, b, width, height, stride_a, stride_b, depth),
+        kernel,
+    );
     put_pair(answer, ssim, cs)
 }
 
 // The same of words.
+#[tactic(auto, using(crate::proofs::Called::called_is))]
 #[unsafe(no_mangle)]
 pub extern "C" fn fuavelino_plain_ssim16(
     a: &[u16],
@@ -53,6 +59,9 @@ pub extern "C" fn fuavelino_plain_ssim16(
         × (cs.new ≡ cs_written
         (plain_of (called true a.entry b.entry width height stride_a stride_b depth) kernel.now) cs.old) }
 {
-    let answer = plain::plain16(a, b, width, height, stride_a, stride_b, depth, kernel);
+    let answer = plain::plain(
+        pair(a, b, width, height, stride_a, stride_b, depth),
+        kernel,
+    );
     put_pair(answer, ssim, cs)
 }

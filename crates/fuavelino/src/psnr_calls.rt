@@ -1,10 +1,11 @@
 // Squared error and series of records. An accepted answer whose error is 0 says "identical, 100".
 ghost use Rattle.std.specs.Prelude.{◌≡◌, true, false};
-ghost use Rattle.plane.specs.Plane.{called};
+ghost use Rattle.fuavelino.specs.Called.{called};
 ghost use Rattle.psnr.specs.Squared.{squared_error_of};
 ghost use Rattle.psnr.specs.Series.{series_of};
 ghost use Rattle.fuavelino.specs.Psnr.{error_number, error_written, series_number, series_written};
 
+use crate::pair;
 use psnr::{Record, SquaredError, Summed};
 use refusal::Refusal;
 
@@ -33,6 +34,7 @@ fn put_record(
 
 // The squared error of two planes of bytes, its count of samples and their sample_max, written to the three places: the record, with the
 // frame and the plane that are told.
+#[tactic(auto, using(crate::proofs::Called::called_is))]
 #[unsafe(no_mangle)]
 pub extern "C" fn fuavelino_squared_error8(
     a: &[u8],
@@ -54,11 +56,16 @@ pub extern "C" fn fuavelino_squared_error8(
         ≡ error_written (squared_error_of (called false a.entry b.entry width height stride_a stride_b depth) frame plane)
         (record { sq_err = sq_err.old; n = n.old; sample_max = sample_max.old }) }
 {
-    let answer = psnr::squared_error8(a, b, width, height, stride_a, stride_b, depth, frame, plane);
+    let answer = psnr::squared_error(
+        pair(a, b, width, height, stride_a, stride_b, depth),
+        frame,
+        plane,
+    );
     put_record(answer, sq_err, n, sample_max)
 }
 
 // The same of words.
+#[tactic(auto, using(crate::proofs::Called::called_is))]
 #[unsafe(no_mangle)]
 pub extern "C" fn fuavelino_squared_error16(
     a: &[u16],
@@ -80,8 +87,10 @@ pub extern "C" fn fuavelino_squared_error16(
         ≡ error_written (squared_error_of (called true a.entry b.entry width height stride_a stride_b depth) frame plane)
         (record { sq_err = sq_err.old; n = n.old; sample_max = sample_max.old }) }
 {
-    let answer = psnr::squared_error16(
-        a, b, width, height, stride_a, stride_b, depth, frame, plane,
+    let answer = psnr::squared_error(
+        pair(a, b, width, height, stride_a, stride_b, depth),
+        frame,
+        plane,
     );
     put_record(answer, sq_err, n, sample_max)
 }

@@ -1,10 +1,11 @@
 // SSIM for other languages. `ssim` and `cs` are written where the answer is 0, and as they were otherwise.
 ghost use Rattle.std.specs.Prelude.{◌≡◌, true, false};
 ghost use Rattle.refusal.specs.First.{answer_number};
-ghost use Rattle.plane.specs.Plane.{called};
+ghost use Rattle.fuavelino.specs.Called.{called};
 ghost use Rattle.ssim.specs.Answer.{ssim_of, scratch_after};
 ghost use Rattle.fuavelino.specs.Ssim.{ssim_written, cs_written};
 
+use crate::pair;
 use refusal::Refusal;
 use ssim::Ssim;
 
@@ -25,6 +26,7 @@ pub fn put_pair(answer: Result<Ssim, Refusal>, ssim: &mut f64, cs: &mut f64) -> 
 }
 
 // SSIM of two planes of bytes under a lent kernel: 0, or the lowest of 1 2 4 5 6 7 8 9.
+#[tactic(auto, using(crate::proofs::Called::called_is))]
 #[unsafe(no_mangle)]
 pub extern "C" fn fuavelino_ssim8(
     a: &[u8],
@@ -50,13 +52,16 @@ pub extern "C" fn fuavelino_ssim8(
         (ssim_of (called false a.entry b.entry width height stride_a stride_b depth)
         kernel.now scratch.old) cs.old }
 {
-    let answer = ssim::ssim8(
-        a, b, width, height, stride_a, stride_b, depth, kernel, scratch,
+    let answer = ssim::ssim(
+        pair(a, b, width, height, stride_a, stride_b, depth),
+        kernel,
+        scratch,
     );
     put_pair(answer, ssim, cs)
 }
 
 // The same of words.
+#[tactic(auto, using(crate::proofs::Called::called_is))]
 #[unsafe(no_mangle)]
 pub extern "C" fn fuavelino_ssim16(
     a: &[u16],
@@ -82,8 +87,10 @@ pub extern "C" fn fuavelino_ssim16(
         (ssim_of (called true a.entry b.entry width height stride_a stride_b depth)
         kernel.now scratch.old) cs.old }
 {
-    let answer = ssim::ssim16(
-        a, b, width, height, stride_a, stride_b, depth, kernel, scratch,
+    let answer = ssim::ssim(
+        pair(a, b, width, height, stride_a, stride_b, depth),
+        kernel,
+        scratch,
     );
     put_pair(answer, ssim, cs)
 }

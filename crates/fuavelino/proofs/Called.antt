@@ -1,0 +1,19 @@
+-- The planes of a call that other languages make, whose parameters come one by one. Assumes nothing.
+use mathlib.Core.Path.{◌≡◌, refl}
+use mathlib.Core.Bool.{Bool}
+use mathlib.Core.List.{List}
+use Prim.Native.Nat.{ℕ}
+use Rattle.std.specs.Borrow.{Bor}
+use Rattle.std.proofs.lemmas.List.{map-id}
+use Rattle.plane.specs.declared.Pair.{Pair}
+use Rattle.fuavelino.specs.Called.{called}
+use Rattle.plane.specs.Inner.Seen.{planes}
+
+pub called_is : (wide : Bool) (a b : Bor (List ℕ)) (width height stride_a stride_b depth : ℕ) → called wide a b width height stride_a stride_b depth
+    ≡ planes (λ (x : ℕ). x) wide (record {
+      format = record { width = width; height = height; depth = depth };
+      a = record { samples = a; stride = stride_a };
+      b = record { samples = b; stride = stride_b };
+    })
+unfolding called
+called_is wide a b width height stride_a stride_b depth = rw (map-id, map-id) refl
