@@ -2,7 +2,13 @@
 use Rattle.std.specs.Prelude.{Bool, true, ◌&&◌, List, [], ◌∷◌, ℕ, zero, suc, ◌+◌, ◌*◌, ◌-◌, ◌^◌, get_or}
 use Rattle.std.specs.Borrow.{Bor}
 use Rattle.plane.specs.Limits.{most_depth}
-use Rattle.plane.specs.declared.Size.{Size}
+
+-- what the planes of a call share: whether their samples are words, their sides in samples, and their depth
+pub record Size : Type 0 where
+  pub wide : Bool
+  pub width : ℕ
+  pub height : ℕ
+  pub depth : ℕ
 
 -- a plane as it is lent: its samples, one after another, and its stride
 pub record Plane : Type 0 where
