@@ -9,10 +9,12 @@ use Rattle.plane.proofs.All.{all_none, all_more, all_at, none_at, none_ext}
 use Rattle.plane.proofs.Depth.{depth_says, max_grows}
 use Rattle.plane.proofs.Limits.{deepest}
 use Rattle.plane.specs.Inner.Seen.{planes, row_in}
-use Rattle.plane.proofs.Rows.{row_length, row_at}
+use Rattle.plane.proofs.Rows.{row_inside, row_length, row_at}
+use Rattle.plane.specs.Limits.{side_limit, most_depth}
+use Rattle.std.proofs.lemmas.List.{length-map}
 use Rattle.plane.proofs.Sums.{sum_ext}
 use Rattle.plane.proofs.Unread.{unread_says, unread_depth}
-use Rattle.std.specs.Prelude.{Ok, Err}
+use Rattle.std.specs.Prelude.{Result, Ok, Err}
 use Rattle.refusal.specs.declared.Refusal.{Refusal}
 use Rattle.refusal.specs.declared.Refusal.TheVariants as no
 use Rattle.psnr.specs.Limits.{total_limit}
@@ -53,16 +55,34 @@ module _ {S : Type 0} (value : S → ℕ) (wide : Bool) (p : two.Pair S) (y : �
   abbrev second : List S
   second = row_in p.b.samples.now p.b.stride width y
 
-  pub row_walked_lem : y * p.a.stride + width ≤ length p.a.samples.now → y * p.b.stride + width ≤ length p.b.samples.now
-      → row_walked p.format.depth (map value first) (map value second) (length first) ≡ walked_at (planes value wide p) y
-  unfolding row_walked walked_at row_suits row_error squares_in
-  row_walked_lem la lb =
-      let top = max_of p.format.depth in
-      let one = row_at value p.a.samples.now p.a.stride width y la in
-      let other = row_at value p.b.samples.now p.b.stride width y lb in
-      rw (row_length value p.a.samples.now p.a.stride width y la)
-      (ap₂ walked_if (ap₂ ◌&&◌ (none_ext top _ _ width one) (none_ext top _ _ width other))
-      (sum_ext _ _ width (λ x l. ap₂ square_of (one x l) (other x l))))
+  module _ (r : Readable (planes value wide p)) (l : y < p.format.height) where
+    pub first_inside : y * p.a.stride + width ≤ length p.a.samples.now
+    first_inside = row_inside width p.a.stride (rw length-map at r.first_long) l
+
+    pub second_inside : y * p.b.stride + width ≤ length p.b.samples.now
+    second_inside = row_inside width p.b.stride (rw length-map at r.second_long) l
+
+    -- they may be walked
+    pub row_may : (length first ≡ length second) × (length first ≤ side_limit) × (p.format.depth ≤ most_depth wide)
+    row_may =
+        let one = row_length value p.a.samples.now p.a.stride width y first_inside in
+        let other = row_length value p.b.samples.now p.b.stride width y second_inside in
+        (one ∙ sym other, rw one r.width_most, (depth_says wide p.format.depth r.depth_suits_lem).1)
+
+    -- and what is found in them is what is found in row y
+    pub row_walked_lem : row_walked p.format.depth (map value first) (map value second) (length first) ≡ walked_at (planes value wide p) y
+    unfolding row_walked walked_at row_suits row_error squares_in
+    row_walked_lem =
+        let top = max_of p.format.depth in
+        let one = row_at value p.a.samples.now p.a.stride width y first_inside in
+        let other = row_at value p.b.samples.now p.b.stride width y second_inside in
+        rw (row_length value p.a.samples.now p.a.stride width y first_inside)
+        (ap₂ walked_if (ap₂ ◌&&◌ (none_ext top _ _ width one) (none_ext top _ _ width other))
+        (sum_ext _ _ width (λ x l. ap₂ square_of (one x l) (other x l))))
+
+    pub row_found : {f s : List S} {found : Result ℕ Refusal} → f ≡ first → s ≡ second
+        → found ≡ row_walked p.format.depth (map value f) (map value s) (length f) → found ≡ walked_at (planes value wide p) y
+    row_found ef es e = (rw (ef, es) at e) ∙ row_walked_lem
 
 module _ (p : Planes) where
   abbrev size : Size
