@@ -36,17 +36,16 @@ pub fn grid_of(layout: Layout) -> Grid
 pub fn first(n: usize, x: usize) -> usize
     ensures { result ≡ n / 2 - x }
 {
-    let off = n / 2;
-    if x < off { off - x } else { 0 }
+    (n / 2).saturating_sub(x)
 }
 
 // The same: the tap past the last inside.
+#[tactic(auto, using(plane::proofs::Limits::side_small, kernel::proofs::Says::taps_room))]
 pub fn past(n: usize, x: usize, side: usize) -> usize
     requires { (n ≡ 2 * (n / 2) + 1) × (n ≤ most_taps) × (x < side) × (side ≤ side_limit) }
     ensures { result ≡ n - (x + n / 2 + 1 - side) }
 {
-    let reach = x + n / 2 + 1;
-    if side < reach { n - (reach - side) } else { n }
+    n - (x + n / 2 + 1).saturating_sub(side)
 }
 
 // The sample at row r and column c of each width, wider.
@@ -54,21 +53,21 @@ fn sample8(p: &[u8], stride: usize, r: usize, c: usize) -> u64
     requires { r * stride + c < length p.now }
     ensures { result ≡ sample_at (plane_of p.now stride) r c }
 {
-    p[r * stride + c] as u64
+    u64::from(p[r * stride + c])
 }
 
 fn sample16(p: &[u16], stride: usize, r: usize, c: usize) -> u64
     requires { r * stride + c < length p.now }
     ensures { result ≡ sample_at (plane_of p.now stride) r c }
 {
-    p[r * stride + c] as u64
+    u64::from(p[r * stride + c])
 }
 
 fn sample32(p: &[u32], stride: usize, r: usize, c: usize) -> u64
     requires { r * stride + c < length p.now }
     ensures { result ≡ sample_at (plane_of p.now stride) r c }
 {
-    p[r * stride + c] as u64
+    u64::from(p[r * stride + c])
 }
 
 // One tap more over a pair of samples.
@@ -76,7 +75,7 @@ pub fn tapped(t: FiveSums, tap: u16, a: u64, b: u64) -> FiveSums
     requires { Room t tap (λ (m : ℕ). quant_of m a b) }
     ensures { result ≡ tapped_of t tap (λ (m : ℕ). quant_of m a b) }
 {
-    let k = tap as u64;
+    let k = u64::from(tap);
     let ka = k * a;
     let kb = k * b;
     let mux = t.mux + ka;
@@ -94,6 +93,7 @@ pub fn tapped(t: FiveSums, tap: u16, a: u64, b: u64) -> FiveSums
 }
 
 // The five sums down column x of two planes of bytes, the middle in row y.
+#[tactic(auto, using(crate::proofs::Sums::Column::down_column))]
 fn column8(
     a: &[u8],
     b: &[u8],
@@ -121,6 +121,7 @@ fn column8(
         xy: 0,
         y2: 0,
     };
+    // by index: a tap and what stands below it in both planes are read together
     for k in first(n, y)..past(n, y, height) {
         let r = y + k - off;
         t = tapped(
@@ -134,6 +135,7 @@ fn column8(
 }
 
 // The same of words.
+#[tactic(auto, using(crate::proofs::Sums::Column::down_column))]
 fn column16(
     a: &[u16],
     b: &[u16],
@@ -161,6 +163,7 @@ fn column16(
         xy: 0,
         y2: 0,
     };
+    // by index: a tap and what stands below it in both planes are read together
     for k in first(n, y)..past(n, y, height) {
         let r = y + k - off;
         t = tapped(
@@ -174,6 +177,7 @@ fn column16(
 }
 
 // The same of 32-bit samples.
+#[tactic(auto, using(crate::proofs::Sums::Column::down_column))]
 fn column32(
     a: &[u32],
     b: &[u32],
@@ -201,6 +205,7 @@ fn column32(
         xy: 0,
         y2: 0,
     };
+    // by index: a tap and what stands below it in both planes are read together
     for k in first(n, y)..past(n, y, height) {
         let r = y + k - off;
         t = tapped(
@@ -277,6 +282,7 @@ pub fn fill(
     ensures { HoldsRow cols.new (5 * grid.width) kernel.now
         (on_grid grid a8.entry a16.entry a32.entry b8.entry b16.entry b32.entry) y }
 {
+    // by index: `column` reads a column of the planes by its number, and chunks of `cols` would be no plainer
     for x in 0..grid.width {
         let t = column(a8, a16, a32, b8, b16, b32, grid, kernel, x, y);
         put(5 * x, t, cols);

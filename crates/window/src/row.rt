@@ -70,7 +70,7 @@ fn tapped(t: FiveSums, tap: u16, s: FiveSums) -> FiveSums
     requires { Room t tap (nth s) }
     ensures { result ≡ tapped_of t tap (nth s) }
 {
-    let k = tap as u64;
+    let k = u64::from(tap);
     let mux = t.mux + k * s.mux;
     let muy = t.muy + k * s.muy;
     let x2 = t.x2 + k * s.x2;
@@ -108,6 +108,7 @@ fn along(cols: &[i64], n: usize, kernel: &[u16], x: usize) -> FiveSums
 {
     let off = kernel.len() / 2;
     let mut t = tapped(none(), kernel[off], cells(cols, n, x + off));
+    // by index: a tap is read with two columns, as far from the middle on either side
     for k in 0..off {
         t = tapped(t, kernel[k], pair(cols, n, x + k, x + 2 * off - k));
     }
@@ -115,20 +116,22 @@ fn along(cols: &[i64], n: usize, kernel: &[u16], x: usize) -> FiveSums
 }
 
 // The taps that lie inside a side, the middle at x.
+#[tactic(auto, using(crate::proofs::Sums::Windows::taps_along, std::proofs::lemmas::Grind::elements))]
 fn taps_inside(kernel: &[u16], side: usize, x: usize) -> u64
     requires x_lt_side { (x < side) × (side ≤ side_limit) }
     requires kernel { Kernel kernel.now }
     ensures { result ≡ weight_of kernel.now side x }
 {
     let n = kernel.len();
-    let mut sum: u64 = 0;
-    for k in columns::first(n, x)..columns::past(n, x, side) {
-        sum = sum + (kernel[k] as u64);
+    let mut sum = 0;
+    for tap in &kernel[columns::first(n, x)..columns::past(n, x, side)] {
+        sum += u64::from(*tap);
     }
     sum
 }
 
 // The same, with no walk where all taps lie inside: `total` is what they sum to.
+#[tactic(auto, using(plane::proofs::Limits::side_small, kernel::proofs::Says::taps_room))]
 pub fn weight(kernel: &[u16], total: u64, side: usize, x: usize) -> u64
     requires x_lt_side { (x < side) × (side ≤ side_limit) }
     requires kernel { Kernel kernel.now }

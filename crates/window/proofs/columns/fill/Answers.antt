@@ -13,17 +13,6 @@ use Rattle.window.proofs.columns.fill.Goals as goal
 pub loop-x-init : goal.loop-x-init
 loop-x-init c = (search rules, refl, holds_none _ _ _ _ _ 0 _)
 
-pub column-t-requires : goal.column-t-requires
-column-t-requires c =
-    record {
-      x_lt_width = omega arith;
-      kernel = c.requires.kernel;
-      summable = c.requires.summable;
-    }
-
-pub overflow_mul-x : goal.overflow_mul-x
-overflow_mul-x c = omega (arith, side_small)
-
 pub put-requires : goal.put-requires
 put-requires c =
     let both : OnGrid = on_grid c.args.grid c.args.a8 c.args.a16 c.args.a32 c.args.b8 c.args.b16 c.args.b32 in
@@ -36,9 +25,6 @@ put-requires c =
           (λ r l. c.requires.summable.first.small r x l in-width) (λ r l. c.requires.summable.second.small r x l in-width);
     }
 
-pub overflow_step-x : goal.overflow_step-x
-overflow_step-x c = omega (arith, side_small)
-
 pub loop-x-preserved : goal.loop-x-preserved
 loop-x-preserved c =
     let both : OnGrid = on_grid c.args.grid c.args.a8 c.args.a16 c.args.a32 c.args.b8 c.args.b16 c.args.b32 in
@@ -48,10 +34,3 @@ loop-x-preserved c =
       holds_more c.args.kernel.now c.args.grid.height (sample_at both.a) (sample_at both.b) c.args.y l.x l.cols _ _
           c.put.ensures c.column-t.ensures l.invariant.2 (omega arith),
     )
-
-pub shape_of-cols : goal.shape_of-cols
-shape_of-cols c = c.loop-x.invariant.1
-
-pub returns : goal.returns
-returns c = let e : c.loop-x.x ≡ c.args.grid.width = omega arith in
-    rw e at c.loop-x.invariant.2

@@ -8,13 +8,6 @@ use Rattle.window.proofs.Sums.Five.{nth_five}
 use Rattle.window.proofs.Sums.Folded.{folds_none, folds_more, folds_all, middle_room, folds_room}
 use Rattle.window.proofs.row.along.Goals as goal
 
-pub cells-requires : goal.cells-requires
-cells-requires c =
-    record {
-      c_lt_n = omega arith;
-      column_sums = c.requires.column_sums;
-    }
-
 pub tapped-t-requires : goal.tapped-t-requires
 tapped-t-requires c = let off = length c.args.kernel.now / 2 in
     let room = middle_room c.args.kernel.now (cell_of c.args.cols.now) c.args.x c.requires.kernel
@@ -27,13 +20,6 @@ loop-k-init c = (
   omega arith,
   rw (c.tapped-t.ensures, c.cells.ensures, c.none.ensures) (sym (folds_none _ _ _)),
 )
-
-pub pair-requires : goal.pair-requires
-pair-requires c =
-    record {
-      i_lt_n = omega arith;
-      column_sums = c.requires.column_sums;
-    }
 
 pub tapped-t-requires-in-loop-k : goal.tapped-t-requires-in-loop-k
 tapped-t-requires-in-loop-k c = let off = length c.args.kernel.now / 2 in

@@ -11,9 +11,6 @@ use Rattle.kernel.proofs.Says.{taps_room}
 use Rattle.window.proofs.Sums.Windows.{weight_whole}
 use Rattle.window.proofs.row.weight.Goals as goal
 
-pub overflow_add-x : goal.overflow_add-x
-overflow_add-x c = omega (arith, side_small, taps_room)
-
 pub returns-then-off-x : goal.returns-then-off-x
 returns-then-off-x c = let off = length c.args.kernel.now / 2 in
     let left = and_left (leb off c.args.x) _ c.if-off-x.true in
