@@ -15,10 +15,11 @@ const SSIM_K2: f64 = 0.03 * 0.03;
 pub fn squared(max: u32) -> f64
     ensures { result ≡ Steps.double (max * max) }
 {
-    number::double((max as u64) * (max as u64))
+    number::double(u64::from(max) * u64::from(max))
 }
 
 // One centre more. `max2` is the square of the largest sample.
+#[tactic(auto, unfolding(crate::specs::Score::with_centre))]
 pub fn step(max2: f64, t: Totals, moments: Moments) -> Totals
     ensures { result ≡ with_centre max2 t moments }
 {

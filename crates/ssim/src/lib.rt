@@ -17,42 +17,31 @@ pub mod centre;
 pub mod walk;
 
 // What SSIM answers.
-#[derive(Clone, Copy)]
+#[derive(Clone, Copy, Debug, PartialEq)]
 pub enum Ssim {
     Pair { ssim: f64, cs: f64 },
     Refused(u8),
 }
 
 // The running sums over the centres.
-#[derive(Clone, Copy)]
+#[derive(Clone, Copy, Debug, PartialEq)]
 pub struct Totals {
     pub ssim: f64,
     pub cs: f64,
     pub ssimw: f64,
 }
 
-// p, or twice p where p is below n.
-fn doubled(n: usize, p: usize) -> usize
-    requires p_bound { p ≤ 2 * n }
-    requires n_le_most_taps { n ≤ most_taps }
-    ensures { result ≡ doubled_below n p }
-{
-    if p < n { 2 * p } else { p }
-}
-
 // The least power of two not below the count of taps.
+#[tactic(auto, using(kernel::proofs::Says::taps_room, crate::proofs::Powers::least_power))]
 pub fn next_power(taps: usize) -> usize
     requires { (1 ≤ taps) × (taps ≤ most_taps) }
     ensures { result ≡ next_power taps }
 {
-    let mut p = 1;
-    for i in 0..taps {
-        p = doubled(taps, p);
-    }
-    p
+    taps.next_power_of_two()
 }
 
 // The places of scratch that a kernel of so many taps needs.
+#[tactic(auto, using(plane::proofs::Limits::side_small, crate::proofs::Powers::places_room))]
 pub fn scratch_places(width: usize, taps: usize) -> usize
     requires { (1 ≤ taps) × (taps ≤ most_taps) × (width ≤ side_limit) }
     ensures { result ≡ scratch_places width taps }
@@ -86,6 +75,7 @@ fn refusal(
 }
 
 // The score of two planes of either width that no test refuses. The needed part of the scratch is all zero afterwards.
+#[tactic(auto, unfolding(kernel::specs::Kernel::lent_total))]
 fn score(
     a8: &[u8],
     a16: &[u16],

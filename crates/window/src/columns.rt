@@ -264,6 +264,7 @@ pub fn put(at: usize, t: FiveSums, cols: &mut [i64])
 }
 
 // The sums of every column, the middle in row y.
+#[tactic(auto, using(crate::proofs::Sums::Held::filled_steps))]
 pub fn fill(
     a8: &[u8],
     a16: &[u16],

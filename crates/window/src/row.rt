@@ -100,6 +100,7 @@ fn none() -> FiveSums
 
 // The five sums along the columns from x on, which begin with half a kernel of zeros and end with as many. A kernel is the same from both
 // ends, so that two columns share each tap but the middle one.
+#[tactic(auto, using(crate::proofs::Sums::Folded::folded_steps))]
 fn along(cols: &[i64], n: usize, kernel: &[u16], x: usize) -> FiveSums
     requires kernel_bound { (x + 2 * (length kernel.now / 2) < n) × (5 * n ≤ length cols.now) }
     requires kernel { Kernel kernel.now }
@@ -116,7 +117,7 @@ fn along(cols: &[i64], n: usize, kernel: &[u16], x: usize) -> FiveSums
 }
 
 // The taps that lie inside a side, the middle at x.
-#[tactic(auto, using(crate::proofs::Sums::Windows::taps_along, std::proofs::lemmas::Grind::elements))]
+#[tactic(auto, using(crate::proofs::Sums::Windows::part_first, crate::proofs::Sums::Windows::part_last))]
 fn taps_inside(kernel: &[u16], side: usize, x: usize) -> u64
     requires x_lt_side { (x < side) × (side ≤ side_limit) }
     requires kernel { Kernel kernel.now }
@@ -131,7 +132,7 @@ fn taps_inside(kernel: &[u16], side: usize, x: usize) -> u64
 }
 
 // The same, with no walk where all taps lie inside: `total` is what they sum to.
-#[tactic(auto, using(plane::proofs::Limits::side_small, kernel::proofs::Says::taps_room))]
+#[tactic(auto, using(crate::proofs::Sums::Windows::whole_inside))]
 pub fn weight(kernel: &[u16], total: u64, side: usize, x: usize) -> u64
     requires x_lt_side { (x < side) × (side ≤ side_limit) }
     requires kernel { Kernel kernel.now }
@@ -146,6 +147,7 @@ pub fn weight(kernel: &[u16], total: u64, side: usize, x: usize) -> u64
 }
 
 // The six moments at x. `down` is the weight of the rows.
+#[tactic(auto, unfolding(crate::specs::Inner::Columns::moments_in))]
 pub fn moments_at(
     cols: &[i64],
     width: usize,

@@ -8,9 +8,10 @@ use native.Mathlib.Omega.{arith}
 use borrow.Author.Tests.{lt-ltb, le-ltb}
 use lib.ListN.{length}
 use Rattle.plane.specs.Sums.{sum_to}
+use Rattle.plane.proofs.Limits.{side_small}
 use Rattle.plane.proofs.Sums.{sum_more, sum_tail, sum_zero, sum_mono, sum_mul, sum_le, sum_ext}
 use Rattle.kernel.specs.Kernel.{tap, fixed_total}
-use Rattle.kernel.proofs.Says.{total_room}
+use Rattle.kernel.proofs.Says.{taps_room}
 use Rattle.window.specs.Moments.{clipped}
 use Rattle.window.specs.Inner.Parts.{part_of, window_of, weight_of, Kernel}
 
@@ -125,5 +126,5 @@ module _ (ker : List ℕ) (side x : ℕ) where
   pub weight_le : Kernel ker → weight_of ker side x ≤ fixed_total
   weight_le r = omega (arith, part_le ker side (λ (i : ℕ). 1) x 1 r (λ k a b d. le_refl 1) (length ker) (le_refl _))
 
--- what the loop over the taps inside rests on
-pub ruleset taps_along = (total_room, part_first, weight_more, weight_part, part_last)
+-- what the weight rests on where all taps lie inside
+pub ruleset whole_inside = (side_small, taps_room, weight_whole)

@@ -1,6 +1,4 @@
 -- `window::columns::put` meets its contract. Assumes nothing.
-use native.Mathlib.Omega.{arith}
-use lib.ListN.{length-set}
 use mir.Syntax.{w64}
 use mir.ValLaws.{to_z_pos}
 use Rattle.window.proofs.columns.put.Goals as goal
