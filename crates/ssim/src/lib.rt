@@ -144,7 +144,8 @@ pub fn ssim8(
     scratch: &mut [i64],
 ) -> Ssim
     ensures value { result ≡ ssim_of (called false a.entry b.entry width height stride_a stride_b depth) kernel.now scratch.old }
-    ensures scratch_after { scratch.new ≡ scratch_after (called false a.entry b.entry width height stride_a stride_b depth) kernel.now scratch.old }
+    ensures scratch_after { scratch.new ≡ scratch_after (called false a.entry b.entry width height stride_a stride_b depth)
+        kernel.now scratch.old }
 {
     let size = Size {
         wide: false,
@@ -173,7 +174,8 @@ pub fn ssim16(
     scratch: &mut [i64],
 ) -> Ssim
     ensures value { result ≡ ssim_of (called true a.entry b.entry width height stride_a stride_b depth) kernel.now scratch.old }
-    ensures scratch_after { scratch.new ≡ scratch_after (called true a.entry b.entry width height stride_a stride_b depth) kernel.now scratch.old }
+    ensures scratch_after { scratch.new ≡ scratch_after (called true a.entry b.entry width height stride_a stride_b depth)
+        kernel.now scratch.old }
 {
     let size = Size {
         wide: true,

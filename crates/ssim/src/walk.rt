@@ -22,7 +22,8 @@ pub fn centres(
     max2: f64,
     mut t: Totals,
 ) -> Totals
-    requires width_le_side_limit { (width ≤ side_limit) × (5 * columns_of kernel.now width ≤ length cols.now) × (down ≤ fixed_total) }
+    requires width_le_side_limit { (width ≤ side_limit) × (5 * columns_of kernel.now width ≤ length cols.now)
+        × (down ≤ fixed_total) }
     requires kernel { Kernel kernel.now }
     requires total_value { total ≡ sum_to (tap kernel.now) (length kernel.now) }
     requires column_sums { ColumnSums cols.now (5 * columns_of kernel.now width) }

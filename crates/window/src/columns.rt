@@ -277,7 +277,8 @@ pub fn fill(
     y: usize,
     cols: &mut [i64],
 )
-    requires y_lt_height { (y < grid.height) × (grid.width ≤ side_limit) × (grid.height ≤ side_limit) × (5 * grid.width ≡ length cols.old) }
+    requires y_lt_height { (y < grid.height) × (grid.width ≤ side_limit) × (grid.height ≤ side_limit)
+        × (5 * grid.width ≡ length cols.old) }
     requires kernel { Kernel kernel.now }
     requires summable { Summable (on_grid grid a8 a16 a32 b8 b16 b32) }
     ensures { HoldsRow cols.new (5 * grid.width) kernel.now

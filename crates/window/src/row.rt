@@ -156,7 +156,8 @@ pub fn moments_at(
     down: u64,
     x: usize,
 ) -> Moments
-    requires x_lt_width { (x < width) × (width ≤ side_limit) × (5 * columns_of kernel.now width ≤ length cols.now) × (down ≤ fixed_total) }
+    requires x_lt_width { (x < width) × (width ≤ side_limit) × (5 * columns_of kernel.now width ≤ length cols.now)
+        × (down ≤ fixed_total) }
     requires kernel { Kernel kernel.now }
     requires total_value { total ≡ sum_to (tap kernel.now) (length kernel.now) }
     requires column_sums { ColumnSums cols.now (5 * columns_of kernel.now width) }
