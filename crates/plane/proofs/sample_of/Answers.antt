@@ -1,6 +1,6 @@
 -- `plane::sample` meets its contract. Assumes nothing.
 use native.Mathlib.Omega.{arith}
-use Rattle.plane.proofs.sample.Goals as goal
+use Rattle.plane.proofs.sample_of.Goals as goal
 
 pub offset_bounds-words-i : goal.offset_bounds-words-i
 offset_bounds-words-i c = let h = rw c.if-wide.true at c.requires in omega arith
