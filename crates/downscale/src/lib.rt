@@ -28,7 +28,7 @@ fn widen_row(
         (λ (x : ℕ). at (samples_of wide bytes.now words.now) (start + x)) }
 {
     for (x, place) in longs[to..to + width].iter_mut().enumerate() {
-        *place = plane::sample(bytes, words, wide, start + x);
+        *place = plane::sample_of(bytes, words, wide, start + x);
     }
 }
 

@@ -16,7 +16,7 @@ fn sample(bytes: &[u8], words: &[u16], wide: bool, stride: usize, r: usize, c: u
     requires { r * stride + c < length (samples_of wide bytes.now words.now) }
     ensures { result ≡ sample_at (plane_of (samples_of wide bytes.now words.now) stride) r c }
 {
-    u64::from(plane::sample(bytes, words, wide, r * stride + c))
+    u64::from(plane::sample_of(bytes, words, wide, r * stride + c))
 }
 
 // Whether a kernel place lies inside a side: `at` is the place of the centre and that of the tap together.
