@@ -24,6 +24,18 @@ parts s h =
     let b : lower s ≤ 2 ^ 26 = omega arith in
     record { outer = mul-le-mul a a; cross = mul-le-mul a b; inner = mul-le-mul b b }
 
+-- the same, each a fact of its own
+pub outer_small : (s : ℕ) → s ≤ 2 ^ 53 → s / 2 ^ 26 * (s / 2 ^ 26) ≤ 2 ^ 54
+outer_small s h = (parts s h).outer
+
+pub cross_small : (s : ℕ) → s ≤ 2 ^ 53 → s / 2 ^ 26 * (s % 2 ^ 26) ≤ 2 ^ 53
+cross_small s h = (parts s h).cross
+
+pub inner_small : (s : ℕ) → s ≤ 2 ^ 53 → s % 2 ^ 26 * (s % 2 ^ 26) ≤ 2 ^ 52
+inner_small s h = (parts s h).inner
+
+pub ruleset parts_small = (outer_small, cross_small, inner_small)
+
 square_of_sum : (P a b : ℕ) → (a * P + b) * (a * P + b) ≡ a * a * (P * P) + (a * b + a * b) * P + b * b
 square_of_sum P a b = simp sorted refl
 
