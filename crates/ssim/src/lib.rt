@@ -12,15 +12,16 @@ ghost use Rattle.ssim.specs.Answer.{ssim_refusal, ssim_score, ssim_of, scratch_a
 ghost use Rattle.ssim.specs.Inner.Sound.{Sound};
 
 use plane::{Layout, Size};
+use refusal::Refusal;
 
 pub mod centre;
 pub mod walk;
 
-// What SSIM answers.
+// What SSIM gives.
 #[derive(Clone, Copy, Debug, PartialEq)]
-pub enum Ssim {
-    Pair { ssim: f64, cs: f64 },
-    Refused(u8),
+pub struct Ssim {
+    pub ssim: f64,
+    pub cs: f64,
 }
 
 // The running sums over the centres.
@@ -49,8 +50,8 @@ pub fn scratch_places(width: usize, taps: usize) -> usize
     6 * width * next_power(taps)
 }
 
-// The lowest of 1 2 4 5 6 7 8 that applies, and 0 where none does. `lent` is how many places of scratch there are.
-fn refusal(
+// The lowest of 1 2 4 5 6 7 8 that applies. `lent` is how many places of scratch there are.
+fn check(
     a8: &[u8],
     a16: &[u16],
     b8: &[u8],
@@ -58,20 +59,17 @@ fn refusal(
     layout: Layout,
     kernel: &[u16],
     lent: usize,
-) -> u8
+) -> Result<(), Refusal>
     ensures { result ≡ ssim_refusal (planes layout a8.entry a16.entry b8.entry b16.entry) kernel.now lent }
 {
-    let no = plane::check(a8, a16, b8, b16, layout, 0);
-    if no != 0 {
-        return no;
-    }
+    plane::check(a8, a16, b8, b16, layout, 0)?;
     if !kernel::is_lawful(kernel) {
-        return refusal::KERNEL;
+        return Err(Refusal::Kernel);
     }
     if lent < scratch_places(layout.size.width, kernel.len()) {
-        return refusal::SCRATCH;
+        return Err(Refusal::Scratch);
     }
-    0
+    Ok(())
 }
 
 // The score of two planes of either width that no test refuses. The needed part of the scratch is all zero afterwards.
@@ -84,7 +82,7 @@ fn score(
     layout: Layout,
     kernel: &[u16],
     scratch: &mut [i64],
-) -> Ssim
+) -> Result<Ssim, Refusal>
     requires { Sound (planes layout a8 a16 b8 b16) kernel.now (length scratch.old) }
     ensures value { result ≡ ssim_score (planes layout a8.entry a16.entry b8.entry b16.entry) kernel.now }
     ensures scratch_after { scratch.new ≡ cleared (pos 0) (scratch_places layout.size.width (length kernel.now))
@@ -118,16 +116,13 @@ fn answer(
     layout: Layout,
     kernel: &[u16],
     scratch: &mut [i64],
-) -> Ssim
+) -> Result<Ssim, Refusal>
     ensures value { result ≡ ssim_of (planes layout a8.entry a16.entry b8.entry b16.entry)
         kernel.now scratch.old }
     ensures scratch_after { scratch.new ≡ scratch_after (planes layout a8.entry a16.entry b8.entry b16.entry)
         kernel.now scratch.old }
 {
-    let no = refusal(a8, a16, b8, b16, layout, kernel, scratch.len());
-    if no != 0 {
-        return Ssim::Refused(no);
-    }
+    check(a8, a16, b8, b16, layout, kernel, scratch.len())?;
     score(a8, a16, b8, b16, layout, kernel, scratch)
 }
 
@@ -142,7 +137,7 @@ pub fn ssim8(
     depth: u32,
     kernel: &[u16],
     scratch: &mut [i64],
-) -> Ssim
+) -> Result<Ssim, Refusal>
     ensures value { result ≡ ssim_of (called false a.entry b.entry width height stride_a stride_b depth) kernel.now scratch.old }
     ensures scratch_after { scratch.new ≡ scratch_after (called false a.entry b.entry width height stride_a stride_b depth)
         kernel.now scratch.old }
@@ -172,7 +167,7 @@ pub fn ssim16(
     depth: u32,
     kernel: &[u16],
     scratch: &mut [i64],
-) -> Ssim
+) -> Result<Ssim, Refusal>
     ensures value { result ≡ ssim_of (called true a.entry b.entry width height stride_a stride_b depth) kernel.now scratch.old }
     ensures scratch_after { scratch.new ≡ scratch_after (called true a.entry b.entry width height stride_a stride_b depth)
         kernel.now scratch.old }
