@@ -6,7 +6,8 @@ use Prim.Native.Nat.{ℕ}
 use Rattle.std.specs.Borrow.{Bor}
 use Rattle.std.proofs.lemmas.List.{map-id}
 use Rattle.plane.specs.declared.Pair.{Pair}
-use Rattle.fuavelino.specs.Called.{called}
+use Rattle.better.specs.Inner.Judged.{contest_of}
+use Rattle.fuavelino.specs.Called.{called, contested}
 use Rattle.plane.specs.Inner.Seen.{planes}
 
 pub called_is : (wide : Bool) (a b : Bor (List ℕ)) (width height stride_a stride_b depth : ℕ) → called wide a b width height stride_a stride_b depth
@@ -17,3 +18,10 @@ pub called_is : (wide : Bool) (a b : Bor (List ℕ)) (width height stride_a stri
     })
 unfolding called
 called_is wide a b width height stride_a stride_b depth = rw (map-id, map-id) refl
+
+pub contest_is : (wide : Bool) (o a b : Bor (List ℕ)) (width height stride_o stride_a stride_b depth : ℕ)
+    → contested wide o a b width height stride_o stride_a stride_b depth
+    ≡ contest_of (λ (x : ℕ). x) wide (record { width = width; height = height; depth = depth }) (record { samples = o; stride = stride_o })
+      (record { samples = a; stride = stride_a }) (record { samples = b; stride = stride_b })
+unfolding contested
+contest_is wide o a b width height stride_o stride_a stride_b depth = rw (map-id, map-id, map-id) refl

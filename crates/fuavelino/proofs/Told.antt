@@ -1,7 +1,7 @@
 -- An answer is told as 0 only where nothing is refused. Assumes nothing.
 use mathlib.Core.Path.{◌≡◌, refl}
 use Prim.Native.Nat.{ℕ}
-use Rattle.std.specs.Prelude.{Ok, Err}
+use Rattle.std.specs.Prelude.{Result, Ok, Err}
 use Rattle.refusal.specs.declared.Refusal.{Refusal}
 use Rattle.refusal.specs.declared.Refusal.TheVariants as no
 use Rattle.refusal.specs.Numbers.{number_of}
@@ -23,12 +23,6 @@ some_number no.Value e = cc
 some_number no.Weight e = cc
 some_number no.Height e = cc
 some_number no.State e = cc
-
-module _ {A : Type 0} where
-  -- so there is an answer
-  pub told_none : (a : Result A Refusal) → answer_number a ≡ 0 → IsOk a
-  told_none (Ok x) e = tt
-  told_none (Err r) e = absurd (some_number r e)
 
 pub none_refused : (v : Verdict) → answer_number v ≡ 0 → v ≡ Ok tt
 none_refused (Ok _) e = refl

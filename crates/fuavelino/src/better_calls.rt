@@ -2,10 +2,13 @@
 // A slice cannot be returned to another language, which has both planes in its hands: `which` tells.
 ghost use Rattle.std.specs.Prelude.{◌≡◌, true, false};
 ghost use Rattle.refusal.specs.First.{answer_number};
-ghost use Rattle.better.specs.Better.{contest, better_of};
+ghost use Rattle.better.specs.Better.{better_of};
+ghost use Rattle.fuavelino.specs.Called.{contested};
 ghost use Rattle.fuavelino.specs.Better.{smaller_written, which_written};
 
+use crate::plane_of;
 use better::Better;
+use plane::Format;
 use refusal::Refusal;
 
 // The candidates by number.
@@ -35,6 +38,7 @@ fn put_better(answer: Result<Better, Refusal>, sq_err: &mut f64, which: &mut u8)
 }
 
 // Which of two planes of bytes is nearer the original: 0, or the lowest of 1 2 4 5 6 that applies to any of the three.
+#[tactic(auto, using(crate::proofs::Called::contest_is))]
 #[unsafe(no_mangle)]
 pub extern "C" fn fuavelino_better8(
     o: &[u8],
@@ -50,19 +54,30 @@ pub extern "C" fn fuavelino_better8(
     which: &mut u8,
 ) -> u8
     ensures value { result ≡ answer_number
-        (better_of (contest false o.entry a.entry b.entry width height stride_o stride_a stride_b depth)) }
+        (better_of (contested false o.entry a.entry b.entry width height stride_o stride_a stride_b depth)) }
     ensures sq_err_after { (sq_err.new ≡ smaller_written
-        (better_of (contest false o.entry a.entry b.entry width height stride_o stride_a stride_b depth))
+        (better_of (contested false o.entry a.entry b.entry width height stride_o stride_a stride_b depth))
         sq_err.old)
         × (which.new ≡ which_written
-        (better_of (contest false o.entry a.entry b.entry width height stride_o stride_a stride_b depth))
+        (better_of (contested false o.entry a.entry b.entry width height stride_o stride_a stride_b depth))
         which.old) }
 {
-    let answer = better::better8(o, a, b, width, height, stride_o, stride_a, stride_b, depth);
+    let format = Format {
+        width,
+        height,
+        depth,
+    };
+    let answer = better::nearer(
+        format,
+        plane_of(o, stride_o),
+        plane_of(a, stride_a),
+        plane_of(b, stride_b),
+    );
     put_better(answer, sq_err, which)
 }
 
 // The same of words.
+#[tactic(auto, using(crate::proofs::Called::contest_is))]
 #[unsafe(no_mangle)]
 pub extern "C" fn fuavelino_better16(
     o: &[u16],
@@ -78,14 +93,24 @@ pub extern "C" fn fuavelino_better16(
     which: &mut u8,
 ) -> u8
     ensures value { result ≡ answer_number
-        (better_of (contest true o.entry a.entry b.entry width height stride_o stride_a stride_b depth)) }
+        (better_of (contested true o.entry a.entry b.entry width height stride_o stride_a stride_b depth)) }
     ensures sq_err_after { (sq_err.new ≡ smaller_written
-        (better_of (contest true o.entry a.entry b.entry width height stride_o stride_a stride_b depth))
+        (better_of (contested true o.entry a.entry b.entry width height stride_o stride_a stride_b depth))
         sq_err.old)
         × (which.new ≡ which_written
-        (better_of (contest true o.entry a.entry b.entry width height stride_o stride_a stride_b depth))
+        (better_of (contested true o.entry a.entry b.entry width height stride_o stride_a stride_b depth))
         which.old) }
 {
-    let answer = better::better16(o, a, b, width, height, stride_o, stride_a, stride_b, depth);
+    let format = Format {
+        width,
+        height,
+        depth,
+    };
+    let answer = better::nearer(
+        format,
+        plane_of(o, stride_o),
+        plane_of(a, stride_a),
+        plane_of(b, stride_b),
+    );
     put_better(answer, sq_err, which)
 }

@@ -17,6 +17,7 @@ pub extern "C" fn fuavelino_forward(block: &[i32], out: &mut [i32]) -> u8
 }
 
 // The one block whose transform is these 64 coefficients, each from -2,097,151 to 2,097,151; 12 as above.
+#[tactic(auto, using(crate::proofs::Told::none_refused))]
 #[unsafe(no_mangle)]
 pub extern "C" fn fuavelino_inverse(coefs: &[i32], out: &mut [i32]) -> u8
     ensures value { result ≡ answer_number (transform_refusal inverse_limit coefs.now out.old) }

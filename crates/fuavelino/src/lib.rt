@@ -44,6 +44,13 @@ pub extern "C" fn fuavelino_version() -> u32
     10000 * MAJOR + 100 * MINOR + PATCH
 }
 
+// A plane of a call.
+fn plane_of<'a, S>(samples: &'a [S], stride: usize) -> Plane<'a, S>
+    ensures { result ≡ (record { samples = samples.entry; stride = stride }) }
+{
+    Plane { samples, stride }
+}
+
 // The two planes of a call, whose parameters come one by one.
 fn pair<'a, S>(
     a: &'a [S],
@@ -66,14 +73,8 @@ fn pair<'a, S>(
     };
     Pair {
         format,
-        a: Plane {
-            samples: a,
-            stride: stride_a,
-        },
-        b: Plane {
-            samples: b,
-            stride: stride_b,
-        },
+        a: plane_of(a, stride_a),
+        b: plane_of(b, stride_b),
     }
 }
 
