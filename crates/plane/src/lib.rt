@@ -37,7 +37,7 @@ impl Sample for u8 {
     ghost value = { λ x. x };
 
     fn value(self) -> u32 {
-        self as u32
+        u32::from(self)
     }
 
     fn is_at_most(self, max: u8) -> bool {
@@ -49,7 +49,7 @@ impl Sample for u16 {
     ghost value = { λ x. x };
 
     fn value(self) -> u32 {
-        self as u32
+        u32::from(self)
     }
 
     fn is_at_most(self, max: u16) -> bool {
@@ -110,7 +110,7 @@ pub fn none_above<S: Sample>(row: &[S], max: S) -> bool
 {
     let mut ok = true;
     for &x in row {
-        ok = ok & x.is_at_most(max);
+        ok &= x.is_at_most(max);
     }
     ok
 }
@@ -207,8 +207,9 @@ pub fn samples_suit<S: Stored>(format: Format, p: Plane<'_, S>) -> bool
 {
     let max = sample_max(format.depth);
     let mut ok = true;
+    // by index: rows stand a stride apart, and the last may end before the next stride
     for y in 0..format.height {
-        ok = ok & S::row_suits(row(p, format.width, y), max);
+        ok &= S::row_suits(row(p, format.width, y), max);
     }
     ok
 }
