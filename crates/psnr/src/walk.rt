@@ -37,10 +37,11 @@ impl Compared for u8 {
 
     #[tactic(auto, unfolding(crate::specs::Inner::Walk::row_walked))]
     fn row(a: &[u8], b: &[u8], depth: u32) -> Result<u64, Refusal> {
-        if !suit8(a, b, depth) {
-            return Err(Refusal::Sample);
+        if suit8(a, b, depth) {
+            Ok(u64::from(sum8(a, b)))
+        } else {
+            Err(Refusal::Sample)
         }
-        Ok(u64::from(sum8(a, b)))
     }
 }
 
