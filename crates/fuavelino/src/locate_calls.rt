@@ -2,12 +2,15 @@
 ghost use Rattle.std.specs.Prelude.{◌≡◌, true, false};
 ghost use Rattle.refusal.specs.First.{answer_number};
 ghost use Rattle.fuavelino.specs.Called.{called};
+ghost use Rattle.plane.specs.Inner.Seen.{planes};
 ghost use Rattle.locate.specs.Where.{located_of};
 ghost use Rattle.locate.specs.Map.{mapped_of, map_after};
 ghost use Rattle.fuavelino.specs.Locate.{differs_written, row_written, column_written};
 ghost use Rattle.fuavelino.specs.Locate.{across_written, down_written};
 
 use crate::pair;
+use plane::Pair;
+use psnr::walk::Compared;
 use locate::{Place, Tiles};
 use refusal::Refusal;
 
@@ -108,6 +111,22 @@ fn put_tiles(answer: Result<Tiles, Refusal>, across: &mut usize, down: &mut usiz
     }
 }
 
+// The squared error of each tile of two planes, to the first places of `map`: 0 and what is written, or the number of the refusal.
+fn error_map<S: Compared>(
+    p: Pair<'_, S>,
+    map: &mut [u64],
+    across: &mut usize,
+    down: &mut usize,
+) -> u8
+    ensures value { result ≡ answer_number (mapped_of (planes S.Sample.value S.WIDE p.entry) map.old) }
+    ensures map_after { map.new ≡ map_after (planes S.Sample.value S.WIDE p.entry) map.old }
+    ensures across_after { (across.new ≡ across_written (mapped_of (planes S.Sample.value S.WIDE p.entry) map.old) across.old)
+        × (down.new ≡ down_written (mapped_of (planes S.Sample.value S.WIDE p.entry) map.old) down.old) }
+{
+    let answer = locate::error_map(p, map);
+    put_tiles(answer, across, down)
+}
+
 // The squared error of each tile of two planes of bytes, to the first places of `map`: 0, or the lowest of 1 2 4 5 6 8.
 #[tactic(auto, using(crate::proofs::Called::called_is))]
 #[unsafe(no_mangle)]
@@ -132,11 +151,12 @@ pub extern "C" fn fuavelino_error_map8(
         × (down.new ≡ down_written
         (mapped_of (called false a.entry b.entry width height stride_a stride_b depth) map.old) down.old) }
 {
-    let answer = locate::error_map(
+    error_map(
         pair(a, b, width, height, stride_a, stride_b, depth),
         map,
-    );
-    put_tiles(answer, across, down)
+        across,
+        down,
+    )
 }
 
 // The same of words.
@@ -163,9 +183,10 @@ pub extern "C" fn fuavelino_error_map16(
         × (down.new ≡ down_written
         (mapped_of (called true a.entry b.entry width height stride_a stride_b depth) map.old) down.old) }
 {
-    let answer = locate::error_map(
+    error_map(
         pair(a, b, width, height, stride_a, stride_b, depth),
         map,
-    );
-    put_tiles(answer, across, down)
+        across,
+        down,
+    )
 }

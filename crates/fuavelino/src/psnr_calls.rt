@@ -1,11 +1,14 @@
 // Squared error and series of records. An accepted answer whose error is 0 says "identical, 100".
 ghost use Rattle.std.specs.Prelude.{◌≡◌, true, false};
 ghost use Rattle.fuavelino.specs.Called.{called};
+ghost use Rattle.plane.specs.Inner.Seen.{planes};
 ghost use Rattle.psnr.specs.Squared.{squared_error_of};
 ghost use Rattle.psnr.specs.Series.{series_of};
 ghost use Rattle.fuavelino.specs.Psnr.{error_number, error_written, series_number, series_written};
 
 use crate::pair;
+use plane::Pair;
+use psnr::walk::Compared;
 use psnr::{Record, SquaredError, Summed};
 use refusal::Refusal;
 
@@ -32,6 +35,24 @@ fn put_record(
     }
 }
 
+// The squared error of two planes, as that of this plane of this frame: 0 and what is written, or the number of the refusal.
+fn squared_error<S: Compared>(
+    p: Pair<'_, S>,
+    frame: u32,
+    plane: u32,
+    sq_err: &mut f64,
+    n: &mut u64,
+    sample_max: &mut u32,
+) -> u8
+    ensures value { result ≡ error_number (squared_error_of (planes S.Sample.value S.WIDE p.entry) frame plane) }
+    ensures sample_max_after { record { sq_err = sq_err.new; n = n.new; sample_max = sample_max.new }
+        ≡ error_written (squared_error_of (planes S.Sample.value S.WIDE p.entry) frame plane)
+        (record { sq_err = sq_err.old; n = n.old; sample_max = sample_max.old }) }
+{
+    let answer = psnr::squared_error(p, frame, plane);
+    put_record(answer, sq_err, n, sample_max)
+}
+
 // The squared error of two planes of bytes, its count of samples and their sample_max, written to the three places: the record, with the
 // frame and the plane that are told.
 #[tactic(auto, using(crate::proofs::Called::called_is))]
@@ -56,12 +77,14 @@ pub extern "C" fn fuavelino_squared_error8(
         ≡ error_written (squared_error_of (called false a.entry b.entry width height stride_a stride_b depth) frame plane)
         (record { sq_err = sq_err.old; n = n.old; sample_max = sample_max.old }) }
 {
-    let answer = psnr::squared_error(
+    squared_error(
         pair(a, b, width, height, stride_a, stride_b, depth),
         frame,
         plane,
-    );
-    put_record(answer, sq_err, n, sample_max)
+        sq_err,
+        n,
+        sample_max,
+    )
 }
 
 // The same of words.
@@ -87,12 +110,14 @@ pub extern "C" fn fuavelino_squared_error16(
         ≡ error_written (squared_error_of (called true a.entry b.entry width height stride_a stride_b depth) frame plane)
         (record { sq_err = sq_err.old; n = n.old; sample_max = sample_max.old }) }
 {
-    let answer = psnr::squared_error(
+    squared_error(
         pair(a, b, width, height, stride_a, stride_b, depth),
         frame,
         plane,
-    );
-    put_record(answer, sq_err, n, sample_max)
+        sq_err,
+        n,
+        sample_max,
+    )
 }
 
 // Writes a total where there is one.
