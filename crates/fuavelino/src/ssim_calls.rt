@@ -52,7 +52,7 @@ pub extern "C" fn fuavelino_ssim8(
         (ssim_of (called false a.entry b.entry width height stride_a stride_b depth)
         kernel.now scratch.old) cs.old }
 {
-    let answer = ssim::ssim(
+    let answer = ssim::score(
         pair(a, b, width, height, stride_a, stride_b, depth),
         kernel,
         scratch,
@@ -87,7 +87,7 @@ pub extern "C" fn fuavelino_ssim16(
         (ssim_of (called true a.entry b.entry width height stride_a stride_b depth)
         kernel.now scratch.old) cs.old }
 {
-    let answer = ssim::ssim(
+    let answer = ssim::score(
         pair(a, b, width, height, stride_a, stride_b, depth),
         kernel,
         scratch,
