@@ -4,10 +4,10 @@
 
 ghost use Rattle.std.specs.Prelude.{◌≡◌, true, false, length};
 ghost use Rattle.refusal.specs.First.{answer_number};
-ghost use Rattle.better.specs.Better.{contest, winner_of};
 ghost use Rattle.probe.specs.Downscale.{downscale_refusal, Later};
-ghost use Rattle.probe.specs.Winner.{sample_written};
+ghost use Rattle.probe.specs.Winner.{winning, sample_written};
 
+use plane::{Format, Plane};
 use refusal::Refusal;
 
 // The largest sample that the sums of a scale are made for.
@@ -44,7 +44,15 @@ pub extern "C" fn probe_downscale(longs: &mut [u32], width: usize, height: usize
     }
 }
 
+// A plane of a call.
+fn plane_of<'a, S>(samples: &'a [S], stride: usize) -> Plane<'a, S>
+    ensures { result ≡ (record { samples = samples.entry; stride = stride }) }
+{
+    Plane { samples, stride }
+}
+
 // How long the better of two planes of bytes is, as it is handed back, and its sample `at`, where it has one.
+#[tactic(auto, using(crate::proofs::Winner::winner_is))]
 #[unsafe(no_mangle)]
 pub extern "C" fn probe_winner8<'o, 'c>(
     o: &'o [u8],
@@ -59,12 +67,21 @@ pub extern "C" fn probe_winner8<'o, 'c>(
     at: usize,
     sample: &mut u8,
 ) -> usize
-    ensures value { result ≡ length (winner_of
-        (contest false o.entry a.entry b.entry width height stride_o stride_a stride_b depth)) }
-    ensures sample_after { sample.new ≡ sample_written (winner_of
-        (contest false o.entry a.entry b.entry width height stride_o stride_a stride_b depth)) at sample.old }
+    ensures value { result ≡ length (winning false o.entry a.entry b.entry width height stride_o stride_a stride_b depth) }
+    ensures sample_after { sample.new ≡ sample_written
+        (winning false o.entry a.entry b.entry width height stride_o stride_a stride_b depth) at sample.old }
 {
-    let winner = better::winner8(o, a, b, width, height, stride_o, stride_a, stride_b, depth);
+    let format = Format {
+        width,
+        height,
+        depth,
+    };
+    let winner = better::winner(
+        format,
+        plane_of(o, stride_o),
+        plane_of(a, stride_a),
+        plane_of(b, stride_b),
+    );
     if at < winner.len() {
         *sample = winner[at];
     }
@@ -72,6 +89,7 @@ pub extern "C" fn probe_winner8<'o, 'c>(
 }
 
 // The same of words.
+#[tactic(auto, using(crate::proofs::Winner::winner_is))]
 #[unsafe(no_mangle)]
 pub extern "C" fn probe_winner16<'o, 'c>(
     o: &'o [u16],
@@ -86,12 +104,21 @@ pub extern "C" fn probe_winner16<'o, 'c>(
     at: usize,
     sample: &mut u16,
 ) -> usize
-    ensures value { result ≡ length (winner_of
-        (contest true o.entry a.entry b.entry width height stride_o stride_a stride_b depth)) }
-    ensures sample_after { sample.new ≡ sample_written (winner_of
-        (contest true o.entry a.entry b.entry width height stride_o stride_a stride_b depth)) at sample.old }
+    ensures value { result ≡ length (winning true o.entry a.entry b.entry width height stride_o stride_a stride_b depth) }
+    ensures sample_after { sample.new ≡ sample_written
+        (winning true o.entry a.entry b.entry width height stride_o stride_a stride_b depth) at sample.old }
 {
-    let winner = better::winner16(o, a, b, width, height, stride_o, stride_a, stride_b, depth);
+    let format = Format {
+        width,
+        height,
+        depth,
+    };
+    let winner = better::winner(
+        format,
+        plane_of(o, stride_o),
+        plane_of(a, stride_a),
+        plane_of(b, stride_b),
+    );
     if at < winner.len() {
         *sample = winner[at];
     }
