@@ -52,7 +52,6 @@ fn plane_of<'a, S>(samples: &'a [S], stride: usize) -> Plane<'a, S>
 }
 
 // How long the better of two planes of bytes is, as it is handed back, and its sample `at`, where it has one.
-#[tactic(auto, using(crate::proofs::Winner::winner_is))]
 #[unsafe(no_mangle)]
 pub extern "C" fn probe_winner8<'o, 'c>(
     o: &'o [u8],
@@ -89,7 +88,6 @@ pub extern "C" fn probe_winner8<'o, 'c>(
 }
 
 // The same of words.
-#[tactic(auto, using(crate::proofs::Winner::winner_is))]
 #[unsafe(no_mangle)]
 pub extern "C" fn probe_winner16<'o, 'c>(
     o: &'o [u16],
