@@ -1,14 +1,15 @@
 -- Laws of the lent 32-bit places: one store more in a row, and one row more. Assumes nothing.
-use mathlib.Core.Path.{◌≡◌, ◌∙◌}
-use mathlib.Core.List.{List, ◌++◌}
+use mathlib.Core.Path.{◌≡◌, sym, ap, ◌∙◌}
+use mathlib.Core.List.{List, ◌++◌, map}
 use Prim.Native.Nat.{ℕ, ◌+◌, ◌*◌, ◌<◌, ◌≤◌}
 use native.Mathlib.Nat.{ne_of_lt, add-mul, one-mul, mul-le-mul_right}
 use native.Mathlib.Omega.{arith}
 use borrow.Author.Count.{below_more}
-use lib.ListN.{length, set, take, drop}
+use lib.ListN.{length, get_or, set, take, drop}
 use lib.Seq.{get_or-set_same, get_or-set_other}
 use Rattle.std.proofs.lemmas.Grind.{elements}
 use Rattle.plane.specs.Plane.{at}
+use Rattle.plane.proofs.All.{at_value}
 use Rattle.downscale.specs.Inner.Longs.{Put, Filled}
 
 -- ---- a row
@@ -33,6 +34,11 @@ row_put old row from n m x g room e same whole h =
       before = λ i l. grind (arith, elements);
       after = λ i l. grind (arith, elements);
     }
+
+-- what a read of a sample of a row gives
+pub row_read : {S : Type 0} (value : S → ℕ) (row : List S) (i v : ℕ) (x : S) → x ≡ get_or row i x → v ≡ value (get_or row i x) → i < length row
+    → v ≡ at (map value row) i
+row_read value row i v x e w l = w ∙ ap value (sym e) ∙ sym (at_value value row i e l)
 
 -- ---- all rows
 next : (y w : ℕ) → (y + 1) * w ≡ y * w + w
