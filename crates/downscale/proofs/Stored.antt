@@ -8,7 +8,10 @@ use borrow.Author.Count.{below_more}
 use lib.ListN.{length, get_or, set, take, drop}
 use lib.Seq.{get_or-set_same, get_or-set_other}
 use Rattle.std.proofs.lemmas.Grind.{elements}
-use Rattle.plane.specs.Plane.{at}
+use Rattle.std.proofs.lemmas.List.{length-map}
+use Rattle.plane.specs.Plane.{at, plane_of, sample_at, needed}
+use Rattle.plane.specs.Inner.Seen.{row_in}
+use Rattle.plane.proofs.Rows.{row_inside, row_length, row_at}
 use Rattle.plane.proofs.All.{at_value}
 use Rattle.downscale.specs.Inner.Longs.{Put, Filled}
 
@@ -53,3 +56,13 @@ filled_more old l l' width v y g f p e =
           (p.there c k ∙ e c k) r m;
       rest = λ i m. p.after i (omega (arith, next y width)) ∙ f.rest i (omega (arith, next y width));
     }
+
+-- a row of a plane, as the numbers that its samples are
+pub row_more : {S : Type 0} (value : S → ℕ) (samples row : List S) (stride width height : ℕ) (old l l' : List ℕ) (y : ℕ)
+    → Filled old l width (sample_at (plane_of (map value samples) stride)) y → row ≡ row_in samples stride width y
+    → needed width height stride ≤ length (map value samples) → y < height → Put l l' (y * width) (length row) (at (map value row))
+    → Filled old l' width (sample_at (plane_of (map value samples) stride)) (y + 1)
+row_more value samples row stride width height old l l' y f e long m p =
+    let inside = row_inside width stride (rw length-map at long) m in
+    let put = rw (e, row_length value samples stride width y inside) at p in
+    filled_more old l l' width _ y _ f put (row_at value samples stride width y inside)

@@ -24,7 +24,6 @@ fn widen_row<S: Sample>(row: &[S], to: usize, longs: &mut [u32])
 }
 
 // A plane to the places, row after row with no padding.
-#[tactic(auto, using(crate::proofs::Stored::filled_more))]
 pub fn widen<S: Sample>(p: Plane<'_, S>, width: usize, height: usize, longs: &mut [u32])
     requires long { needed width height p.stride ≤ length (map S.value p.samples.now) }
     requires width_in_bounds { height * width ≤ length longs.old }
