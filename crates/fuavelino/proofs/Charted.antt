@@ -24,7 +24,7 @@ use Rattle.ssim.specs.Score.{totals_in}
 use Rattle.ssim.specs.Scratch.{scratch_places}
 use Rattle.ssim.specs.Answer.{lent_tests, pair_or9, ssim_score, ssim_refusal, ssim_of}
 use Rattle.fuavelino.specs.Answer.{written}
-use Rattle.fuavelino.proofs.Enough.{others, plane_others, same_refusal}
+use Rattle.fuavelino.proofs.Enough.{others, plane_others}
 use Rattle.fuavelino.proofs.Told.{none_refused}
 
 -- ---- a lawful kernel is not refused with 7

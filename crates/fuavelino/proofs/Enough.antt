@@ -11,7 +11,7 @@ use Rattle.std.specs.Prelude.{Ok, Err}
 use Rattle.refusal.specs.declared.Refusal.{Refusal}
 use Rattle.refusal.specs.declared.Refusal.TheVariants as no
 use Rattle.refusal.specs.Numbers.{number_of}
-use Rattle.refusal.specs.First.{first_broken}
+use Rattle.refusal.specs.First.{Verdict, first_broken}
 use Rattle.refusal.proofs.Chain.{passed}
 use Rattle.plane.specs.Limits.{side_limit}
 use Rattle.plane.specs.Plane.{Planes, both}
@@ -32,7 +32,7 @@ abbrev pub Other : Refusal → List (Refusal × Bool) → Type 0
 Other m [] = Unit {0}
 Other m (t ∷ later) = (t.0 ≡ m → ⊥) × Other m later
 
-same_refusal : {r m : Refusal} → Err {A = Unit {0}} r ≡ Err m → r ≡ m
+same_refusal : {r m : Refusal} → ◌≡◌ {A = Verdict} (Err r) (Err m) → r ≡ m
 same_refusal e = cc
 
 pub others : (m : Refusal) (ts more : List (Refusal × Bool)) → Other m ts → first_broken (ts ++ more) ≡ Err m

@@ -8,6 +8,7 @@ use psnr::{Record, Total};
 use refusal::Refusal;
 
 // Writes the hundredths, and whether they stand for "identical", where there are any.
+#[tactic(auto, unfolding(decibels::specs::Said::identical_hundredths, psnr::specs::Said::identical_decibels))]
 fn put_decibels(
     answer: Result<Decibels, Refusal>,
     hundredths: &mut u32,

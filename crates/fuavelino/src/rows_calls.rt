@@ -6,7 +6,7 @@ ghost use Rattle.plane.specs.Limits.{most_depth};
 ghost use Rattle.plane.specs.Plane.{size_of, at};
 ghost use Rattle.rowfed.specs.Begin.{begin_of, scratch_begun};
 ghost use Rattle.rowfed.specs.Finish.{finish_of, scratch_finished};
-ghost use Rattle.fuavelino.specs.Rows.{state_in, lent_state, fed_to, left_by, answer_number, numbers_written, kernel_written, sums_written};
+ghost use Rattle.fuavelino.specs.Rows.{state_in, lent_state, fed_to, state_by, left_by, numbers_of, sums_of, numbers_written, kernel_written, sums_written};
 ghost use Rattle.fuavelino.specs.Ssim.{ssim_written, cs_written};
 
 use crate::ssim_calls::put_pair;
