@@ -24,7 +24,7 @@ const UNIT: u64 = 1_000_000_000;
 pub const IDENTICAL: u32 = 10_000;
 
 // What is answered: D; that no sample differs, for which 100 decibels stand; or the refusal.
-#[derive(Clone, Copy)]
+#[derive(Clone, Copy, Debug, PartialEq, Eq)]
 pub enum Decibels {
     Hundredths(u32),
     Identical,
@@ -41,7 +41,7 @@ fn entry(entries: &[u64; 1000], k: usize) -> u64
 }
 
 // An error times a power of ten, and which power.
-#[derive(Clone, Copy)]
+#[derive(Clone, Copy, Debug, PartialEq, Eq)]
 struct Raised {
     error: Wide,
     power: u32,
@@ -73,17 +73,7 @@ fn place(entries: &[u64; 1000], peak: Wide, error: Wide) -> usize
     ensures { (result ≡ place_of (value_of peak) (value_of error)) × (result < place_count) }
 {
     let most = wide::times(peak, UNIT);
-    let mut low: usize = 0;
-    let mut high: usize = PLACES;
-    while low + 1 < high {
-        let mid = (low + high) / 2;
-        if wide::less(most, wide::times(error, entry(entries, mid))) {
-            high = mid;
-        } else {
-            low = mid;
-        }
-    }
-    low
+    entries.partition_point(|e| !wide::less(most, wide::times(error, *e))) - 1
 }
 
 // P: n samples, each as wrong as it can be.

@@ -1,21 +1,21 @@
 -- The first place found stays the first. Assumes nothing.
-use mathlib.Core.Path.{◌≡◌, refl}
+use mathlib.Core.Path.{◌≡◌, refl, sym, ◌∙◌}
 use mathlib.Core.Bool.{Bool, true, false, not, ◌&&◌}
 use mathlib.Core.List.{List}
 use Prim.Native.Nat.{ℕ, zero, suc, ◌+◌, ◌-◌, ◌*◌, ◌≤◌, ◌<◌}
 use native.Mathlib.Nat.{add-suc, add-zero}
 use native.Mathlib.Numerals.{add-one}
 use native.Mathlib.Omega.{arith}
-use borrow.Author.Tests.{eq-eqb, ne_eqb}
+use borrow.Author.Tests.{eq-eqb, ne_eqb, eqb-true}
 use lib.Dec.{eqb}
 use lib.ListN.{length}
-use Rattle.plane.specs.Plane.{Planes}
+use Rattle.plane.specs.Plane.{Planes, at}
 use Rattle.plane.proofs.All.{all_none, all_more, all_at}
-use Rattle.plane.proofs.Rows.{row_inside}
+use Rattle.plane.proofs.Rows.{row_inside, part, part_length, part_at}
 use Rattle.psnr.specs.Inner.Walk.{Walkable}
 use Rattle.locate.specs.declared.Located.TheVariants.{At, Alike}
-use Rattle.locate.specs.Where.{differ_at, along_to, down_to}
-use Rattle.locate.specs.Inner.Walk.{same_at, alike_from}
+use Rattle.locate.specs.Where.{differ_at, along_to, down_to, first_difference}
+use Rattle.locate.specs.Inner.Walk.{alike_to, AlikeBelow, FirstApart}
 
 -- ---- counted up, one column and one row more
 module _ (f : ℕ → ℕ → Bool) where
@@ -66,28 +66,59 @@ same m n e = rw (eq-eqb m n e)
 pub unlike : (m n : ℕ) → (m ≡ n → ⊥) → not (eqb m n) ≡ true
 unlike m n h = rw (ne_eqb m n h)
 
--- ---- a row that is passed over
-module _ (a b : List ℕ) (i j : ℕ) where
-  pub alike_none : alike_from a b i j 0 ≡ true
-  unfolding alike_from
+-- ---- two rows
+module _ (a b : List ℕ) where
+  pub alike_none : alike_to a b 0 ≡ true
+  unfolding alike_to
   alike_none = all_none _
 
-  pub alike_more : (x : ℕ) → alike_from a b i j (x + 1) ≡ (alike_from a b i j x && same_at a b (i + x) (j + x))
-  unfolding alike_from
+  alike_more : (x : ℕ) → alike_to a b (x + 1) ≡ (alike_to a b x && eqb (at a x) (at b x))
+  unfolding alike_to
   alike_more x = all_more _ x
 
-pub row_alike : (p : Planes) (y n : ℕ) → alike_from p.a.samples p.b.samples (y * p.a.stride) (y * p.b.stride) n ≡ true
-    → along_to (differ_at p) y n ≡ Alike
-unfolding alike_from
-row_alike p y n e = along_quiet (differ_at p) y n (λ x l. rw (all_at _ n e x l))
+  -- one place more
+  pub alike_next : (x : ℕ) {ok : Bool} {m n : ℕ} → ok ≡ alike_to a b x → m ≡ at a x → n ≡ at b x → (ok && eqb m n) ≡ alike_to a b (x + 1)
+  alike_next x e f g = rw (alike_more x, e, f, g)
 
--- ---- each row ends inside its plane
+pub ruleset alike_steps = (alike_none, alike_next)
+
+-- and as rows of two planes
 module _ {p : Planes} (w : Walkable p) (y : ℕ) (l : y < p.size.height) where
+  abbrev first_part : List ℕ
+  first_part = part p.a.samples p.a.stride p.size.width y
+
+  abbrev second_part : List ℕ
+  second_part = part p.b.samples p.b.stride p.size.width y
+
+  -- each ends inside its plane
   pub first_row : y * p.a.stride + p.size.width ≤ length p.a.samples
   first_row = row_inside _ _ w.bounded.first.long l
 
   pub second_row : y * p.b.stride + p.size.width ≤ length p.b.samples
   second_row = row_inside _ _ w.bounded.second.long l
 
+  pub parts_long : length first_part ≡ length second_part
+  parts_long = part_length _ _ _ _ first_row ∙ sym (part_length _ _ _ _ second_row)
+
+  -- where they agree, the row is passed over
+  pub row_quiet : AlikeBelow first_part second_part (length first_part) → along_to (differ_at p) y p.size.width ≡ Alike
+  row_quiet h =
+      along_quiet (differ_at p) y p.size.width
+      (λ x k. same _ _ (sym (part_at _ _ _ y x k) ∙ h x (rw (part_length _ _ _ y first_row) k) ∙ part_at _ _ _ y x k))
+
+  pub row_alike : alike_to first_part second_part (length first_part) ≡ true → along_to (differ_at p) y p.size.width ≡ Alike
+  unfolding alike_to
+  row_alike e = row_quiet (λ x k. eqb-true _ _ (all_at _ _ e x k))
+
+  -- where they do not, the place is found
+  pub row_apart : (x : ℕ) → FirstApart first_part second_part x → down_to (differ_at p) p.size.width y ≡ Alike
+      → At y x ≡ first_difference p
+  row_apart x f above =
+      let k : x < p.size.width = rw (part_length p.a.samples p.a.stride p.size.width y first_row) at f.0 in
+      let before = along_quiet (differ_at p) y x
+      (λ z m. let n : z < p.size.width = omega arith in same _ _ (sym (part_at _ _ _ y z n) ∙ f.2 z m ∙ part_at _ _ _ y z n)) in
+      let apart = unlike _ _ (λ e. f.1 (part_at _ _ _ y x k ∙ e ∙ sym (part_at _ _ _ y x k))) in
+      sym (found (differ_at p) p.size.width p.size.height y x above before apart k l)
+
 -- the walk to the first place
-pub ruleset first_steps = (first_row, second_row, along_none, along_more, down_none, down_more, row_alike, found)
+pub ruleset first_steps = (first_row, second_row, parts_long, down_none, down_more, row_quiet, row_alike, row_apart)

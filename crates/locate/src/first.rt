@@ -1,60 +1,74 @@
 // The first place, row by row, at which two planes differ.
-ghost use Rattle.std.specs.Prelude.{◌≡◌, ◌+◌, ◌≤◌, length};
+ghost use Rattle.std.specs.Prelude.{◌≡◌, length, MatchOption};
 ghost use Rattle.plane.specs.Inner.Lent.{planes};
 ghost use Rattle.psnr.specs.Inner.Walk.{Walkable};
 ghost use Rattle.locate.specs.Where.{first_difference, located_of};
-ghost use Rattle.locate.specs.Inner.Walk.{alike_from, laid};
+ghost use Rattle.locate.specs.Inner.Walk.{alike_to, AlikeBelow, FirstApart, laid};
 
 use crate::Located;
 use plane::Layout;
 
-// Whether n bytes of each plane agree. They are walked to their end, whatever they hold: such a loop is vectorised.
-#[tactic(auto, using(crate::proofs::Places::alike_none, crate::proofs::Places::alike_more))]
-fn alike8(a: &[u8], b: &[u8], from_a: usize, from_b: usize, n: usize) -> bool
-    requires { (from_a + n ≤ length a.now) × (from_b + n ≤ length b.now) }
-    ensures { result ≡ alike_from a.now b.now from_a from_b n }
+// Whether two rows of bytes agree. They are walked to their end, whatever they hold: such a loop is vectorised.
+#[tactic(auto, using(crate::proofs::Places::alike_steps))]
+fn alike8(a: &[u8], b: &[u8]) -> bool
+    requires { length a.now ≡ length b.now }
+    ensures { result ≡ alike_to a.now b.now (length a.now) }
 {
     let mut ok = true;
-    for x in 0..n {
-        ok = ok & (a[from_a + x] == b[from_b + x]);
+    for (p, q) in a.iter().zip(b) {
+        ok &= p == q;
     }
     ok
 }
 
 // The same of words.
-#[tactic(auto, using(crate::proofs::Places::alike_none, crate::proofs::Places::alike_more))]
-fn alike16(a: &[u16], b: &[u16], from_a: usize, from_b: usize, n: usize) -> bool
-    requires { (from_a + n ≤ length a.now) × (from_b + n ≤ length b.now) }
-    ensures { result ≡ alike_from a.now b.now from_a from_b n }
+#[tactic(auto, using(crate::proofs::Places::alike_steps))]
+fn alike16(a: &[u16], b: &[u16]) -> bool
+    requires { length a.now ≡ length b.now }
+    ensures { result ≡ alike_to a.now b.now (length a.now) }
 {
     let mut ok = true;
-    for x in 0..n {
-        ok = ok & (a[from_a + x] == b[from_b + x]);
+    for (p, q) in a.iter().zip(b) {
+        ok &= p == q;
     }
     ok
 }
 
-// Of bytes: both walks are left at the first place. A row that agrees is passed over as a whole.
+// The first column in which two rows of bytes differ.
+fn column8(a: &[u8], b: &[u8]) -> Option<usize>
+    requires { length a.now ≡ length b.now }
+    ensures { MatchOption result (AlikeBelow a.now b.now (length a.now)) (λ x. FirstApart a.now b.now x) }
+{
+    a.iter().zip(b).position(|(p, q)| p != q)
+}
+
+// The same of words.
+fn column16(a: &[u16], b: &[u16]) -> Option<usize>
+    requires { length a.now ≡ length b.now }
+    ensures { MatchOption result (AlikeBelow a.now b.now (length a.now)) (λ x. FirstApart a.now b.now x) }
+{
+    a.iter().zip(b).position(|(p, q)| p != q)
+}
+
+// Of bytes. A row that agrees is passed over as a whole.
 #[tactic(auto, using(crate::proofs::Places::first_steps))]
 fn first8(a: &[u8], b: &[u8], layout: Layout) -> Located
     requires { Walkable (laid layout a.now b.now) }
     ensures { result ≡ first_difference (laid layout a.now b.now) }
 {
     let width = layout.size.width;
-    let mut place = Located::Alike;
-    'bytes: for y in 0..layout.size.height {
+    for y in 0..layout.size.height {
         let from_a = y * layout.stride_a;
         let from_b = y * layout.stride_b;
-        if !alike8(a, b, from_a, from_b, width) {
-            for x in 0..width {
-                if a[from_a + x] != b[from_b + x] {
-                    place = Located::At { row: y, column: x };
-                    break 'bytes;
-                }
+        let row_a = &a[from_a..from_a + width];
+        let row_b = &b[from_b..from_b + width];
+        if !alike8(row_a, row_b) {
+            if let Some(x) = column8(row_a, row_b) {
+                return Located::At { row: y, column: x };
             }
         }
     }
-    place
+    Located::Alike
 }
 
 // The same of words.
@@ -64,20 +78,18 @@ fn first16(a: &[u16], b: &[u16], layout: Layout) -> Located
     ensures { result ≡ first_difference (laid layout a.now b.now) }
 {
     let width = layout.size.width;
-    let mut place = Located::Alike;
-    'words: for y in 0..layout.size.height {
+    for y in 0..layout.size.height {
         let from_a = y * layout.stride_a;
         let from_b = y * layout.stride_b;
-        if !alike16(a, b, from_a, from_b, width) {
-            for x in 0..width {
-                if a[from_a + x] != b[from_b + x] {
-                    place = Located::At { row: y, column: x };
-                    break 'words;
-                }
+        let row_a = &a[from_a..from_a + width];
+        let row_b = &b[from_b..from_b + width];
+        if !alike16(row_a, row_b) {
+            if let Some(x) = column16(row_a, row_b) {
+                return Located::At { row: y, column: x };
             }
         }
     }
-    place
+    Located::Alike
 }
 
 // Of planes of either width.

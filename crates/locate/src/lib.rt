@@ -12,7 +12,7 @@ pub mod first;
 pub mod tiles;
 
 // What the locator answers: the first place that differs, that there is none, or the refusal.
-#[derive(Clone, Copy)]
+#[derive(Clone, Copy, Debug, PartialEq, Eq)]
 pub enum Located {
     At { row: usize, column: usize },
     Alike,
@@ -20,7 +20,7 @@ pub enum Located {
 }
 
 // What the map answers: how many tiles lie across and down, or the refusal.
-#[derive(Clone, Copy)]
+#[derive(Clone, Copy, Debug, PartialEq, Eq)]
 pub enum Mapped {
     Tiles { across: usize, down: usize },
     Refused(u8),

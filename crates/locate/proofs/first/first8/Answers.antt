@@ -1,0 +1,16 @@
+-- `locate::first::first8` meets its contract. Assumes nothing.
+use Rattle.std.proofs.Common.{rules, sym, ◌∙◌}
+use Rattle.locate.proofs.Places.{row_quiet, row_alike, row_apart, down_more}
+use Rattle.locate.proofs.first.first8.Goals as goal
+use Rattle.locate.proofs.first.first8.Goals.{then-not-alike8+in_default, else-not-alike8}
+
+pub loop-y-preserved : goal.loop-y-preserved
+loop-y-preserved c =
+    down_more _ _ _ c.loop-y.invariant
+    (elim c.if-not-alike8.branch [
+      then-not-alike8+in_default w ↦ row_quiet c.requires c.loop-y.y c.loop-y-test.true w.in_default.ensures
+    | else-not-alike8 w ↦ row_alike c.requires c.loop-y.y c.loop-y-test.true (sym c.alike8.ensures ∙ (search rules))
+    ])
+
+pub returns-in-Some : goal.returns-in-Some
+returns-in-Some c = row_apart c.requires c.loop-y.y c.loop-y-test.true c.in-Some.x c.in-Some.ensures c.loop-y.invariant
