@@ -3,25 +3,40 @@ use mathlib.Core.Path.{◌≡◌}
 use mathlib.Core.List.{List}
 use Prim.Native.Nat.{ℕ, ◌+◌, ◌*◌, ◌<◌}
 use native.Mathlib.Nat.{add_assoc}
+use native.Mathlib.Omega.{arith}
 use Rattle.plane.specs.Plane.{Planes, at}
 use Rattle.plane.proofs.Sums.{sum_none, sum_more, sum_ext}
 use Rattle.psnr.specs.Squared.{square_of}
-use Rattle.psnr.specs.Inner.Walk.{squares_from}
-use Rattle.psnr.proofs.Squares.{squares_more}
+use Rattle.psnr.specs.Inner.Walk.{squares_in}
 use Rattle.locate.specs.Map.{tile_side, tile_length, piece_error, tile_error_to}
-use Rattle.plane.proofs.Rows.{row_inside, count_fits}
+use Rattle.plane.proofs.Rows.{row_inside, count_fits, cut, cut_at, cut_length}
 
--- one sample more of a piece
-pub sample_more : (a b : List ℕ) (i j x : ℕ) {sum square : ℕ} → sum ≡ squares_from a b i j x → square ≡ square_of (at a (i + x)) (at b (j + x))
-    → sum + square ≡ squares_from a b i j (x + 1)
-sample_more a b i j x e f = rw (squares_more a b i j x, e, f)
+-- a piece, counted up
+module _ (a b : List ℕ) where
+  pub piece_none : squares_in a b 0 ≡ 0
+  unfolding squares_in
+  piece_none = sum_none _
+
+  pub piece_next : (x : ℕ) {sum square : ℕ} → sum ≡ squares_in a b x → square ≡ square_of (at a x) (at b x)
+      → sum + square ≡ squares_in a b (x + 1)
+  unfolding squares_in
+  piece_next x e f = rw (sum_more _ x, e, f)
+
+pub ruleset piece_steps = (piece_none, piece_next)
 
 module _ (p : Planes) where
-  -- a piece is so many samples from its first on
-  pub piece_is : (x n y : ℕ)
-      → piece_error p x n y ≡ squares_from p.a.samples p.b.samples (y * p.a.stride + x) (y * p.b.stride + x) n
-  unfolding piece_error squares_from
-  piece_is x n y = sum_ext _ _ n (λ k (l : k < n). rw (add_assoc (y * p.a.stride) x k, add_assoc (y * p.b.stride) x k))
+  -- a piece is a part of a row of each plane
+  pub piece_is : (x n y : ℕ) → let i = y * p.a.stride + x in let j = y * p.b.stride + x in
+      piece_error p x n y ≡ squares_in (cut p.a.samples i (i + n)) (cut p.b.samples j (j + n)) n
+  unfolding piece_error squares_in
+  piece_is x n y =
+      let i = y * p.a.stride + x in
+      let j = y * p.b.stride + x in
+      sum_ext _ _ n
+      (λ k (l : k < n).
+      let e = cut_at p.a.samples i (i + n) k (omega arith) in
+      let f = cut_at p.b.samples j (j + n) k (omega arith) in
+      rw (e, f, add_assoc (y * p.a.stride) x k, add_assoc (y * p.b.stride) x k))
 
   pub tile_none : (j i : ℕ) → tile_error_to p j i 0 ≡ 0
   unfolding tile_error_to
@@ -34,4 +49,4 @@ module _ (p : Planes) where
   row_more j i k e f = rw (sum_more _ k, e, f)
 
 -- a piece ends inside its row
-pub ruleset piece_rules = (row_inside, count_fits, piece_is)
+pub ruleset piece_rules = (row_inside, count_fits, cut_length, piece_is)

@@ -3,7 +3,7 @@ ghost use Rattle.std.specs.Prelude.{◌≡◌, ◌+◌, ◌*◌, ◌<◌, ◌≤
 ghost use Rattle.number.specs.Steps.{list_to};
 ghost use Rattle.plane.specs.Limits.{side_limit};
 ghost use Rattle.plane.specs.Inner.Lent.{planes};
-ghost use Rattle.psnr.specs.Inner.Walk.{Walkable, squares_from};
+ghost use Rattle.psnr.specs.Inner.Walk.{Walkable, squares_in};
 ghost use Rattle.locate.specs.Map.{tile_side, tiles_along, tiles_of, tile_length, piece_error, tile_error, map_places, map_of};
 ghost use Rattle.locate.specs.Map.{map_refusal, mapped_of, map_after};
 ghost use Rattle.locate.specs.Inner.Walk.{piece_most};
@@ -21,7 +21,7 @@ fn tiles_along(side: usize) -> usize
     requires { side ≤ side_limit }
     ensures { result ≡ tiles_along side }
 {
-    (side + (TILE_SIDE - 1)) / TILE_SIDE
+    side.div_ceil(TILE_SIDE)
 }
 
 // How many tiles there are, and so how many places a map needs.
@@ -39,39 +39,38 @@ fn tile_length(side: usize, k: usize) -> usize
     requires { k * tile_side ≤ side }
     ensures { result ≡ tile_length side k }
 {
-    let rest = side - k * TILE_SIDE;
-    if rest < TILE_SIDE { rest } else { TILE_SIDE }
+    TILE_SIDE.min(side - k * TILE_SIDE)
 }
 
-// The sum over n bytes of each plane. So few fit 32 bits.
-#[tactic(auto, using(psnr::proofs::Squares::squares_none, crate::proofs::Sums::sample_more), unfolding(crate::specs::Map::tile_side))]
-fn piece8(a: &[u8], b: &[u8], from_a: usize, from_b: usize, n: usize) -> u32
-    requires { (from_a + n ≤ length a.now) × (from_b + n ≤ length b.now) × (n ≤ tile_side) }
-    ensures { result ≡ squares_from a.now b.now from_a from_b n }
+// The sum over two pieces of bytes. So few fit 32 bits.
+#[tactic(auto, using(crate::proofs::Sums::piece_steps), unfolding(crate::specs::Map::tile_side))]
+fn piece8(a: &[u8], b: &[u8]) -> u32
+    requires { (length a.now ≡ length b.now) × (length a.now ≤ tile_side) }
+    ensures { result ≡ squares_in a.now b.now (length a.now) }
 {
     let mut sum: u32 = 0;
-    for x in 0..n {
-        sum += walk::square8(a[from_a + x], b[from_b + x]);
+    for (p, q) in a.iter().zip(b) {
+        sum += walk::square8(*p, *q);
     }
     sum
 }
 
 // The same of words.
-#[tactic(auto, using(psnr::proofs::Squares::squares_none, crate::proofs::Sums::sample_more), unfolding(crate::specs::Map::tile_side))]
-fn piece16(a: &[u16], b: &[u16], from_a: usize, from_b: usize, n: usize) -> u64
-    requires { (from_a + n ≤ length a.now) × (from_b + n ≤ length b.now) × (n ≤ tile_side) }
-    ensures { (result ≡ squares_from a.now b.now from_a from_b n) × (result ≤ piece_most) }
+#[tactic(auto, using(crate::proofs::Sums::piece_steps), unfolding(crate::specs::Map::tile_side))]
+fn piece16(a: &[u16], b: &[u16]) -> u64
+    requires { (length a.now ≡ length b.now) × (length a.now ≤ tile_side) }
+    ensures { (result ≡ squares_in a.now b.now (length a.now)) × (result ≤ piece_most) }
 {
     let mut sum: u64 = 0;
-    for x in 0..n {
-        sum += walk::square16(a[from_a + x], b[from_b + x]) as u64;
+    for (p, q) in a.iter().zip(b) {
+        sum += u64::from(walk::square16(*p, *q));
     }
     sum
 }
 
 // The sum over the n samples of row y from column x on. Of a full tile the count is one that the compiler knows: that loop becomes
 // straight code.
-#[tactic(auto, using(crate::proofs::Sums::piece_rules), unfolding(crate::specs::Map::tile_side,))]
+#[tactic(auto, using(crate::proofs::Sums::piece_rules), unfolding(crate::specs::Map::tile_side))]
 fn piece(
     a8: &[u8],
     a16: &[u16],
@@ -90,14 +89,14 @@ fn piece(
     let from_b = y * layout.stride_b + x;
     if layout.size.wide {
         if n == TILE_SIDE {
-            return piece16(a16, b16, from_a, from_b, TILE_SIDE);
+            return piece16(&a16[from_a..from_a + TILE_SIDE], &b16[from_b..from_b + TILE_SIDE]);
         }
-        return piece16(a16, b16, from_a, from_b, n);
+        return piece16(&a16[from_a..from_a + n], &b16[from_b..from_b + n]);
     }
     if n == TILE_SIDE {
-        return piece8(a8, b8, from_a, from_b, TILE_SIDE) as u64;
+        return u64::from(piece8(&a8[from_a..from_a + TILE_SIDE], &b8[from_b..from_b + TILE_SIDE]));
     }
-    piece8(a8, b8, from_a, from_b, n) as u64
+    u64::from(piece8(&a8[from_a..from_a + n], &b8[from_b..from_b + n]))
 }
 
 // The squared error of the tile in row j and column i of tiles.
@@ -108,6 +107,7 @@ fn tile(a8: &[u8], a16: &[u16], b8: &[u8], b16: &[u16], layout: Layout, j: usize
 {
     let columns = tile_length(layout.size.width, i);
     let mut sum: u64 = 0;
+    // by index: row k of the tile is a piece of both planes
     for k in 0..tile_length(layout.size.height, j) {
         sum += piece(
             a8,
@@ -124,6 +124,7 @@ fn tile(a8: &[u8], a16: &[u16], b8: &[u8], b16: &[u16], layout: Layout, j: usize
 }
 
 // Row j of tiles, into as many places.
+#[tactic(auto, using(number::proofs::Lists::filled_none, number::proofs::Lists::filled_more, number::proofs::Lists::filled_all))]
 fn tile_row(
     a8: &[u8],
     a16: &[u16],
@@ -138,8 +139,8 @@ fn tile_row(
     ensures { row.new ≡ list_to (tile_error (planes layout a8.entry a16.entry b8.entry b16.entry) j)
         (tiles_along layout.size.width) }
 {
-    for i in 0..row.len() {
-        row[i] = tile(a8, a16, b8, b16, layout, j, i);
+    for (i, place) in row.iter_mut().enumerate() {
+        *place = tile(a8, a16, b8, b16, layout, j, i);
     }
 }
 
@@ -151,6 +152,7 @@ fn tiles(a8: &[u8], a16: &[u16], b8: &[u8], b16: &[u16], layout: Layout, map: &m
     ensures { map.new ≡ map_of (planes layout a8.entry a16.entry b8.entry b16.entry) }
 {
     let across = tiles_along(layout.size.width);
+    // by index: after `chunks_mut` a proof knows no place of the map
     for j in 0..tiles_along(layout.size.height) {
         let from = j * across;
         tile_row(a8, a16, b8, b16, layout, j, &mut map[from..from + across]);
