@@ -9,6 +9,8 @@ use Rattle.plane.proofs.Sums.{sum_none, sum_more, sum_ext}
 use Rattle.psnr.specs.Squared.{square_of}
 use Rattle.psnr.specs.Inner.Walk.{squares_in}
 use Rattle.locate.specs.Map.{tile_side, tile_length, piece_error, tile_error_to}
+use Rattle.plane.proofs.Limits.{side_small}
+use Rattle.locate.proofs.Sides.{begins, ends, length_most}
 use Rattle.plane.proofs.Rows.{row_inside, count_fits, cut, cut_at, cut_length}
 
 -- a piece, counted up
@@ -50,3 +52,6 @@ module _ (p : Planes) where
 
 -- a piece ends inside its row
 pub ruleset piece_rules = (row_inside, count_fits, cut_length, piece_is)
+
+-- a tile lies inside its planes, and its rows are counted up
+pub ruleset tile_rules = (side_small, begins, ends, length_most, tile_none, row_more)

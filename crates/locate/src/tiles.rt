@@ -100,6 +100,7 @@ fn piece(
 }
 
 // The squared error of the tile in row j and column i of tiles.
+#[tactic(auto, using(crate::proofs::Sums::tile_rules), unfolding(crate::specs::Map::tile_side))]
 fn tile(a8: &[u8], a16: &[u16], b8: &[u8], b16: &[u16], layout: Layout, j: usize, i: usize) -> u64
     requires walkable { Walkable (planes layout a8 a16 b8 b16) }
     requires j_bound { (j < tiles_along layout.size.height) × (i < tiles_along layout.size.width) }
