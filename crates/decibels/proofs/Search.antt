@@ -1,6 +1,6 @@
 -- The place at which the chart is parted into the entries that fit and those that do not. Assumes nothing.
-use Rattle.std.proofs.Common.{◌≡◌, ℕ, ◌+◌, ◌-◌, ◌*◌, ◌/◌, ◌<◌, ◌≤◌, Bool, true, false, length, get_or, sym, ◌∙◌, arith}
-use Rattle.std.proofs.Common.{leb, leb-true, leb-false, le-leb, le_trans, lt_of_not-le, not-le_of_lt, mul-le-mul, mul_comm}
+use Rattle.std.proofs.Common.{◌≡◌, ℕ, ◌+◌, ◌-◌, ◌*◌, ◌/◌, ◌<◌, ◌≤◌, true, false, length, get_or, sym, ◌∙◌, arith}
+use Rattle.std.proofs.Common.{leb, leb-true, leb-false, lt_of_not-le, not-le_of_lt, mul-le-mul, mul_comm}
 use native.Mathlib.Nat.{le-div_iff_mul-le}
 use native.Mathlib.Decide.{dec_le}
 use Rattle.std.proofs.lemmas.List.{get_or_default}

@@ -70,7 +70,7 @@ fn peak_of(n: u64, max: u32) -> u128
 }
 
 // The answer for an error under P.
-#[tactic(auto, unfolding(crate::specs::Hundredths::hundredths_of, crate::specs::Hundredths::place_count))]
+#[tactic(auto, unfolding(crate::specs::Hundredths::hundredths_of, crate::specs::Hundredths::place_count, crate::specs::Inner::Room::power_limit))]
 fn answer(peak: u128, error: u64) -> Decibels
     requires { (error ≤ peak) × (peak < peak_limit) }
     ensures { result ≡ decibels_of peak error }
@@ -95,21 +95,14 @@ pub fn of_record(r: Record) -> Decibels
 }
 
 // Whether some series adds up to this total. Its largest error can need more than a word.
-#[tactic(auto, unfolding(crate::specs::Answer::total_suits, psnr::specs::Record::error_suits))]
+#[tactic(auto, unfolding(crate::specs::Answer::total_suits, psnr::specs::Record::error_suits, psnr::specs::Limits::record_limit, psnr::specs::Limits::count_limit))]
 fn total_suits(t: Total) -> bool
     ensures { result ≡ total_suits t }
 {
-    if !((1 <= t.n) & (t.n <= psnr::RECORD_LIMIT * psnr::judge::COUNT_LIMIT)) {
-        return false;
-    }
-    if !psnr::judge::max_suits(t.sample_max) {
-        return false;
-    }
-    if !psnr::judge::is_whole(t.sq_err) {
-        return false;
-    }
-    let error = u128::from(t.sq_err as u64);
-    error <= peak_of(t.n, t.sample_max)
+    (1..=psnr::RECORD_LIMIT * psnr::judge::COUNT_LIMIT).contains(&t.n)
+        && psnr::judge::max_suits(t.sample_max)
+        && psnr::judge::is_whole(t.sq_err)
+        && u128::from(t.sq_err as u64) <= peak_of(t.n, t.sample_max)
 }
 
 // Of a total.

@@ -89,12 +89,18 @@ fn piece(
     let from_b = y * layout.stride_b + x;
     if layout.size.wide {
         if n == TILE_SIDE {
-            return piece16(&a16[from_a..from_a + TILE_SIDE], &b16[from_b..from_b + TILE_SIDE]);
+            return piece16(
+                &a16[from_a..from_a + TILE_SIDE],
+                &b16[from_b..from_b + TILE_SIDE],
+            );
         }
         return piece16(&a16[from_a..from_a + n], &b16[from_b..from_b + n]);
     }
     if n == TILE_SIDE {
-        return u64::from(piece8(&a8[from_a..from_a + TILE_SIDE], &b8[from_b..from_b + TILE_SIDE]));
+        return u64::from(piece8(
+            &a8[from_a..from_a + TILE_SIDE],
+            &b8[from_b..from_b + TILE_SIDE],
+        ));
     }
     u64::from(piece8(&a8[from_a..from_a + n], &b8[from_b..from_b + n]))
 }

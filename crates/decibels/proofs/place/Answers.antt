@@ -1,5 +1,5 @@
 -- `decibels::place` meets its contract: the chart rises, and so it is parted at the place that is sought. Assumes nothing.
-use Rattle.std.proofs.Common.{◌≡◌, ℕ, leb, true, false, subst, sym, rules, arith}
+use Rattle.std.proofs.Common.{ℕ, leb, rules, arith}
 use Rattle.std.proofs.lemmas.List.Sorted.{IsPartitionPoint-from_clause, IsPartitionedBy-leb}
 use Rattle.decibels.specs.Hundredths.{chart_unit}
 use Rattle.decibels.specs.Inner.Chart.{chart}

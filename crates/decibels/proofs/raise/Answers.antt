@@ -1,5 +1,5 @@
 -- `decibels::raise` meets its contract. Assumes nothing.
-use Rattle.std.proofs.Common.{◌≡◌, ℕ, ◌+◌, ◌*◌, ◌^◌, ◌<◌, sym, arith, add-one}
+use Rattle.std.proofs.Common.{◌≡◌, ℕ, ◌+◌, ◌*◌, ◌^◌, sym, arith, add-one}
 use native.Mathlib.Nat.{pow-suc, lt_of_le_of_lt}
 use Rattle.decibels.specs.Inner.Room.{power_limit}
 use Rattle.decibels.proofs.Room.{power_short, ten_small, product_room}

@@ -8,8 +8,8 @@ pub loop-y-preserved : goal.loop-y-preserved
 loop-y-preserved c =
     down_more _ _ _ c.loop-y.invariant
     (elim c.if-not-alike16.branch [
-      then-not-alike16+in_default w ↦ row_quiet c.requires c.loop-y.y c.loop-y-test.true w.in_default.ensures
-    | else-not-alike16 w ↦ row_alike c.requires c.loop-y.y c.loop-y-test.true (sym c.alike16.ensures ∙ (search rules))
+      | then-not-alike16+in_default w ↦ row_quiet c.requires c.loop-y.y c.loop-y-test.true w.in_default.ensures
+      | else-not-alike16 w ↦ row_alike c.requires c.loop-y.y c.loop-y-test.true (sym c.alike16.ensures ∙ (search rules))
     ])
 
 pub returns-in-Some : goal.returns-in-Some
