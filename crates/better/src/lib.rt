@@ -7,35 +7,21 @@ ghost use Rattle.better.specs.Better.{contest, smaller_of, better_of, winner_of}
 ghost use Rattle.better.specs.Inner.Judged.{judged_of, decided, lent_contest};
 
 use plane::{Layout, Size};
-use psnr::walk::Walked;
+use refusal::Refusal;
 
 // The smaller squared error, as a record has it, and whose it is; on a tie the first's.
-#[derive(Clone, Copy)]
+#[derive(Clone, Copy, Debug, PartialEq)]
 pub enum Better {
     First(f64),
     Second(f64),
-    Refused(u8),
-}
-
-// What one pair of planes is found to be: so far apart, or refused.
-#[derive(Clone, Copy)]
-pub enum Judged {
-    Apart(u64),
-    Refused(u8),
 }
 
 // The squared error of two planes of either width. 6 is judged on the walk.
-fn judge(a8: &[u8], a16: &[u16], b8: &[u8], b16: &[u16], layout: Layout) -> Judged
+fn judge(a8: &[u8], a16: &[u16], b8: &[u8], b16: &[u16], layout: Layout) -> Result<u64, Refusal>
     ensures { result ≡ judged_of (planes layout a8.entry a16.entry b8.entry b16.entry) }
 {
-    let no = plane::check_unread(a8, a16, b8, b16, layout, 0);
-    if no != 0 {
-        return Judged::Refused(no);
-    }
-    match psnr::walk::rows(a8, a16, b8, b16, layout) {
-        Walked::Sum(error) => Judged::Apart(error),
-        Walked::Above => Judged::Refused(refusal::SAMPLE),
-    }
+    plane::check_unread(a8, a16, b8, b16, layout, 0)?;
+    psnr::walk::rows(a8, a16, b8, b16, layout)
 }
 
 // Of two errors the smaller.
@@ -43,25 +29,18 @@ fn smaller(first: u64, second: u64) -> Better
     ensures { result ≡ smaller_of first second }
 {
     if second < first {
-        return Better::Second(number::double(second));
+        Better::Second(number::double(second))
+    } else {
+        Better::First(number::double(first))
     }
-    Better::First(number::double(first))
 }
 
-// Of two findings the answer: where both refuse, the lower number.
-fn decide(first: Judged, second: Judged) -> Better
+// Of two findings the answer: where both refuse, the lower refusal; what is left where neither does are two errors.
+fn decide(first: Result<u64, Refusal>, second: Result<u64, Refusal>) -> Result<Better, Refusal>
     ensures { result ≡ decided first second }
 {
-    match first {
-        Judged::Apart(a) => match second {
-            Judged::Apart(b) => smaller(a, b),
-            Judged::Refused(m) => Better::Refused(m),
-        },
-        Judged::Refused(n) => match second {
-            Judged::Apart(b) => Better::Refused(n),
-            Judged::Refused(m) => Better::Refused(plane::lower(n, m)),
-        },
-    }
+    refusal::lower(first.map(|_| ()), second.map(|_| ()))?;
+    Ok(smaller(first?, second?))
 }
 
 // Which of two planes of either width is nearer the original.
@@ -76,7 +55,7 @@ fn answer(
     stride_o: usize,
     stride_a: usize,
     stride_b: usize,
-) -> Better
+) -> Result<Better, Refusal>
     ensures { result ≡ better_of (lent_contest size o8.entry o16.entry a8.entry a16.entry b8.entry b16.entry
         stride_o stride_a stride_b) }
 {
@@ -107,7 +86,7 @@ pub fn better8(
     stride_a: usize,
     stride_b: usize,
     depth: u32,
-) -> Better
+) -> Result<Better, Refusal>
     ensures { result ≡ better_of
         (contest false o.entry a.entry b.entry width height stride_o stride_a stride_b depth) }
 {
@@ -133,7 +112,7 @@ pub fn better16(
     stride_a: usize,
     stride_b: usize,
     depth: u32,
-) -> Better
+) -> Result<Better, Refusal>
     ensures { result ≡ better_of
         (contest true o.entry a.entry b.entry width height stride_o stride_a stride_b depth) }
 {
@@ -164,9 +143,9 @@ pub fn winner8<'o, 'c>(
         (contest false o.entry a.entry b.entry width height stride_o stride_a stride_b depth) }
 {
     match better8(o, a, b, width, height, stride_o, stride_a, stride_b, depth) {
-        Better::First(e) => a,
-        Better::Second(e) => b,
-        Better::Refused(n) => &a[0..0],
+        Ok(Better::First(_)) => a,
+        Ok(Better::Second(_)) => b,
+        Err(_) => &a[0..0],
     }
 }
 
@@ -186,8 +165,8 @@ pub fn winner16<'o, 'c>(
         (contest true o.entry a.entry b.entry width height stride_o stride_a stride_b depth) }
 {
     match better16(o, a, b, width, height, stride_o, stride_a, stride_b, depth) {
-        Better::First(e) => a,
-        Better::Second(e) => b,
-        Better::Refused(n) => &a[0..0],
+        Ok(Better::First(_)) => a,
+        Ok(Better::Second(_)) => b,
+        Err(_) => &a[0..0],
     }
 }

@@ -1,5 +1,6 @@
 -- Whole numbers: the whole root and the nearest one meet their tests, and nothing else does. Assumes nothing.
-use Rattle.std.proofs.Common.{◌≡◌, ℕ, zero, suc, ◌+◌, ◌-◌, ◌*◌, ◌/◌, ◌%◌, ◌^◌, ◌<◌, ◌≤◌, Bool, true, false, cond, ◌&&◌, ltb, leb, refl, ap, ◌∙◌, add_assoc, mul_assoc, mul_comm, add-mul, mul-le-mul, add_comm, le_antisymm, pow-suc, mul-add, mul_left_comm, arith, ltb-true, le-ltb, lt-ltb, le-leb}
+use Rattle.std.proofs.Common.{◌≡◌, ℕ, zero, suc, ◌+◌, ◌-◌, ◌*◌, ◌/◌, ◌%◌, ◌^◌, ◌<◌, ◌≤◌, Bool, true, false, cond, ◌&&◌, ltb, leb, sym, refl, ap, ◌∙◌, add_assoc, mul_assoc}
+use Rattle.std.proofs.Common.{mul_comm, add-mul, mul-le-mul, add_comm, le_antisymm, pow-suc, mul-add, mul_left_comm, arith, ltb-true, le-ltb, lt-ltb, le-leb}
 use native.Mathlib.Nat.{add_left_comm, mul-lt-mul_of_pos_left}
 use native.Mathlib.Decide.{dec_lt, dec_le}
 use borrow.Author.Tests.{lt-leb}
@@ -141,6 +142,19 @@ pub round_stay : (n s : ℕ) → n ≤ s * (s + 1) → rounded n s ≡ s
 unfolding rounded
 round_stay n s l = rw (lt-ltb (4 * n) ((2 * s + 1) * (2 * s + 1)) (omega (arith, above_square s)))
 
+-- from the last one whose square is at most n
+module _ (n s : ℕ) (h : n < 4 ^ 53) (within : s * s ≤ n) (beyond : n < (s + 1) * (s + 1)) where
+  is_whole : s ≡ whole_root 53 n
+  is_whole = whole_only n s _ record { within = within; beyond = beyond } (whole_says 53 n h)
+
+  pub nearest_up : s * (s + 1) < n → s + 1 ≡ nearest_root 53 n
+  unfolding nearest_root
+  nearest_up l = sym (round_up n s l) ∙ ap (rounded n) is_whole
+
+  pub nearest_stay : n ≤ s * (s + 1) → s ≡ nearest_root 53 n
+  unfolding nearest_root
+  nearest_stay l = sym (round_stay n s l) ∙ ap (rounded n) is_whole
+
 pub whole_lt : (n s b : ℕ) → Whole n s → n < b * b → s < b
 whole_lt n s b c h = go (dec_lt s b)
   where
@@ -163,12 +177,6 @@ pub shifted : (m odd : ℕ) → Digits m odd → Scaled (m * 2 ^ (52 + odd))
 shifted m zero d = record { least = omega (arith, d); most = omega (arith, d) }
 shifted m (suc zero) d = record { least = omega (arith, d); most = omega (arith, d) }
 shifted m (suc (suc k)) d = absurd (omega (arith, d))
-
--- in the code's words
-pub moved_up : (m odd : ℕ) → Digits m odd → (m * 2 ^ odd % 2 ^ 64 < 2 ^ 54) × (m * 2 ^ odd % 2 ^ 64 * 2 ^ 52 ≡ m * 2 ^ (52 + odd))
-moved_up m zero d = (omega (arith, d), omega (arith, d))
-moved_up m (suc zero) d = (omega (arith, d), omega (arith, d))
-moved_up m (suc (suc k)) d = absurd (omega (arith, d))
 
 pub record Answered (n s : ℕ) : Type 0 where
   pub is : s ≡ nearest_root 53 n

@@ -2,14 +2,16 @@
 // samples come as two slices, bytes and words: `wide` says which is the plane, and the other is not read.
 #![tactic(auto)]
 
-ghost use Rattle.std.specs.Prelude.{◌≡◌, true, false, [], ◌∷◌, ◌+◌, ◌*◌, ◌<◌, ◌≤◌, length};
+ghost use Rattle.std.specs.Prelude.{◌≡◌, ℕ, true, false, [], ◌∷◌, ◌+◌, ◌*◌, ◌<◌, ◌≤◌, length, map, leb};
 ghost use Rattle.refusal.specs.First.{first_broken};
 ghost use Rattle.plane.specs.Limits.{most_depth};
 ghost use Rattle.plane.specs.Plane.{called, max_of, at, all_to};
-ghost use Rattle.plane.specs.Inner.Lent.{samples_of, lent, planes, Long, lower_of};
+ghost use Rattle.plane.specs.Inner.Lent.{samples_of, lent, planes, Long};
 ghost use Rattle.plane.specs.Inner.Unread.{lent_tests, unread_refusal};
 ghost use Rattle.plane.specs.Tests.{depth_suits, sides_suit, sides_reach, stride_suits, long_enough};
 ghost use Rattle.plane.specs.Tests.{none_above, row_suits, samples_suit, size_tests, layout_tests, pair_refusal};
+
+use refusal::Refusal;
 
 // The largest width and the largest height.
 pub const SIDE_LIMIT: usize = 16384;
@@ -19,7 +21,7 @@ pub const STRIDE_LIMIT: usize = 32768;
 pub const DEPTH_LIMIT: u32 = 12;
 
 // What two planes share: whether their samples are words, their sides in samples, and their depth.
-#[derive(Clone, Copy)]
+#[derive(Clone, Copy, Debug, PartialEq, Eq)]
 pub struct Size {
     pub wide: bool,
     pub width: usize,
@@ -28,7 +30,7 @@ pub struct Size {
 }
 
 // Two planes as they are lent: what they share, and the stride of each.
-#[derive(Clone, Copy)]
+#[derive(Clone, Copy, Debug, PartialEq, Eq)]
 pub struct Layout {
     pub size: Size,
     pub stride_a: usize,
@@ -79,7 +81,7 @@ pub fn stride_suits(width: usize, stride: usize) -> bool
 }
 
 // The sample at place `i`.
-pub fn sample(bytes: &[u8], words: &[u16], wide: bool, i: usize) -> u32
+pub fn sample_of(bytes: &[u8], words: &[u16], wide: bool, i: usize) -> u32
     requires { i < length (samples_of wide bytes.now words.now) }
     ensures { result ≡ at (samples_of wide bytes.now words.now) i }
 {
@@ -111,23 +113,62 @@ pub fn long_enough(bytes: &[u8], words: &[u16], size: Size, stride: usize) -> bo
     height <= (n - width) / stride + 1
 }
 
-// Whether no sample of a row is above `max`. A row is walked to its end, whatever it holds: such a loop is vectorised.
-pub fn row_suits8(row: &[u8], max: u8) -> bool
-    ensures { result ≡ none_above max (at row.now) (length row.now) }
-{
-    let mut ok = true;
-    for x in 0..row.len() {
-        ok = ok & (row[x] <= max);
-    }
-    ok
+// A sample: a byte or a word of a plane, or a 32-bit place of a scale.
+pub trait Sample: Copy {
+    // The number that it is.
+    ghost value: { Self → ℕ };
+
+    fn value(self) -> u32
+        ensures { result ≡ value self };
+
+    fn is_at_most(self, max: Self) -> bool
+        ensures { result ≡ leb (value self) (value max) };
 }
 
-fn row_suits16(row: &[u16], max: u16) -> bool
-    ensures { result ≡ none_above max (at row.now) (length row.now) }
+impl Sample for u8 {
+    ghost value = { λ x. x };
+
+    fn value(self) -> u32 {
+        self as u32
+    }
+
+    fn is_at_most(self, max: u8) -> bool {
+        self <= max
+    }
+}
+
+impl Sample for u16 {
+    ghost value = { λ x. x };
+
+    fn value(self) -> u32 {
+        self as u32
+    }
+
+    fn is_at_most(self, max: u16) -> bool {
+        self <= max
+    }
+}
+
+impl Sample for u32 {
+    ghost value = { λ x. x };
+
+    fn value(self) -> u32 {
+        self
+    }
+
+    fn is_at_most(self, max: u32) -> bool {
+        self <= max
+    }
+}
+
+// Whether no sample of a row is above `max`. A row is walked to its end, whatever it holds: such a loop is vectorised.
+#[tactic(auto, using(crate::proofs::All::none_none, crate::proofs::All::none_more, crate::proofs::All::at_value))]
+pub fn none_above<S: Sample>(row: &[S], max: S) -> bool
+    ensures { result ≡ none_above (S.value max) (at (map S.value row.now)) (length row.now) }
 {
     let mut ok = true;
-    for x in 0..row.len() {
-        ok = ok & (row[x] <= max);
+    for &x in row {
+        ok = ok & x.is_at_most(max);
     }
     ok
 }
@@ -142,13 +183,13 @@ fn row_suits(bytes: &[u8], words: &[u16], size: Size, stride: usize, y: usize, m
     let start = y * stride;
     let end = start + width;
     if size.wide {
-        row_suits16(&words[start..end], max as u16)
+        none_above(&words[start..end], max as u16)
     } else {
-        row_suits8(&bytes[start..end], max as u8)
+        none_above(&bytes[start..end], max as u8)
     }
 }
 
-// The same of every row. What stands between rows is never read.
+// The same of every row, by its number: what stands between rows is never read.
 fn rows_suit(bytes: &[u8], words: &[u16], size: Size, stride: usize, max: u32) -> bool
     requires long { Long size (lent size bytes words stride) }
     requires max_bound { max ≤ max_of (most_depth size.wide) }
@@ -175,79 +216,72 @@ pub fn samples_suit(bytes: &[u8], words: &[u16], size: Size, stride: usize) -> b
     rows_suit(bytes, words, size, stride, max)
 }
 
-// The lowest of 1, 2 and 3 that applies, and 0 where none does. `least` is the call's least side, 0 where 3 does not belong to it.
-pub fn size_refusal(size: Size, least: usize) -> u8
+// The lowest of 1, 2 and 3 that applies. `least` is the call's least side, 0 where 3 does not belong to it.
+#[tactic(auto, unfolding(crate::specs::Tests::size_tests))]
+pub fn check_size(size: Size, least: usize) -> Result<(), Refusal>
     ensures { result ≡ first_broken (size_tests size least) }
 {
     if !depth_suits(size.wide, size.depth) {
-        return refusal::DEPTH;
+        return Err(Refusal::Depth);
     }
     if !sides_suit(size.width, size.height) {
-        return refusal::SIZE;
+        return Err(Refusal::Size);
     }
     if !sides_reach(least, size.width, size.height) {
-        return refusal::SIDE;
+        return Err(Refusal::Side);
     }
-    0
+    Ok(())
 }
 
-// The lowest of 4 and 5 that applies to one plane, and 0 where none does.
-fn lent_refusal(bytes: &[u8], words: &[u16], size: Size, stride: usize) -> u8
+// The lowest of 4 and 5 that applies to one plane.
+#[tactic(auto, using(crate::proofs::Accept::stride_says), unfolding(crate::specs::Inner::Unread::lent_tests))]
+fn check_lent(bytes: &[u8], words: &[u16], size: Size, stride: usize) -> Result<(), Refusal>
     requires { 1 ≤ size.width }
     ensures { result ≡ first_broken (lent_tests size (lent size bytes.entry words.entry stride ∷ [])) }
 {
     if !stride_suits(size.width, stride) {
-        return refusal::STRIDE;
+        return Err(Refusal::Stride);
     }
     if !long_enough(bytes, words, size, stride) {
-        return refusal::SHORT;
+        return Err(Refusal::Short);
     }
-    0
+    Ok(())
 }
 
-// The lowest of 4, 5 and 6 that applies to one plane, and 0 where none does.
-pub fn layout_refusal(bytes: &[u8], words: &[u16], size: Size, stride: usize) -> u8
+// The lowest of 4, 5 and 6 that applies to one plane.
+#[tactic(auto, using(crate::proofs::Unread::layout_by, crate::proofs::Unread::lent_says))]
+pub fn check_layout(bytes: &[u8], words: &[u16], size: Size, stride: usize) -> Result<(), Refusal>
     requires depth_value { depth_suits size.wide size.depth ≡ true }
     requires le_width { 1 ≤ size.width }
     ensures { result ≡ first_broken (layout_tests size (lent size bytes.entry words.entry stride ∷ [])) }
 {
-    let no = lent_refusal(bytes, words, size, stride);
-    if no != 0 {
-        return no;
-    }
+    check_lent(bytes, words, size, stride)?;
     if !samples_suit(bytes, words, size, stride) {
-        return refusal::SAMPLE;
+        return Err(Refusal::Sample);
     }
-    0
+    Ok(())
 }
 
-// Of two refusals the lower, where 0 is none.
-pub fn lower(a: u8, b: u8) -> u8
-    ensures { result ≡ lower_of a b }
-{
-    if a == 0 {
-        return b;
-    }
-    if b == 0 {
-        return a;
-    }
-    if a <= b { a } else { b }
-}
-
-// The lowest of 1 to 6 that applies to two planes of either width, and 0 where none does.
-pub fn check(a8: &[u8], a16: &[u16], b8: &[u8], b16: &[u16], layout: Layout, least: usize) -> u8
+// The lowest of 1 to 6 that applies to two planes of either width.
+#[tactic(auto, using(crate::proofs::Several::pair_in_parts, crate::proofs::Several::sizes_say))]
+pub fn check(
+    a8: &[u8],
+    a16: &[u16],
+    b8: &[u8],
+    b16: &[u16],
+    layout: Layout,
+    least: usize,
+) -> Result<(), Refusal>
     ensures { result ≡ pair_refusal (planes layout a8.entry a16.entry b8.entry b16.entry) least }
 {
-    let no = size_refusal(layout.size, least);
-    if no != 0 {
-        return no;
-    }
-    let no_a = layout_refusal(a8, a16, layout.size, layout.stride_a);
-    let no_b = layout_refusal(b8, b16, layout.size, layout.stride_b);
-    lower(no_a, no_b)
+    check_size(layout.size, least)?;
+    let own = check_layout(a8, a16, layout.size, layout.stride_a);
+    let other = check_layout(b8, b16, layout.size, layout.stride_b);
+    refusal::lower(own, other)
 }
 
-// The lowest of 1 to 5 that applies to them, and 0 where none does: for a call that judges 6 while it reads.
+// The lowest of 1 to 5 that applies to them: for a call that judges 6 while it reads.
+#[tactic(auto, using(crate::proofs::Unread::unread_in_parts, crate::proofs::Several::sizes_say))]
 pub fn check_unread(
     a8: &[u8],
     a16: &[u16],
@@ -255,19 +289,16 @@ pub fn check_unread(
     b16: &[u16],
     layout: Layout,
     least: usize,
-) -> u8
+) -> Result<(), Refusal>
     ensures { result ≡ unread_refusal (planes layout a8.entry a16.entry b8.entry b16.entry) least }
 {
-    let no = size_refusal(layout.size, least);
-    if no != 0 {
-        return no;
-    }
-    let first = lent_refusal(a8, a16, layout.size, layout.stride_a);
-    let second = lent_refusal(b8, b16, layout.size, layout.stride_b);
-    lower(first, second)
+    check_size(layout.size, least)?;
+    let first = check_lent(a8, a16, layout.size, layout.stride_a);
+    let second = check_lent(b8, b16, layout.size, layout.stride_b);
+    refusal::lower(first, second)
 }
 
-// The lowest of 1 to 6 that applies to two planes of bytes, and 0 where none does. `least` is the least side of the call, 0 where 3 is
+// The lowest of 1 to 6 that applies to two planes of bytes. `least` is the least side of the call, 0 where 3 is
 // not among its refusals.
 pub fn check8(
     a: &[u8],
@@ -278,7 +309,7 @@ pub fn check8(
     stride_b: usize,
     depth: u32,
     least: usize,
-) -> u8
+) -> Result<(), Refusal>
     ensures { result ≡ pair_refusal (called false a.entry b.entry width height stride_a stride_b depth) least }
 {
     let size = Size {
@@ -305,7 +336,7 @@ pub fn check16(
     stride_b: usize,
     depth: u32,
     least: usize,
-) -> u8
+) -> Result<(), Refusal>
     ensures { result ≡ pair_refusal (called true a.entry b.entry width height stride_a stride_b depth) least }
 {
     let size = Size {

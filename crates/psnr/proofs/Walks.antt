@@ -11,8 +11,9 @@ use Rattle.plane.proofs.Limits.{deepest}
 use Rattle.plane.proofs.Rows.{part, part_length, part_at}
 use Rattle.plane.proofs.Sums.{sum_ext}
 use Rattle.plane.proofs.Unread.{unread_says, unread_depth}
-use Rattle.psnr.specs.declared.walk.Walked.{Walked}
-use Rattle.psnr.specs.declared.walk.Walked.TheVariants.{Sum, Above}
+use Rattle.std.specs.Prelude.{Ok, Err}
+use Rattle.refusal.specs.declared.Refusal.{Refusal}
+use Rattle.refusal.specs.declared.Refusal.TheVariants as no
 use Rattle.psnr.specs.Limits.{total_limit}
 use Rattle.psnr.specs.Squared.{square_of, row_error, error_to, squared_error_score}
 use Rattle.psnr.specs.Inner.Walk.{Readable, squares_in, walked_if, row_walked, walked_at, walked_of}
@@ -20,20 +21,20 @@ use Rattle.psnr.proofs.Squares.{SmallRow, error_more, total_below}
 use Rattle.psnr.proofs.Parts.{found_above, found_sum}
 
 -- ---- what was found, as facts
-sum_says : (suit : Bool) (whole sum : ℕ) → walked_if suit whole ≡ Sum sum → (suit ≡ true) × (whole ≡ sum)
-sum_says true whole sum e = (refl, cc)
-sum_says false whole sum e = (cc, cc)
+sum_says : {sum : ℕ} (suit : Bool) (whole : ℕ) → Ok sum ≡ walked_if suit whole → (suit ≡ true) × (whole ≡ sum)
+sum_says true whole e = (refl, cc)
+sum_says false whole e = (cc, cc)
 
-above_says : (suit : Bool) (whole : ℕ) → walked_if suit whole ≡ Above → suit ≡ false
-above_says true whole e = cc
-above_says false whole e = refl
+above_says : {r : Refusal} (suit : Bool) (whole : ℕ) → Err r ≡ walked_if suit whole → (suit ≡ false) × (r ≡ no.Sample)
+above_says true whole e = (cc, cc)
+above_says false whole e = (refl, cc)
 
 -- ---- planes that none of 1 to 5 refuses can be read
-pub readable : (p : Planes) (least : ℕ) {n : ℕ} → n ≡ unread_refusal p least → n ≡ 0 → Readable p
-readable p least e z =
-    let says = unread_says p least e z in
+pub readable : (p : Planes) (least : ℕ) → unread_refusal p least ≡ Ok tt → Readable p
+readable p least e =
+    let says = unread_says p least e in
     record {
-      depth_suits_lem = unread_depth p least e z;
+      depth_suits_lem = unread_depth p least e;
       width_most = says.0.width_most;
       height_most = says.0.height_most;
       first_long = says.1.0;
@@ -92,19 +93,20 @@ module _ (p : Planes) where
       let a = row_suits max size.width p.a in
       rw (all_at a n (and_left _ _ s) y l, all_at (row_suits max size.width p.b) n (and_right (all_to a n) _ s) y l)
 
-  pub row_adds : (y : ℕ) {found : Walked} {sum error : ℕ} → sum ≡ error_to p y → suit_to y ≡ true → found ≡ walked_at p y
-      → found ≡ Sum error → (sum + error ≡ error_to p (y + 1)) × (suit_to (y + 1) ≡ true)
+  pub row_adds : (y : ℕ) {sum error : ℕ} → sum ≡ error_to p y → suit_to y ≡ true → Ok error ≡ walked_at p y
+      → (sum + error ≡ error_to p (y + 1)) × (suit_to (y + 1) ≡ true)
   unfolding walked_at
-  row_adds y {found} {sum} {error} e s w f =
-      let says = sum_says _ (row_error p size.width y) error (sym w ∙ f) in
+  row_adds y {sum} {error} e s w =
+      let says = sum_says _ (row_error p size.width y) w in
       (ap₂ (λ (t u : ℕ). t + u) e (sym says.1) ∙ sym (error_more p y), suit_more y s says.0)
 
-  pub row_breaks : (y : ℕ) {found : Walked} → y < size.height → found ≡ walked_at p y → found ≡ Above → Above ≡ walked_of p
+  pub row_breaks : (y : ℕ) {r : Refusal} → y < size.height → Err r ≡ walked_at p y → Err r ≡ walked_of p
   unfolding walked_at walked_of samples_suit
-  row_breaks y l w f =
-      found_above _ _ (λ s. true≢false (sym (suit_at_lem size.height s y l) ∙ above_says _ _ (sym w ∙ f)))
+  row_breaks y l w =
+      let says = above_says _ _ w in
+      rw says.1 (found_above _ _ (λ s. true≢false (sym (suit_at_lem size.height s y l) ∙ says.0)))
 
-  pub rows_end : {sum : ℕ} → sum ≡ error_to p size.height → suit_to size.height ≡ true → Sum sum ≡ walked_of p
+  pub rows_end : {sum : ℕ} → sum ≡ error_to p size.height → suit_to size.height ≡ true → Ok sum ≡ walked_of p
   unfolding walked_of samples_suit
   rows_end e s = found_sum s e
 
@@ -122,12 +124,10 @@ module _ (p : Planes) where
       (row_small r p.b y (and_right (all_to (row_suits max size.width p.a) y) _ s))
 
   -- ---- the whole
-  module _ {found : Walked} (w : found ≡ walked_of p) where
-    pub whole_says : {error : ℕ} → found ≡ Sum error
-        → ((samples_suit size p.a && samples_suit size p.b) ≡ true) × (squared_error_score p ≡ error)
-    unfolding walked_of
-    whole_says f = sum_says _ _ _ (sym w ∙ f)
+  pub whole_says : {error : ℕ} → Ok error ≡ walked_of p → ((samples_suit size p.a && samples_suit size p.b) ≡ true) × (squared_error_score p ≡ error)
+  unfolding walked_of
+  whole_says w = sum_says _ _ w
 
-    pub whole_breaks : found ≡ Above → (samples_suit size p.a && samples_suit size p.b) ≡ false
-    unfolding walked_of
-    whole_breaks f = above_says _ _ (sym w ∙ f)
+  pub whole_breaks : {r : Refusal} → Err r ≡ walked_of p → ((samples_suit size p.a && samples_suit size p.b) ≡ false) × (r ≡ no.Sample)
+  unfolding walked_of
+  whole_breaks w = above_says _ _ w

@@ -1,60 +1,56 @@
-// Checks of two planes. Of each plane `from` is the place of the one sample that is not 0, and `end` how many samples there are; x and y
-// are those samples, z is the least side.
+// Checks of two planes. Of each plane `from` is the place of the one sample that is not 0, and `end` how many samples there are; told are
+// those samples, and the least side.
 use crate::rows::Row;
 use crate::tell;
+use refusal::Refusal;
 
 // The samples of a plane, as many as the table's places reach: at this place no sample is set.
 const ROOM: usize = plane::SIDE_LIMIT;
 
-// A plane of bytes that are 0 but for one.
-fn bytes(at: usize, value: usize) -> [u8; ROOM] {
-    let mut list = [0u8; ROOM];
-    if at < ROOM {
-        list[at] = (value % 256) as u8;
+// Samples that are 0 but for one.
+fn set<T: Copy>(samples: &mut [T], at: usize, value: T) {
+    if let Some(sample) = samples.get_mut(at) {
+        *sample = value;
     }
-    list
 }
 
-// The same of words.
-fn words(at: usize, value: usize) -> [u16; ROOM] {
-    let mut list = [0u16; ROOM];
-    if at < ROOM {
-        list[at] = (value % 65536) as u16;
-    }
-    list
-}
-
-fn ask8(r: Row) -> u8 {
-    let a = bytes(r.a.from, r.told.x);
-    let b = bytes(r.b.from, r.told.y);
-    plane::check8(
-        tell::bytes_of(&a, 0, r.a.end),
-        tell::bytes_of(&b, 0, r.b.end),
+fn ask8(r: Row) -> Option<Result<(), Refusal>> {
+    let [x, y, least] = r.told;
+    let mut a = [0u8; ROOM];
+    let mut b = [0u8; ROOM];
+    set(&mut a, r.a.from, u8::try_from(x).ok()?);
+    set(&mut b, r.b.from, u8::try_from(y).ok()?);
+    Some(plane::check8(
+        tell::part_of(&a, 0..r.a.end),
+        tell::part_of(&b, 0..r.b.end),
         r.size.width,
         r.size.height,
         r.a.stride,
         r.b.stride,
         r.size.depth,
-        r.told.z,
-    )
+        least,
+    ))
 }
 
-fn ask16(r: Row) -> u8 {
-    let a = words(r.a.from, r.told.x);
-    let b = words(r.b.from, r.told.y);
-    plane::check16(
-        tell::words_of(&a, 0, r.a.end),
-        tell::words_of(&b, 0, r.b.end),
+fn ask16(r: Row) -> Option<Result<(), Refusal>> {
+    let [x, y, least] = r.told;
+    let mut a = [0u16; ROOM];
+    let mut b = [0u16; ROOM];
+    set(&mut a, r.a.from, u16::try_from(x).ok()?);
+    set(&mut b, r.b.from, u16::try_from(y).ok()?);
+    Some(plane::check16(
+        tell::part_of(&a, 0..r.a.end),
+        tell::part_of(&b, 0..r.b.end),
         r.size.width,
         r.size.height,
         r.a.stride,
         r.b.stride,
         r.size.depth,
-        r.told.z,
-    )
+        least,
+    ))
 }
 
 pub fn check_is(r: Row) -> bool {
-    let no = if r.size.wide { ask16(r) } else { ask8(r) };
-    (no as usize) == r.told.no
+    let answer = if r.size.wide { ask16(r) } else { ask8(r) };
+    answer.map(tell::number_of) == Some(r.no)
 }

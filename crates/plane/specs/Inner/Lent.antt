@@ -1,6 +1,6 @@
 -- Planes of either width as inner functions are lent them, the samples of each as bytes and as words, and what those functions
 -- give each other. Definitions only.
-use Rattle.std.specs.Prelude.{Bool, true, false, List, ℕ, zero, suc, min, ◌≤◌, length}
+use Rattle.std.specs.Prelude.{Bool, true, false, List, ℕ, ◌≤◌, length}
 use Rattle.std.specs.Borrow.{Bor}
 use Rattle.plane.specs.declared.Size.{Size}
 use Rattle.plane.specs.declared.Layout.{Layout}
@@ -29,9 +29,3 @@ planes layout a8 a16 b8 b16 = planes_in layout a8.now a16.now b8.now b16.now
 -- it reaches far enough
 abbrev pub Long : Size → Plane → Type 0
 Long size p = needed size.width size.height p.stride ≤ length p.samples
-
--- of two refusals the lower, where 0 is none
-abbrev pub lower_of : ℕ → ℕ → ℕ
-lower_of zero b = b
-lower_of (suc a) zero = suc a
-lower_of (suc a) (suc b) = min (suc a) (suc b)

@@ -1,11 +1,10 @@
 -- `psnr::walk::rows` meets its contract. The loop's invariant: no sample of the rows passed is above sample_max, and the sum is theirs.
 -- Assumes nothing.
-use Rattle.std.proofs.Common.{◌≡◌, ◌+◌, true, sym, arith, rules}
+use Rattle.std.proofs.Common.{◌≡◌, ◌+◌, Err, sym, ◌∙◌, arith, rules}
 use Rattle.plane.specs.Plane.{Planes}
 use Rattle.plane.specs.Inner.Lent.{planes}
-use Rattle.psnr.specs.Squared.{error_to}
 use Rattle.psnr.proofs.Squares.{error_none, total_fits}
-use Rattle.psnr.proofs.Walks.{suit_to, suit_none, row_adds, row_breaks, rows_end, rows_below}
+use Rattle.psnr.proofs.Walks.{suit_none, row_adds, row_breaks, rows_end, rows_below}
 use Rattle.psnr.proofs.walk.rows.Goals as goal
 
 pub loop-y-init : goal.loop-y-init
@@ -16,21 +15,20 @@ loop-y-init c =
 pub overflow_add-sum : goal.overflow_add-sum
 overflow_add-sum c =
     let both : Planes = planes c.args.layout c.args.a8 c.args.a16 c.args.b8 c.args.b16 in
-    let more : (c.loop-y.sum + c.in-Sum.error ≡ error_to both (c.loop-y.y + 1)) × (suit_to both (c.loop-y.y + 1) ≡ true) = row_adds both c.loop-y.y c.loop-y.invariant.1 c.loop-y.invariant.2 c.row.ensures c.in-Sum.is in
-    let m = more in
+    let m = row_adds both c.loop-y.y c.loop-y.invariant.1 c.loop-y.invariant.2 c.in_ok-sum.ensures in
     let room = rows_below both c.requires (c.loop-y.y + 1) (omega arith) m.1 in
     omega (arith, m.0, room, total_fits)
 
-pub returns-in-Above : goal.returns-in-Above
-returns-in-Above c =
+pub returns-in_err-sum : goal.returns-in_err-sum
+returns-in_err-sum c =
     let both : Planes = planes c.args.layout c.args.a8 c.args.a16 c.args.b8 c.args.b16 in
-    row_breaks both c.loop-y.y c.loop-y-test.true c.row.ensures c.in-Above.is
+    let told : c.from_residual.result ≡ Err c.in_err-sum.field-0.0 = search rules in
+    told ∙ row_breaks both c.loop-y.y c.loop-y-test.true c.in_err-sum.ensures
 
 pub loop-y-preserved : goal.loop-y-preserved
 loop-y-preserved c =
     let both : Planes = planes c.args.layout c.args.a8 c.args.a16 c.args.b8 c.args.b16 in
-    let more : (c.loop-y.sum + c.in-Sum.error ≡ error_to both (c.loop-y.y + 1)) × (suit_to both (c.loop-y.y + 1) ≡ true) = row_adds both c.loop-y.y c.loop-y.invariant.1 c.loop-y.invariant.2 c.row.ensures c.in-Sum.is in
-    let m = more in (search rules, m.0, m.1)
+    let m = row_adds both c.loop-y.y c.loop-y.invariant.1 c.loop-y.invariant.2 c.in_ok-sum.ensures in (search rules, m.0, m.1)
 
 pub returns : goal.returns
 returns c =
