@@ -1,15 +1,14 @@
 -- Rows one after the other: where each starts, and what stands there. Assumes nothing.
 use mathlib.Core.Path.{◌≡◌, refl}
 use mathlib.Core.List.{List, [], ◌∷◌, ◌++◌, append_assoc}
-use Prim.Native.Nat.{ℕ, zero, suc, ◌+◌, ◌≤◌, ◌<◌, ◌^◌}
+use Prim.Native.Nat.{ℕ, zero, suc, ◌+◌, ◌-◌, ◌≤◌, ◌<◌}
 use native.Mathlib.Nat.{not-suc-le-zero, le_of_suc-le-suc}
 use native.Mathlib.Numerals.{add-one}
 use native.Mathlib.Omega.{arith}
-use lib.Dec.{lit≤}
 use lib.ListN.{length, get_or, take, drop, length-append}
 use lib.Seq.{drop-append_seam, take-append_seam}
 use Rattle.kernel_chart.specs.Rows.{Row, chart}
-use Rattle.kernel_chart.specs.Inner.Flat.{kernels_in, all_taps, starts_from}
+use Rattle.kernel_chart.specs.Inner.Flat.{heights_in, kernels_in, all_taps, starts_from}
 
 starts_head : (from : ℕ) (rows : List Row) → get_or (starts_from from rows) 0 0 ≡ from
 starts_head from [] = refl
@@ -45,15 +44,26 @@ stands (row ∷ later) before (suc k) l =
 pub inside : (rows : List Row) (k : ℕ) → k < length rows → get_or (starts_from 0 rows) k 0 + length (get_or (kernels_in rows) k []) ≤ length (all_taps rows)
 inside rows k l = (stands rows [] k l).0
 
-pub cut : (rows : List Row) (k : ℕ) → k < length rows
-    → take (length (get_or (kernels_in rows) k [])) (drop (get_or (starts_from 0 rows) k 0) (all_taps rows)) ≡ get_or (kernels_in rows) k []
-cut rows k l = rw (stands rows [] k l).1 (take-append_seam _ _)
+-- what stands from a row's start to the next one's
+pub piece : (rows : List Row) (k : ℕ) → k < length rows
+    → take (get_or (starts_from 0 rows) (k + 1) 0 - get_or (starts_from 0 rows) k 0) (drop (get_or (starts_from 0 rows) k 0) (all_taps rows))
+    ≡ get_or (kernels_in rows) k []
+piece rows k l =
+    let count : get_or (starts_from 0 rows) (k + 1) 0 - get_or (starts_from 0 rows) k 0 ≡ length (get_or (kernels_in rows) k []) = omega (arith, ends rows 0 k l) in
+    rw (count, (stands rows [] k l).1) (take-append_seam _ _)
 
 -- there are fourteen rows, and few taps
 pub rows_count : length chart ≡ 14
 unfolding chart
 rows_count = refl
 
-pub taps_room : length (all_taps chart) ≤ 2 ^ 32
+pub heights_count : length (heights_in chart) ≡ 14
 unfolding chart
-taps_room = lit≤ tt
+heights_count = refl
+
+pub starts_count : length (starts_from 0 chart) ≡ 15
+unfolding chart
+starts_count = refl
+
+-- what reading a row learns
+pub ruleset row_pieces = (rows_count, starts_count, ends, inside, piece)

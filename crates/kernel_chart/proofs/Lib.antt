@@ -1,4 +1,3 @@
-mod Copy
 mod Places
 mod Flat
 mod Row

@@ -1,21 +1,20 @@
 -- What the call for a height finds, by the place of its row. Assumes nothing.
 use mathlib.Core.Path.{◌≡◌, sym, ◌∙◌}
 use mathlib.Core.Bool.{true, false}
-use mathlib.Core.List.{List}
-use Prim.Native.Nat.{ℕ, ◌+◌, ◌-◌, ◌<◌}
+use mathlib.Core.List.{List, []}
+use Prim.Native.Nat.{ℕ, ◌<◌}
 use Rattle.std.proofs.Common.{◌≢◌}
 use native.Mathlib.Omega.{arith}
 use lib.ListN.{length, get_or}
-use Rattle.refusal.specs.Numbers.{height_no}
-use Rattle.kernel_chart.specs.declared.Charted.TheVariants.{Refused}
+use Rattle.std.specs.Prelude.{Err}
+use Rattle.refusal.specs.declared.Refusal.TheVariants.{Height}
 use Rattle.kernel_chart.specs.Rows.{chart}
-use Rattle.kernel_chart.specs.Chart.{taps_in, listed, kernel_of, charted_of, taps_after, answer_by, after_by}
-use Rattle.kernel_chart.specs.Inner.Flat.{all_taps, starts_from}
+use Rattle.kernel_chart.specs.Chart.{listed, kernel_of, charted_of, taps_after, answer_by, after_by}
+use Rattle.kernel_chart.specs.Inner.Flat.{kernels_in}
 use Rattle.kernel_chart.specs.Inner.Place.{place_in}
 use Rattle.kernel_chart.specs.Inner.Room.{room_refusal}
-use Rattle.kernel_chart.proofs.Copy.{part}
 use Rattle.kernel_chart.proofs.Places.{nowhere, There, there}
-use Rattle.kernel_chart.proofs.Flat.{ends, inside, cut, rows_count}
+use Rattle.kernel_chart.proofs.Flat.{rows_count}
 use Rattle.kernel_chart.proofs.Answer.{unlisted_fourteen, listed_room}
 
 -- ---- no row has the height
@@ -24,7 +23,7 @@ module _ (height : ℕ) (old : List ℕ) (none : place_in chart height ≡ 14) w
   unfolding listed
   not_listed = nowhere chart height (none ∙ sym rows_count)
 
-  pub unlisted_answer : charted_of height old ≡ Refused height_no
+  pub unlisted_answer : charted_of height old ≡ Err Height
   unfolding charted_of
   unlisted_answer = rw (unlisted_fourteen height (length old) not_listed)
 
@@ -40,19 +39,10 @@ module _ (height : ℕ) (some : place_in chart height ≢ 14) where
   pub place_below : place_in chart height < 14
   place_below = omega (arith, row.0, rows_count)
 
-  -- as many taps as its kernel has stand from its start to the next one's
-  pub row_count : (k from end : ℕ) → k ≡ place_in chart height → from ≡ get_or (starts_from 0 chart) k 0 → end ≡ get_or (starts_from 0 chart) (k + 1) 0
-      → end - from ≡ length (kernel_of height)
+  -- and its kernel
+  pub row_kernel : get_or (kernels_in chart) (place_in chart height) [] ≡ kernel_of height
   unfolding kernel_of
-  row_count k from end e began ended =
-      let all : get_or (starts_from 0 chart) (k + 1) 0 ≡ get_or (starts_from 0 chart) k 0 + length (taps_in chart height) = rw (e, row.2) (ends chart 0 _ row.0) in
-      omega (arith, began, ended, all)
-
-  -- and they are its kernel
-  pub row_read : (k from : ℕ) → k ≡ place_in chart height → from ≡ get_or (starts_from 0 chart) k 0
-      → part (all_taps chart) from (length (kernel_of height)) ≡ kernel_of height
-  unfolding kernel_of
-  row_read k from e began = rw (began, e, row.2) (cut chart _ row.0)
+  row_kernel = sym row.2
 
   has : listed height ≡ true
   unfolding listed
@@ -67,4 +57,4 @@ module _ (height : ℕ) (some : place_in chart height ≢ 14) where
   listed_after old = rw (listed_room height (length old) has)
 
 -- what the call knows of the place that it found
-pub ruleset row_facts = (rows_count, unlisted_answer, unlisted_after, place_below, ends, inside)
+pub ruleset row_facts = (rows_count, unlisted_answer, unlisted_after, place_below, row_kernel, listed_answer, listed_after)

@@ -11,6 +11,7 @@ ghost use Rattle.msssim.specs.Answer.{msssim_refusal, msssim_score, msssim_of, s
 ghost use Rattle.msssim.specs.Inner.Sound.{Sound};
 
 use plane::{Layout, Size};
+use refusal::Refusal;
 
 mod five;
 mod scale;
@@ -22,7 +23,7 @@ pub const LEAST_SIDE: usize = 16;
 const TAPS: usize = 9;
 
 // ssim and cs of the five scales, the first the planes themselves.
-#[derive(Clone, Copy)]
+#[derive(Clone, Copy, Debug, PartialEq)]
 pub struct Pairs {
     pub ssim1: f64,
     pub cs1: f64,
@@ -36,14 +37,8 @@ pub struct Pairs {
     pub cs5: f64,
 }
 
-// What MS-SSIM answers.
-#[derive(Clone, Copy)]
-pub enum MsSsim {
-    Five(Pairs),
-    Refused(u8),
-}
-
 // How many 64-bit places are needed: those of SSIM under a kernel of nine taps.
+#[tactic(auto, unfolding(kernel::specs::Kernel::most_taps))]
 pub fn places_needed(width: usize) -> usize
     requires { width ≤ side_limit }
     ensures { result ≡ places_needed width }
@@ -52,6 +47,7 @@ pub fn places_needed(width: usize) -> usize
 }
 
 // How many 32-bit places are needed for each plane: one to a sample.
+#[tactic(auto, using(plane::proofs::Limits::area_fits))]
 pub fn samples_needed(width: usize, height: usize) -> usize
     requires { (width ≤ side_limit) × (height ≤ side_limit) }
     ensures { result ≡ samples_needed width height }
@@ -60,17 +56,19 @@ pub fn samples_needed(width: usize, height: usize) -> usize
 }
 
 // None of the three that are lent is too short.
+#[tactic(auto, unfolding(crate::specs::Scratch::scratch_suits))]
 fn scratch_suits(size: Size, scratch: &[i64], a32: &[u32], b32: &[u32]) -> bool
     requires { (size.width ≤ side_limit) × (size.height ≤ side_limit) }
     ensures { result ≡ scratch_suits size (scratch_of scratch.now a32.now b32.now) }
 {
     let places = places_needed(size.width);
     let samples = samples_needed(size.width, size.height);
-    (places <= scratch.len()) & ((samples <= a32.len()) & (samples <= b32.len()))
+    (places <= scratch.len()) && (samples <= a32.len()) && (samples <= b32.len())
 }
 
-// The lowest of 1 2 3 4 5 6 8 that applies, and 0 where none does.
-fn refusal(
+// The lowest of 1 2 3 4 5 6 8 that applies.
+#[tactic(auto, using(crate::proofs::Accept::in_parts), unfolding(crate::specs::Answer::least_side))]
+fn check(
     a8: &[u8],
     a16: &[u16],
     b8: &[u8],
@@ -79,18 +77,15 @@ fn refusal(
     scratch: &[i64],
     a32: &[u32],
     b32: &[u32],
-) -> u8
+) -> Result<(), Refusal>
     ensures { result ≡ msssim_refusal (planes layout a8.entry a16.entry b8.entry b16.entry)
         (scratch_of scratch.now a32.now b32.now) }
 {
-    let no = plane::check(a8, a16, b8, b16, layout, LEAST_SIDE);
-    if no != 0 {
-        return no;
-    }
+    plane::check(a8, a16, b8, b16, layout, LEAST_SIDE)?;
     if !scratch_suits(layout.size, scratch, a32, b32) {
-        return refusal::SCRATCH;
+        return Err(Refusal::Scratch);
     }
-    0
+    Ok(())
 }
 
 // The score of two planes that no test refuses. The needed part of the scratch is all zero afterwards, and the rest as it was.
@@ -103,7 +98,7 @@ fn score(
     scratch: &mut [i64],
     a32: &mut [u32],
     b32: &mut [u32],
-) -> MsSsim
+) -> Result<Pairs, Refusal>
     requires { Sound (planes layout a8 a16 b8 b16) (scratch_of scratch.old a32.old b32.old) }
     ensures value { result ≡ msssim_score (planes layout a8.entry a16.entry b8.entry b16.entry) }
     ensures b32_value { scratch_of scratch.new a32.new b32.new
@@ -133,16 +128,13 @@ fn answer(
     scratch: &mut [i64],
     a32: &mut [u32],
     b32: &mut [u32],
-) -> MsSsim
+) -> Result<Pairs, Refusal>
     ensures value { result ≡ msssim_of (planes layout a8.entry a16.entry b8.entry b16.entry)
         (scratch_of scratch.old a32.old b32.old) }
     ensures b32_value { scratch_of scratch.new a32.new b32.new ≡ scratch_after
         (planes layout a8.entry a16.entry b8.entry b16.entry) (scratch_of scratch.old a32.old b32.old) }
 {
-    let no = refusal(a8, a16, b8, b16, layout, scratch, a32, b32);
-    if no != 0 {
-        return MsSsim::Refused(no);
-    }
+    check(a8, a16, b8, b16, layout, scratch, a32, b32)?;
     score(a8, a16, b8, b16, layout, scratch, a32, b32)
 }
 
@@ -158,7 +150,7 @@ pub fn msssim8(
     scratch: &mut [i64],
     a32: &mut [u32],
     b32: &mut [u32],
-) -> MsSsim
+) -> Result<Pairs, Refusal>
     ensures value { result ≡ msssim_of (called false a.entry b.entry width height stride_a stride_b depth)
         (scratch_of scratch.old a32.old b32.old) }
     ensures b32_value { scratch_of scratch.new a32.new b32.new ≡ scratch_after (called false a.entry b.entry
@@ -190,7 +182,7 @@ pub fn msssim16(
     scratch: &mut [i64],
     a32: &mut [u32],
     b32: &mut [u32],
-) -> MsSsim
+) -> Result<Pairs, Refusal>
     ensures value { result ≡ msssim_of (called true a.entry b.entry width height stride_a stride_b depth)
         (scratch_of scratch.old a32.old b32.old) }
     ensures b32_value { scratch_of scratch.new a32.new b32.new ≡ scratch_after (called true a.entry b.entry

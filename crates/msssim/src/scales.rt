@@ -12,16 +12,17 @@ ghost use Rattle.msssim.specs.Scratch.{scratch_of};
 ghost use Rattle.msssim.specs.Answer.{first_scale, msssim_score};
 ghost use Rattle.msssim.specs.Inner.Sound.{Sound};
 
-use crate::{MsSsim, five, scale};
+use crate::{Pairs, five, scale};
 use plane::Layout;
+use refusal::Refusal;
 
-// How many scales there are, and how many numbers their pairs are.
+// How many scales there are.
 const SCALES: usize = 5;
-
-const NUMBERS: usize = 2 * SCALES;
+// How many numbers their pairs are.
+pub const NUMBERS: usize = 2 * SCALES;
 
 // The pairs of a scale and of the `left - 1` below it: this one is scored, the planes are downscaled in place, and the same is done to
-// what is left. `max` is the scale's largest sample.
+// what is left. `max` is the scale's largest sample. It calls itself, as the definition does: a loop would have to say what is left too.
 fn pairs_from(
     a32: &mut [u32],
     b32: &mut [u32],
@@ -94,7 +95,7 @@ pub fn score(
     cols: &mut [i64],
     a32: &mut [u32],
     b32: &mut [u32],
-) -> MsSsim
+) -> Result<Pairs, Refusal>
     requires { Sound (planes layout a8 a16 b8 b16) (scratch_of cols.old a32.old b32.old) }
     ensures value { result ≡ msssim_score (planes layout a8.entry a16.entry b8.entry b16.entry) }
     ensures cols_after { cols.new ≡ replicate (length cols.old) (pos 0) }

@@ -178,12 +178,6 @@ shifted m zero d = record { least = omega (arith, d); most = omega (arith, d) }
 shifted m (suc zero) d = record { least = omega (arith, d); most = omega (arith, d) }
 shifted m (suc (suc k)) d = absurd (omega (arith, d))
 
--- in the code's words
-pub moved_up : (m odd : ℕ) → Digits m odd → (m * 2 ^ odd % 2 ^ 64 < 2 ^ 54) × (m * 2 ^ odd % 2 ^ 64 * 2 ^ 52 ≡ m * 2 ^ (52 + odd))
-moved_up m zero d = (omega (arith, d), omega (arith, d))
-moved_up m (suc zero) d = (omega (arith, d), omega (arith, d))
-moved_up m (suc (suc k)) d = absurd (omega (arith, d))
-
 pub record Answered (n s : ℕ) : Type 0 where
   pub is : s ≡ nearest_root 53 n
   pub from : 2 ^ 52 ≤ s

@@ -23,18 +23,15 @@ fn loaded(
     ensures { result ≡ block_at (lent size bytes.entry words.entry stride) x y }
 {
     let mut out = [0i32; BLOCK_SIZE];
-    for k in 0..BLOCK_SIZE {
-        out[k] = plane::sample(
-            bytes,
-            words,
-            size.wide,
-            (y + k / BLOCK_SIDE) * stride + (x + k % BLOCK_SIDE),
-        ) as i32;
+    for (k, place) in out.iter_mut().enumerate() {
+        let row = y + k / BLOCK_SIDE;
+        let column = x + k % BLOCK_SIDE;
+        *place = plane::sample_of(bytes, words, size.wide, row * stride + column) as i32;
     }
     out
 }
 
-// The blocks of both planes whose first sample is (x, y), added to `res`.
+// The blocks of both planes whose first sample is (x, y), added to `so_far`.
 pub fn block_at(
     a8: &[u8],
     a16: &[u16],
@@ -45,14 +42,14 @@ pub fn block_at(
     y: usize,
     csf: &[[f64; BLOCK_SIDE]; BLOCK_SIDE],
     mask: &[[f64; BLOCK_SIDE]; BLOCK_SIDE],
-    res: f64,
+    so_far: f64,
 ) -> f64
     requires block_fits { BlockFits layout.size x y }
     requires bounded_pair { BoundedPair sample_limit (planes layout a8 a16 b8 b16) }
     ensures { result ≡ with_blocks (planes layout a8.entry a16.entry b8.entry b16.entry) x y
-        csf.now mask.now res }
+        csf.now mask.now so_far }
 {
     let p1 = loaded(a8, a16, layout.size, layout.stride_a, x, y);
     let p2 = loaded(b8, b16, layout.size, layout.stride_b, x, y);
-    hvs_block::block::with_block(&p1, &p2, csf, mask, res)
+    hvs_block::block::with_block(&p1, &p2, csf, mask, so_far)
 }

@@ -10,21 +10,15 @@ ghost use Rattle.plane.specs.Inner.Lent.{planes};
 ghost use Rattle.plane.specs.Inner.Lawful.{BoundedPair, AcceptedPair};
 ghost use Rattle.dct.specs.Limits.{block_side};
 ghost use Rattle.psnr_hvs.specs.Score.{blocks_per_side, along_row, down_rows};
-ghost use Rattle.psnr_hvs.specs.Score.{hvs_refusal, hvs_score, hvs_of};
+ghost use Rattle.psnr_hvs.specs.Score.{hvs_score, hvs_of};
 
 use dct::{BLOCK_SIDE, BLOCK_SIZE};
 pub use hvs_block::Kind;
 use plane::{Layout, Size};
+use refusal::Refusal;
 
 // The step from one block to the next.
 const STEP: usize = 7;
-
-// What asking for a score answers.
-#[derive(Clone, Copy)]
-pub enum Hvs {
-    Score(f64),
-    Refused(u8),
-}
 
 // How many blocks stand beside each other on a side.
 fn blocks_per_side(side: usize) -> usize
@@ -34,7 +28,7 @@ fn blocks_per_side(side: usize) -> usize
     (side - BLOCK_SIDE) / STEP + 1
 }
 
-// One row of blocks, which begins at row y of the planes, added to `res`.
+// One row of blocks, which begins at row y of the planes, added to `so_far`.
 fn along_row(
     a8: &[u8],
     a16: &[u16],
@@ -44,15 +38,15 @@ fn along_row(
     y: usize,
     csf: &[[f64; BLOCK_SIDE]; BLOCK_SIDE],
     mask: &[[f64; BLOCK_SIDE]; BLOCK_SIDE],
-    res: f64,
+    so_far: f64,
 ) -> f64
     requires block_side_le_width { (block_side ≤ layout.size.width) × (y + block_side ≤ layout.size.height) }
     requires bounded_pair { BoundedPair sample_limit (planes layout a8 a16 b8 b16) }
     ensures { result ≡ along_row (planes layout a8.entry a16.entry b8.entry b16.entry) y
-        csf.now mask.now res (blocks_per_side layout.size.width) }
+        csf.now mask.now so_far (blocks_per_side layout.size.width) }
 {
     let n = blocks_per_side(layout.size.width);
-    let mut s = res;
+    let mut s = so_far;
     for x in 0..n {
         s = block::block_at(a8, a16, b8, b16, layout, STEP * x, y, csf, mask, s);
     }
@@ -82,13 +76,6 @@ fn down_rows(
     s
 }
 
-// The lowest of 1 to 6 that applies, or 0.
-fn refusal(a8: &[u8], a16: &[u16], b8: &[u8], b16: &[u16], layout: Layout) -> u8
-    ensures { result ≡ hvs_refusal (planes layout a8.entry a16.entry b8.entry b16.entry) }
-{
-    plane::check(a8, a16, b8, b16, layout, BLOCK_SIDE)
-}
-
 // The score of two planes that no test refuses.
 fn score(a8: &[u8], a16: &[u16], b8: &[u8], b16: &[u16], layout: Layout, kind: Kind) -> f64
     requires { AcceptedPair (planes layout a8 a16 b8 b16) block_side }
@@ -104,18 +91,22 @@ fn score(a8: &[u8], a16: &[u16], b8: &[u8], b16: &[u16], layout: Layout, kind: K
 
 // The answer for two planes of either width.
 #[tactic(auto, unfolding(crate::specs::Score::hvs_of))]
-fn answer(a8: &[u8], a16: &[u16], b8: &[u8], b16: &[u16], layout: Layout, kind: Kind) -> Hvs
+fn answer(
+    a8: &[u8],
+    a16: &[u16],
+    b8: &[u8],
+    b16: &[u16],
+    layout: Layout,
+    kind: Kind,
+) -> Result<f64, Refusal>
     ensures { result ≡ hvs_of (planes layout a8.entry a16.entry b8.entry b16.entry) kind }
 {
-    let no = refusal(a8, a16, b8, b16, layout);
-    if no != 0 {
-        return Hvs::Refused(no);
-    }
+    plane::check(a8, a16, b8, b16, layout, BLOCK_SIDE)?;
     let s = score(a8, a16, b8, b16, layout, kind);
     if number::finite(s) {
-        Hvs::Score(s)
+        Ok(s)
     } else {
-        Hvs::Refused(refusal::NOT_FINITE)
+        Err(Refusal::NotFinite)
     }
 }
 
@@ -129,7 +120,7 @@ pub fn psnr_hvs8(
     stride_b: usize,
     depth: u32,
     kind: Kind,
-) -> Hvs
+) -> Result<f64, Refusal>
     ensures { result ≡ hvs_of (called false a.entry b.entry width height stride_a stride_b depth) kind }
 {
     let size = Size {
@@ -156,7 +147,7 @@ pub fn psnr_hvs16(
     stride_b: usize,
     depth: u32,
     kind: Kind,
-) -> Hvs
+) -> Result<f64, Refusal>
     ensures { result ≡ hvs_of (called true a.entry b.entry width height stride_a stride_b depth) kind }
 {
     let size = Size {

@@ -1,11 +1,12 @@
 -- What a place of 64 signed bits means as a pair of samples. Assumes nothing.
 use mathlib.Core.Path.{◌≡◌, refl}
-use mathlib.Core.Bool.{true, false}
-use Prim.Native.Nat.{ℕ, ◌<◌}
+use mathlib.Core.Bool.{true}
+use Prim.Native.Nat.{ℕ, zero, suc, ◌<◌}
 use native.Mathlib.Omega.{arith}
-use borrow.Author.Tests.{ltb-true}
+use borrow.Author.Tests.{lt-ltb}
+use lib.Dec.{ltb}
+use Rattle.std.specs.Int.{int_max}
 use lib.IntN.{ℤ, pos, negsuc, nat_abs}
-use lib.Signed.{lt_z}
 use Rattle.row_ring.specs.Ring.{pair_base, packed_of, plain_of, first_of, second_of}
 
 -- whatever stands there, both are words
@@ -26,12 +27,9 @@ pub second_packed : (a b : ℕ) → a < pair_base → b < pair_base → second_o
 unfolding pair_base plain_of packed_of
 second_packed a b l m = omega arith
 
-pub plain_minus : (z : ℤ) → lt_z z (pos 0) ≡ true → 0 ≡ plain_of z
+-- the larger of a place and 0
+pub plain_is : (z : ℤ) → nat_abs (int_max z (pos 0)) ≡ plain_of z
 unfolding plain_of
-plain_minus (pos n) e = absurd (omega (arith, ltb-true n 0 e))
-plain_minus (negsuc n) e = refl
-
-pub plain_plus : (z : ℤ) → lt_z z (pos 0) ≡ false → nat_abs z ≡ plain_of z
-unfolding plain_of
-plain_plus (pos n) e = refl
-plain_plus (negsuc n) e = cc
+plain_is (pos zero) = refl
+plain_is (pos (suc n)) = let e : ltb 0 (suc n) ≡ true = lt-ltb 0 (suc n) (omega arith) in rw e
+plain_is (negsuc n) = refl

@@ -24,7 +24,7 @@ use window::{FiveSums, columns};
 pub mod pair;
 
 // The sides of the planes, and the lines of the ring.
-#[derive(Clone, Copy)]
+#[derive(Clone, Copy, Debug, PartialEq, Eq)]
 pub struct Ring {
     pub width: usize,
     pub height: usize,
@@ -52,11 +52,12 @@ fn store_row(
     let wide = layout.size.wide;
     let first = i * layout.stride_a;
     let second = i * layout.stride_b;
+    // by index: two samples, each of bytes or of words, and a place of the ring are met together
     for x in 0..layout.size.width {
         pair::put(
             to + x,
-            plane::sample(a8, a16, wide, first + x),
-            plane::sample(b8, b16, wide, second + x),
+            plane::sample_of(a8, a16, wide, first + x),
+            plane::sample_of(b8, b16, wide, second + x),
             s,
         );
     }
@@ -86,6 +87,7 @@ fn run(
         (ring_b s.now ring.width ring.lines) x y upto }
 {
     let mut t = t;
+    // by index: a tap and its line of the ring are met together
     for k in from..upto {
         let i = at + (k - from) * ring.width;
         t = columns::tapped(t, kernel[k], pair::first(s, i), pair::second(s, i));
@@ -98,11 +100,7 @@ fn turn(from: usize, upto: usize, lines: usize) -> usize
     requires { from ≤ upto }
     ensures { result ≡ min upto (from + lines) }
 {
-    if upto - from <= lines {
-        upto
-    } else {
-        from + lines
-    }
+    from + lines.min(upto - from)
 }
 
 // The five sums down column x of the ring, the middle in row y: the taps up to the ring's last line, then the others from its first, so that
@@ -139,6 +137,7 @@ fn fill(ring: Ring, kernel: &[u16], y: usize, to: usize, s: &mut [i64])
     ensures { Put s.old s.new to (5 * ring.width) (column_at kernel.now ring.height
         (ring_a s.old ring.width ring.lines) (ring_b s.old ring.width ring.lines) y) }
 {
+    // by index: the ring is read and the places past it are written in one slice
     for x in 0..ring.width {
         let t = column(s, ring, kernel, x, y);
         columns::put(to + 5 * x, t, s);
@@ -208,7 +207,7 @@ pub fn scored_after(r: usize, height: usize, off: usize) -> usize
     if r == height {
         return height;
     }
-    if r < off { 0 } else { r - off }
+    r.saturating_sub(off)
 }
 
 // Row `i` of a group, which is row `row` of the whole, and then the centres from `from` up to `upto`.

@@ -11,6 +11,7 @@ use lib.Dec.{lit≤, leb}
 use lib.IntN.{ℤ, pos}
 use lib.ListN.{length, drop, replicate, length-append, length-drop, length-replicate, take-append-drop}
 use lib.Seq.{ext_get_or}
+use Rattle.std.specs.Prelude.{Ok}
 use Rattle.refusal.proofs.Chain.{and_right, none_broken}
 use Rattle.plane.specs.Limits.{side_limit, stride_limit}
 use Rattle.plane.specs.declared.Size.{Size}
@@ -94,7 +95,7 @@ module _ (wide : Bool) (s : State) where
     count : length (kernel_of s) ≡ s.taps
     count = (sound_state wide s e).count
 
-    begins : begin_refusal whole (kernel_of s) (length room) ≡ 0
+    begins : begin_refusal whole (kernel_of s) (length room) ≡ Ok tt
     unfolding begin_tests size_tests lent_tests sides_reach
     begins =
         let lent : scratch_places s.width (length (kernel_of s)) ≤ length room = rw (count, length-replicate (places_of s) (pos 0)) (le_refl _) in
@@ -106,7 +107,7 @@ module _ (wide : Bool) (s : State) where
           ),
         )
 
-    feeds : feed_refusal start.state feed (length start.scratch) ≡ 0
+    feeds : feed_refusal start.state feed (length start.scratch) ≡ Ok tt
     unfolding feed_tests rows_tests late_tests
     feeds =
         let sound = sound_state wide s e in
@@ -114,7 +115,7 @@ module _ (wide : Bool) (s : State) where
         let lent = length-append (replicate need (pos 0)) (drop need room) in
         rw (
           begins,
-          rw begins at (begin_possible whole (kernel_of s) room begins),
+          begin_possible whole (kernel_of s) room begins,
           black_stride rows sound.width_most,
           black_long rows,
           or-true,

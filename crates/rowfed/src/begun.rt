@@ -2,28 +2,27 @@
 ghost use Rattle.std.specs.Prelude.{◌≡◌, ◌≤◌, length};
 ghost use Rattle.kernel.specs.Kernel.{most_taps};
 ghost use Rattle.ssim.specs.Score.{no_totals};
-ghost use Rattle.rowfed.specs.State.{held_kernel, no_state};
+ghost use Rattle.rowfed.specs.State.{held_kernel};
 ghost use Rattle.rowfed.specs.Begin.{begin_refusal, begun_state, begin_of, scratch_begun};
 
-use crate::{Fed, State, Took};
+use crate::State;
 use plane::Size;
+use refusal::Refusal;
 use ssim::{Totals, walk};
 
-// The lowest of 1 2 7 8 that applies, and 0 where none does.
-fn refusal(size: Size, kernel: &[u16], lent: usize) -> u8
+// The lowest of 1 2 7 8 that applies.
+#[tactic(auto, using(crate::proofs::Accept::begin_in_parts))]
+fn check(size: Size, kernel: &[u16], lent: usize) -> Result<(), Refusal>
     ensures { result ≡ begin_refusal size kernel.now lent }
 {
-    let no = plane::size_refusal(size, 0);
-    if no != 0 {
-        return no;
-    }
+    plane::check_size(size, 0)?;
     if !kernel::is_lawful(kernel) {
-        return refusal::KERNEL;
+        return Err(Refusal::Kernel);
     }
     if lent < ssim::scratch_places(size.width, kernel.len()) {
-        return refusal::SCRATCH;
+        return Err(Refusal::Scratch);
     }
-    0
+    Ok(())
 }
 
 // A kernel in the places of a state: its taps, then zeros.
@@ -32,9 +31,7 @@ fn held(kernel: &[u16]) -> [u16; 255]
     ensures { result ≡ held_kernel kernel.now }
 {
     let mut places = [0u16; 255];
-    for k in 0..kernel.len() {
-        places[k] = kernel[k];
-    }
+    places[..kernel.len()].copy_from_slice(kernel);
     places
 }
 
@@ -46,22 +43,6 @@ fn no_sums() -> Totals
         ssim: 0.0,
         cs: 0.0,
         ssimw: 0.0,
-    }
-}
-
-// Beside a refusal: a state that no call takes.
-fn no_state() -> State
-    ensures { result ≡ no_state }
-{
-    State {
-        width: 0,
-        height: 0,
-        depth: 0,
-        taps: 0,
-        kernel: [0u16; 255],
-        rows: 0,
-        scored: 0,
-        sums: no_sums(),
     }
 }
 
@@ -83,21 +64,12 @@ fn new_state(size: Size, kernel: &[u16]) -> State
 }
 
 // Begin, of either sample width.
-pub fn begin(size: Size, kernel: &[u16], scratch: &mut [i64]) -> Fed
+pub fn begin(size: Size, kernel: &[u16], scratch: &mut [i64]) -> Result<State, Refusal>
     ensures value { result ≡ begin_of size kernel.now scratch.old }
     ensures scratch_after { scratch.new ≡ scratch_begun size kernel.now scratch.old }
 {
-    let no = refusal(size, kernel, scratch.len());
-    if no != 0 {
-        return Fed {
-            answer: Took::Refused(no),
-            state: no_state(),
-        };
-    }
+    check(size, kernel, scratch.len())?;
     let need = ssim::scratch_places(size.width, kernel.len());
     walk::clear(&mut scratch[..need]);
-    Fed {
-        answer: Took::Yes,
-        state: new_state(size, kernel),
-    }
+    Ok(new_state(size, kernel))
 }

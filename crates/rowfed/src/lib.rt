@@ -2,13 +2,14 @@
 // scratch to each call. SCOPE, "Rows as they arrive".
 #![tactic(auto)]
 
-ghost use Rattle.std.specs.Prelude.{◌≡◌, true, false};
+ghost use Rattle.std.specs.Prelude.{◌≡◌, true, false, length};
 ghost use Rattle.plane.specs.Plane.{size_of};
 ghost use Rattle.rowfed.specs.Begin.{begin_of, scratch_begun};
-ghost use Rattle.rowfed.specs.Feed.{fed_rows, feed_of, scratch_fed};
+ghost use Rattle.rowfed.specs.Feed.{fed_rows, feed_refusal, state_fed, scratch_fed};
 ghost use Rattle.rowfed.specs.Finish.{finish_of, scratch_finished};
 
 use plane::{Layout, Size};
+use refusal::Refusal;
 use ssim::{Ssim, Totals};
 
 pub mod begun;
@@ -30,22 +31,8 @@ pub struct State {
     pub sums: Totals,
 }
 
-// What begin and feed answer.
-#[derive(Clone, Copy)]
-pub enum Took {
-    Yes,
-    Refused(u8),
-}
-
-// The answer, and the state to go on with: a refused feed gives its own back, a refused begin one of zeros, which no call takes.
-#[derive(Clone, Copy)]
-pub struct Fed {
-    pub answer: Took,
-    pub state: State,
-}
-
 // Planes of bytes whose rows will come: 1 2 7 8. Accepted, the needed part of the scratch is all zero and the rest as it was; refused, all is.
-pub fn begin8(width: usize, height: usize, depth: u32, kernel: &[u16], scratch: &mut [i64]) -> Fed
+pub fn begin8(width: usize, height: usize, depth: u32, kernel: &[u16], scratch: &mut [i64]) -> Result<State, Refusal>
     ensures value { result ≡ begin_of (size_of false width height depth) kernel.now scratch.old }
     ensures scratch_after { scratch.new ≡ scratch_begun (size_of false width height depth)
         kernel.now scratch.old }
@@ -60,7 +47,7 @@ pub fn begin8(width: usize, height: usize, depth: u32, kernel: &[u16], scratch: 
 }
 
 // The same of words.
-pub fn begin16(width: usize, height: usize, depth: u32, kernel: &[u16], scratch: &mut [i64]) -> Fed
+pub fn begin16(width: usize, height: usize, depth: u32, kernel: &[u16], scratch: &mut [i64]) -> Result<State, Refusal>
     ensures value { result ≡ begin_of (size_of true width height depth) kernel.now scratch.old }
     ensures scratch_after { scratch.new ≡ scratch_begun (size_of true width height depth)
         kernel.now scratch.old }
@@ -74,19 +61,23 @@ pub fn begin16(width: usize, height: usize, depth: u32, kernel: &[u16], scratch:
     begun::begin(size, kernel, scratch)
 }
 
-// The next rows of both planes, bytes: 15 where the state is impossible, else the lowest of 4 5 6 8 15. Refused, state and scratch are as they were.
+// The next rows of both planes, bytes: 15 where the state is impossible, else the lowest of 4 5 6 8 15. Refused, state and
+// scratch are as they were.
 pub fn feed8(
-    state: State,
+    state: &mut State,
     a: &[u8],
     b: &[u8],
     stride_a: usize,
     stride_b: usize,
     rows: usize,
     scratch: &mut [i64],
-) -> Fed
-    ensures value { result ≡ feed_of state (fed_rows false state a.entry b.entry stride_a stride_b rows) scratch.old }
-    ensures scratch_after { scratch.new ≡ scratch_fed state
-        (fed_rows false state a.entry b.entry stride_a stride_b rows) scratch.old }
+) -> Result<(), Refusal>
+    ensures value { result ≡ feed_refusal state.old (fed_rows false state.old a.entry b.entry stride_a stride_b rows)
+        (length scratch.old) }
+    ensures state_after { state.new ≡ state_fed state.old
+        (fed_rows false state.old a.entry b.entry stride_a stride_b rows) scratch.old }
+    ensures scratch_after { scratch.new ≡ scratch_fed state.old
+        (fed_rows false state.old a.entry b.entry stride_a stride_b rows) scratch.old }
 {
     let size = Size {
         wide: false,
@@ -104,17 +95,20 @@ pub fn feed8(
 
 // The same of words.
 pub fn feed16(
-    state: State,
+    state: &mut State,
     a: &[u16],
     b: &[u16],
     stride_a: usize,
     stride_b: usize,
     rows: usize,
     scratch: &mut [i64],
-) -> Fed
-    ensures value { result ≡ feed_of state (fed_rows true state a.entry b.entry stride_a stride_b rows) scratch.old }
-    ensures scratch_after { scratch.new ≡ scratch_fed state
-        (fed_rows true state a.entry b.entry stride_a stride_b rows) scratch.old }
+) -> Result<(), Refusal>
+    ensures value { result ≡ feed_refusal state.old (fed_rows true state.old a.entry b.entry stride_a stride_b rows)
+        (length scratch.old) }
+    ensures state_after { state.new ≡ state_fed state.old
+        (fed_rows true state.old a.entry b.entry stride_a stride_b rows) scratch.old }
+    ensures scratch_after { scratch.new ≡ scratch_fed state.old
+        (fed_rows true state.old a.entry b.entry stride_a stride_b rows) scratch.old }
 {
     let size = Size {
         wide: true,
@@ -132,13 +126,10 @@ pub fn feed16(
 
 // The pair of all rows: 15 where the state is impossible, then 8, then 15 where rows are still to come; then 9. Refused by these three, scratch is as
 // it was; else, and at 9, its needed part is all zero and the rest as it was.
-pub fn finish(state: State, scratch: &mut [i64]) -> Ssim
+pub fn finish(state: State, scratch: &mut [i64]) -> Result<Ssim, Refusal>
     ensures value { result ≡ finish_of state scratch.old }
     ensures scratch_after { scratch.new ≡ scratch_finished state scratch.old }
 {
-    let no = ended::refusal(state, scratch.len());
-    if no != 0 {
-        return Ssim::Refused(no);
-    }
+    ended::check(state, scratch.len())?;
     ended::close(state, scratch)
 }

@@ -10,16 +10,24 @@ ghost use Rattle.window.specs.Inner.Parts.{Kernel};
 ghost use Rattle.row_ring.specs.Taken.{taken_of};
 ghost use Rattle.row_ring.specs.Ring.{ring_places};
 ghost use Rattle.row_ring.specs.Inner.Places.{Roomy};
-ghost use Rattle.rowfed.specs.Feed.{rows_tests, late_tests, feed_refusal, used_places, taken_in, with_rows, feed_of, scratch_fed};
+ghost use Rattle.rowfed.specs.Feed.{rows_tests, late_tests, feed_refusal, used_places, taken_in, with_rows, state_fed, scratch_fed};
 ghost use Rattle.rowfed.specs.Inner.Sound.{SoundState, SoundFeed};
 
-use crate::{Fed, State, Took, possible};
+use crate::{State, possible};
 use plane::Layout;
+use refusal::Refusal;
 use row_ring::Ring;
 use ssim::{Totals, centre, walk};
 
-// The lowest of 4 5 6 that applies to the rows of a feed, and 0 where none does. No rows need no samples.
-fn rows_refusal(a8: &[u8], a16: &[u16], b8: &[u8], b16: &[u16], layout: Layout) -> u8
+// The lowest of 4 5 6 that applies to the rows of a feed. No rows need no samples.
+#[tactic(auto, using(crate::proofs::Accept::no_rows, crate::proofs::Accept::some_rows))]
+fn check_rows(
+    a8: &[u8],
+    a16: &[u16],
+    b8: &[u8],
+    b16: &[u16],
+    layout: Layout,
+) -> Result<(), Refusal>
     requires depth_value { depth_suits layout.size.wide layout.size.depth ≡ true }
     requires le_width { 1 ≤ layout.size.width }
     ensures { result ≡ first_broken (rows_tests (planes layout a8.entry a16.entry b8.entry b16.entry)) }
@@ -29,31 +37,33 @@ fn rows_refusal(a8: &[u8], a16: &[u16], b8: &[u8], b16: &[u16], layout: Layout) 
         if plane::stride_suits(width, layout.stride_a)
             & plane::stride_suits(width, layout.stride_b)
         {
-            return 0;
+            return Ok(());
         }
-        return refusal::STRIDE;
+        return Err(Refusal::Stride);
     }
-    let no_a = plane::layout_refusal(a8, a16, layout.size, layout.stride_a);
-    let no_b = plane::layout_refusal(b8, b16, layout.size, layout.stride_b);
-    plane::lower(no_a, no_b)
+    let own = plane::check_layout(a8, a16, layout.size, layout.stride_a);
+    let other = plane::check_layout(b8, b16, layout.size, layout.stride_b);
+    refusal::lower(own, other)
 }
 
-// 8 where too few places are lent, 15 where the rows go past the height, and 0 else.
-fn late_refusal(state: State, rows: usize, lent: usize) -> u8
+// 8 where too few places are lent, 15 where the rows go past the height.
+#[tactic(auto, unfolding(crate::specs::Feed::late_tests))]
+fn check_late(state: State, rows: usize, lent: usize) -> Result<(), Refusal>
     requires { SoundState state }
     ensures { result ≡ first_broken (late_tests state rows lent) }
 {
     if lent < ssim::scratch_places(state.width, state.taps) {
-        return refusal::SCRATCH;
+        return Err(Refusal::Scratch);
     }
     if state.height - state.rows < rows {
-        return refusal::STATE;
+        return Err(Refusal::State);
     }
-    0
+    Ok(())
 }
 
-// 15 where the state is impossible; else the lowest of 4 5 6 8 15 that applies, and 0 where none does.
-fn refusal(
+// 15 where the state is impossible; else the lowest of 4 5 6 8 15 that applies.
+#[tactic(auto, using(crate::proofs::Accept::feed_in_parts))]
+fn check(
     a8: &[u8],
     a16: &[u16],
     b8: &[u8],
@@ -61,18 +71,15 @@ fn refusal(
     layout: Layout,
     state: State,
     lent: usize,
-) -> u8
+) -> Result<(), Refusal>
     requires { (layout.size.width ≡ state.width) × (layout.size.depth ≡ state.depth) }
     ensures { result ≡ feed_refusal state (planes layout a8.entry a16.entry b8.entry b16.entry) lent }
 {
     if !possible::is_possible(layout.size.wide, state) {
-        return refusal::STATE;
+        return Err(Refusal::State);
     }
-    let no = rows_refusal(a8, a16, b8, b16, layout);
-    if no != 0 {
-        return no;
-    }
-    late_refusal(state, layout.size.height, lent)
+    check_rows(a8, a16, b8, b16, layout)?;
+    check_late(state, layout.size.height, lent)
 }
 
 // Rows into the places that are used: the ring as it stands, and zeros past it, whatever the caller left there.
@@ -151,37 +158,18 @@ fn take_under(
     )
 }
 
-// The same, where they are the state's own places.
-fn take_held(
-    a8: &[u8],
-    a16: &[u16],
-    b8: &[u8],
-    b16: &[u16],
-    layout: Layout,
-    state: State,
-    kernel: &[u16; 255],
-    scratch: &mut [i64],
-) -> Totals
-    requires kernel_value { kernel.now ≡ state.kernel }
-    requires sound_feed { SoundFeed state (planes layout a8 a16 b8 b16) (length scratch.old) }
-    ensures value { result ≡ (taken_in state (planes layout a8.entry a16.entry b8.entry b16.entry) scratch.old).totals }
-    ensures scratch_after { scratch.new ≡ (taken_in state (planes layout a8.entry a16.entry b8.entry b16.entry)
-        scratch.old).places ++ drop (used_places state) scratch.old }
-{
-    take_under(a8, a16, b8, b16, layout, state, kernel, scratch)
-}
-
 // The state with so many more rows, and these sums.
 fn with_rows(state: State, rows: usize, sums: Totals) -> State
     requires { (state.rows + rows ≤ state.height) × (state.height ≤ side_limit) }
     ensures { result ≡ with_rows state rows sums }
 {
     let received = state.rows + rows;
-    let mut next = state;
-    next.rows = received;
-    next.scored = row_ring::scored_after(received, state.height, state.taps / 2);
-    next.sums = sums;
-    next
+    State {
+        rows: received,
+        scored: row_ring::scored_after(received, state.height, state.taps / 2),
+        sums,
+        ..state
+    }
 }
 
 // Feed, of either sample width.
@@ -191,25 +179,19 @@ pub fn feed(
     b8: &[u8],
     b16: &[u16],
     layout: Layout,
-    state: State,
+    state: &mut State,
     scratch: &mut [i64],
-) -> Fed
-    requires { (layout.size.width ≡ state.width) × (layout.size.depth ≡ state.depth) }
-    ensures value { result ≡ feed_of state (planes layout a8.entry a16.entry b8.entry b16.entry) scratch.old }
-    ensures scratch_after { scratch.new ≡ scratch_fed state (planes layout a8.entry a16.entry b8.entry b16.entry)
+) -> Result<(), Refusal>
+    requires { (layout.size.width ≡ state.old.width) × (layout.size.depth ≡ state.old.depth) }
+    ensures value { result ≡ feed_refusal state.old (planes layout a8.entry a16.entry b8.entry b16.entry) (length scratch.old) }
+    ensures state_after { state.new ≡ state_fed state.old (planes layout a8.entry a16.entry b8.entry b16.entry)
+        scratch.old }
+    ensures scratch_after { scratch.new ≡ scratch_fed state.old (planes layout a8.entry a16.entry b8.entry b16.entry)
         scratch.old }
 {
-    let no = refusal(a8, a16, b8, b16, layout, state, scratch.len());
-    if no != 0 {
-        return Fed {
-            answer: Took::Refused(no),
-            state,
-        };
-    }
-    let kernel = state.kernel;
-    let sums = take_held(a8, a16, b8, b16, layout, state, &kernel, scratch);
-    Fed {
-        answer: Took::Yes,
-        state: with_rows(state, layout.size.height, sums),
-    }
+    let before = *state;
+    check(a8, a16, b8, b16, layout, before, scratch.len())?;
+    let sums = take_under(a8, a16, b8, b16, layout, before, &before.kernel, scratch);
+    *state = with_rows(before, layout.size.height, sums);
+    Ok(())
 }

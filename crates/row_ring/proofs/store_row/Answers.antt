@@ -49,8 +49,8 @@ overflow_add-first c =
           (omega arith) (omega arith) (omega arith),
     )
 
-pub sample-requires : goal.sample-requires
-sample-requires c =
+pub sample_of-requires : goal.sample_of-requires
+sample_of-requires c =
     let size = c.args.layout.size in
     omega (
       arith,
@@ -67,8 +67,8 @@ overflow_add-second c =
           (omega arith) (omega arith) (omega arith),
     )
 
-pub sample-requires-in-loop-x : goal.sample-requires-in-loop-x
-sample-requires-in-loop-x c =
+pub sample_of-requires-in-loop-x : goal.sample_of-requires-in-loop-x
+sample_of-requires-in-loop-x c =
     let size = c.args.layout.size in
     omega (
       arith,
@@ -84,7 +84,7 @@ loop-x-preserved c =
     let both : ℕ → ℕ = pairs first second (c.args.i * c.args.layout.stride_a) (c.args.i * c.args.layout.stride_b) in (
       omega arith,
       c.put.auto.s ∙ c.loop-x.invariant.1,
-      put_next _ _ _ _ _ both _ c.loop-x.invariant.2 c.put.ensures (rw (c.sample.ensures, c.sample-in-loop-x.ensures)) (omega arith),
+      put_next _ _ _ _ _ both _ c.loop-x.invariant.2 c.put.ensures (rw (c.sample_of.ensures, c.sample_of-in-loop-x.ensures)) (omega arith),
     )
 
 pub shape_of-s : goal.shape_of-s

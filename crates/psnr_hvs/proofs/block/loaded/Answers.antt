@@ -31,27 +31,27 @@ module _ {size : Size} {p : Plane} {x y : ℕ} (k : ℕ) (f : BlockFits size x y
 pub loop-k-init : goal.loop-k-init
 loop-k-init c = (search rules, search rules, filled_none _ _)
 
-pub overflow_mul-y : goal.overflow_mul-y
-overflow_mul-y c =
+pub overflow_mul-row : goal.overflow_mul-row
+overflow_mul-row c =
     let p = place_inside c.loop-k.k c.requires.block_fits c.requires.bounded (omega arith) in
     omega (arith, p, count_fits c.args.size.wide c.args.bytes.now c.args.words.now (omega arith) (omega arith))
 
-pub overflow_add-y-in-loop-k : goal.overflow_add-y-in-loop-k
-overflow_add-y-in-loop-k c =
+pub overflow_add-row-in-loop-k : goal.overflow_add-row-in-loop-k
+overflow_add-row-in-loop-k c =
     let p = place_inside c.loop-k.k c.requires.block_fits c.requires.bounded (omega arith) in
     omega (arith, p, count_fits c.args.size.wide c.args.bytes.now c.args.words.now (omega arith) (omega arith))
 
-pub sample-requires : goal.sample-requires
-sample-requires c = place_inside c.loop-k.k c.requires.block_fits c.requires.bounded (omega arith)
+pub sample_of-requires : goal.sample_of-requires
+sample_of-requires c = place_inside c.loop-k.k c.requires.block_fits c.requires.bounded (omega arith)
 
-pub overflow_cast-out : goal.overflow_cast-out
-overflow_cast-out c = fits (pos c.sample.result) (rw c.sample.ensures (place_small c.loop-k.k c.requires.block_fits c.requires.bounded (omega arith)))
+pub overflow_cast-place : goal.overflow_cast-place
+overflow_cast-place c = fits (pos c.sample_of.result) (rw c.sample_of.ensures (place_small c.loop-k.k c.requires.block_fits c.requires.bounded (omega arith)))
 
 pub loop-k-preserved : goal.loop-k-preserved
 loop-k-preserved c =
     let l = c.loop-k in
-    let s : c.sample.result < 2 ^ 31 = rw c.sample.ensures (place_small c.loop-k.k c.requires.block_fits c.requires.bounded (omega arith)) in
-    (search rules, simp length-set l.invariant.1, filled_more _ _ _ l.invariant.2 (to_z_pos w32 s ∙ ap pos c.sample.ensures) (omega arith))
+    let s : c.sample_of.result < 2 ^ 31 = rw c.sample_of.ensures (place_small c.loop-k.k c.requires.block_fits c.requires.bounded (omega arith)) in
+    (search rules, simp length-set l.invariant.1, filled_more _ _ _ l.invariant.2 (to_z_pos w32 s ∙ ap pos c.sample_of.ensures) (omega arith))
 
 pub returns : goal.returns
 unfolding block_at

@@ -9,4 +9,4 @@ use Rattle.psnr_hvs.proofs.block.loaded.Given as goal
 
 abbrev pub invariant-loop-k : goal.invariant-loop-k
 invariant-loop-k l =
-    (l.k ≤ 64) × (length l.out ≡ 64) × Filled (sample_in (plane_in l.size l.bytes l.words l.stride) l.x l.y) l.out l.k
+    (l.k ≤ 64) × (length l.place-items ≡ 64) × Filled (sample_in (plane_in l.size l.bytes l.words l.stride) l.x l.y) l.place-items l.k

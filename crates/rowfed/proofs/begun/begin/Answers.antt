@@ -1,47 +1,35 @@
 -- `rowfed::begun::begin` meets its contract. Assumes nothing.
-use mathlib.Core.Path.{sym, ◌∙◌}
+use mathlib.Core.Path.{sym}
 use Prim.Native.Nat.{◌≤◌}
 use native.Mathlib.Omega.{arith}
 use lib.ListN.{length}
 use lib.Seq.{length-take-le}
-use Rattle.refusal.proofs.Chain.{refused}
 use Rattle.plane.proofs.Accept.{sides_say}
 use Rattle.ssim.proofs.Accept.{taps_count}
 use Rattle.rowfed.proofs.Accept.{begun}
 use Rattle.rowfed.proofs.begun.begin.Goals as goal
 
-pub returns-then-no-ne0 : goal.returns-then-no-ne0
-returns-then-no-ne0 c =
-    record {
-      value = rw (← c.refusal-no.ensures, c.no_state.ensures) (refused _ _ _ c.if-no-ne0.true);
-      scratch_after = rw (← c.refusal-no.ensures) (refused _ _ _ c.if-no-ne0.true);
-    }
-
 pub scratch_places-need-requires : goal.scratch_places-need-requires
 scratch_places-need-requires c =
-    let b = begun _ _ _ c.refusal-no.ensures c.if-no-ne0.false in
+    let b = begun _ _ _ (sym c.in_ok-check.ensures) in
     let count = taps_count _ b.kernel in
     (count.0, count.1, (sides_say _ _ b.sides).0.1)
 
 pub slice_bounds-clear-end : goal.slice_bounds-clear-end
-slice_bounds-clear-end c =
-    let b = begun _ _ _ c.refusal-no.ensures c.if-no-ne0.false in
-    omega (arith, c.scratch_places-need.ensures, b.lent_enough)
+slice_bounds-clear-end c = omega (arith, c.scratch_places-need.ensures, (begun _ _ _ (sym c.in_ok-check.ensures)).lent_enough)
 
 pub slice_bounds-clear-end-2 : goal.slice_bounds-clear-end-2
 slice_bounds-clear-end-2 c =
-    let b = begun _ _ _ c.refusal-no.ensures c.if-no-ne0.false in
-    sym (length-take-le _ _ (omega (arith, c.scratch_places-need.ensures, b.lent_enough)))
+    sym (length-take-le _ _ (omega (arith, c.scratch_places-need.ensures, (begun _ _ _ (sym c.in_ok-check.ensures)).lent_enough)))
 
 pub new_state-requires : goal.new_state-requires
-new_state-requires c = (taps_count _ (begun _ _ _ c.refusal-no.ensures c.if-no-ne0.false).kernel).1
+new_state-requires c = (taps_count _ (begun _ _ _ (sym c.in_ok-check.ensures)).kernel).1
 
 pub returns : goal.returns
 returns c =
-    let b = begun _ _ _ c.refusal-no.ensures c.if-no-ne0.false in
+    let b = begun _ _ _ (sym c.in_ok-check.ensures) in
     let enough : c.scratch_places-need.result ≤ length c.args.scratch.now = omega (arith, c.scratch_places-need.ensures, b.lent_enough) in
-    let none = sym c.refusal-no.ensures ∙ c.if-no-ne0.false in
     record {
-      value = rw none (rw c.new_state.ensures);
-      scratch_after = rw none (rw (c.clear.ensures, length-take-le _ _ enough, c.scratch_places-need.ensures));
+      value = rw (← c.in_ok-check.ensures, c.new_state.ensures);
+      scratch_after = rw (← c.in_ok-check.ensures, c.clear.ensures, length-take-le _ _ enough, c.scratch_places-need.ensures);
     }
