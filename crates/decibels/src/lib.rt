@@ -8,6 +8,7 @@ ghost use Rattle.decibels.specs.Inner.Chart.{chart};
 ghost use Rattle.decibels.specs.Inner.Room.{power_limit, peak_limit};
 
 use psnr::{Record, Summed, Total};
+use refusal::Refusal;
 
 mod chart;
 
@@ -20,12 +21,11 @@ const UNIT: u128 = 1_000_000_000;
 // The hundredths of the 100 decibels that stand for "identical".
 pub const IDENTICAL: u32 = 10_000;
 
-// What is answered: D; that no sample differs, for which 100 decibels stand; or the refusal.
+// What is answered: D, or that no sample differs, for which 100 decibels stand.
 #[derive(Clone, Copy, Debug, PartialEq, Eq)]
 pub enum Decibels {
     Hundredths(u32),
     Identical,
-    Refused(u8),
 }
 
 // An error times a power of ten, and which power.
@@ -84,14 +84,14 @@ fn answer(peak: u128, error: u64) -> Decibels
 }
 
 // Of a record.
-#[tactic(auto, unfolding(crate::specs::Answer::record_decibels))]
-pub fn of_record(r: Record) -> Decibels
+#[tactic(auto, using(crate::proofs::Suits::record_suits_lem), unfolding(crate::specs::Answer::record_decibels))]
+pub fn of_record(r: Record) -> Result<Decibels, Refusal>
     ensures { result ≡ record_decibels r }
 {
     if !psnr::judge::record_suits(r) {
-        return Decibels::Refused(refusal::RECORD);
+        return Err(Refusal::Record);
     }
-    answer(peak_of(r.n, r.sample_max), r.sq_err as u64)
+    Ok(answer(peak_of(r.n, r.sample_max), r.sq_err as u64))
 }
 
 // Whether some series adds up to this total. Its largest error can need more than a word.
@@ -106,41 +106,38 @@ fn total_suits(t: Total) -> bool
 }
 
 // Of a total.
-#[tactic(auto, unfolding(crate::specs::Answer::total_decibels))]
-pub fn of_total(t: Total) -> Decibels
+#[tactic(auto, using(crate::proofs::Suits::total_suits_lem), unfolding(crate::specs::Answer::total_decibels))]
+pub fn of_total(t: Total) -> Result<Decibels, Refusal>
     ensures { result ≡ total_decibels t }
 {
     if !total_suits(t) {
-        return Decibels::Refused(refusal::RECORD);
+        return Err(Refusal::Record);
     }
-    answer(peak_of(t.n, t.sample_max), t.sq_err as u64)
+    Ok(answer(peak_of(t.n, t.sample_max), t.sq_err as u64))
 }
 
 // Of what a series answered.
 #[tactic(auto, unfolding(crate::specs::Answer::summed_decibels))]
-pub fn of_summed(s: Summed) -> Decibels
+pub fn of_summed(s: Summed) -> Result<Decibels, Refusal>
     ensures { result ≡ summed_decibels s }
 {
     match s {
-        Summed::Differs(t) => match of_total(t) {
-            Decibels::Hundredths(d) => Decibels::Hundredths(d),
-            Decibels::Identical => Decibels::Refused(refusal::RECORD),
-            Decibels::Refused(k) => Decibels::Refused(k),
+        Summed::Differs(t) => match of_total(t)? {
+            Decibels::Hundredths(d) => Ok(Decibels::Hundredths(d)),
+            Decibels::Identical => Err(Refusal::Record),
         },
-        Summed::Identical(t) => match of_total(t) {
-            Decibels::Hundredths(_) => Decibels::Refused(refusal::RECORD),
-            Decibels::Identical => Decibels::Identical,
-            Decibels::Refused(k) => Decibels::Refused(k),
+        Summed::Identical(t) => match of_total(t)? {
+            Decibels::Hundredths(_) => Err(Refusal::Record),
+            Decibels::Identical => Ok(Decibels::Identical),
         },
-        Summed::Refused(k) => Decibels::Refused(k),
     }
 }
 
 // Of a lent run of records.
-#[tactic(auto, using(crate::proofs::Series::series_summed))]
-pub fn of_series(records: &[Record]) -> Decibels
+#[tactic(auto, using(crate::proofs::Series::series_passed, crate::proofs::Series::series_stopped))]
+pub fn of_series(records: &[Record]) -> Result<Decibels, Refusal>
     ensures { result ≡ series_decibels records.now }
 {
-    let total = psnr::series(records);
+    let total = psnr::series(records)?;
     of_summed(total)
 }

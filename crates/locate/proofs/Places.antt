@@ -9,51 +9,51 @@ use native.Mathlib.Omega.{arith}
 use borrow.Author.Tests.{eq-eqb, ne_eqb, eqb-true}
 use lib.Dec.{eqb}
 use lib.ListN.{length}
+use Rattle.std.specs.Prelude.{None, Some}
 use Rattle.plane.specs.Plane.{Planes, at}
 use Rattle.plane.proofs.All.{all_none, all_more, all_at}
 use Rattle.plane.proofs.Rows.{row_inside, part, part_length, part_at}
 use Rattle.psnr.specs.Inner.Walk.{Walkable}
-use Rattle.locate.specs.declared.Located.TheVariants.{At, Alike}
-use Rattle.locate.specs.Where.{differ_at, along_to, down_to, first_difference}
+use Rattle.locate.specs.Where.{place, differ_at, along_to, down_to, first_difference}
 use Rattle.locate.specs.Inner.Walk.{alike_to, AlikeBelow, FirstApart}
 
 -- ---- counted up, one column and one row more
 module _ (f : ℕ → ℕ → Bool) where
-  pub along_none : (y : ℕ) → along_to f y 0 ≡ Alike
+  pub along_none : (y : ℕ) → along_to f y 0 ≡ None
   unfolding along_to
   along_none y = refl
 
-  pub along_more : (y x : ℕ) → along_to f y x ≡ Alike → f y x ≡ false → along_to f y (x + 1) ≡ Alike
+  pub along_more : (y x : ℕ) → along_to f y x ≡ None → f y x ≡ false → along_to f y (x + 1) ≡ None
   unfolding along_to
   along_more y x e g = rw (add-one, e, g)
 
-  pub down_none : (width : ℕ) → down_to f width 0 ≡ Alike
+  pub down_none : (width : ℕ) → down_to f width 0 ≡ None
   unfolding down_to
   down_none width = refl
 
-  pub down_more : (width y : ℕ) → down_to f width y ≡ Alike → along_to f y width ≡ Alike → down_to f width (y + 1) ≡ Alike
+  pub down_more : (width y : ℕ) → down_to f width y ≡ None → along_to f y width ≡ None → down_to f width (y + 1) ≡ None
   unfolding down_to
   down_more width y e g = rw (add-one, e, g)
 
   -- f holds nowhere in a row
-  pub along_quiet : (y n : ℕ) → ((x : ℕ) → x < n → f y x ≡ false) → along_to f y n ≡ Alike
+  pub along_quiet : (y n : ℕ) → ((x : ℕ) → x < n → f y x ≡ false) → along_to f y n ≡ None
   unfolding along_to
   along_quiet y zero h = refl
   along_quiet y (suc n) h = rw (along_quiet y n (λ x l. h x (omega arith)), h n (omega arith))
 
   -- ---- once found, the place stays
-  along_after : (y x d : ℕ) → along_to f y x ≡ Alike → f y x ≡ true → along_to f y (x + 1 + d) ≡ At y x
+  along_after : (y x d : ℕ) → along_to f y x ≡ None → f y x ≡ true → along_to f y (x + 1 + d) ≡ Some (place y x)
   unfolding along_to
   along_after y x zero e g = rw (add-zero, add-one, e, g)
   along_after y x (suc d) e g = rw (add-suc, along_after y x d e g)
 
-  down_after : (width y x d : ℕ) → down_to f width y ≡ Alike → along_to f y width ≡ At y x → down_to f width (y + 1 + d) ≡ At y x
+  down_after : (width y x d : ℕ) → down_to f width y ≡ None → along_to f y width ≡ Some (place y x) → down_to f width (y + 1 + d) ≡ Some (place y x)
   unfolding down_to
   down_after width y x zero e g = rw (add-zero, add-one, e, g)
   down_after width y x (suc d) e g = rw (add-suc, down_after width y x d e g)
 
-  pub found : (width height y x : ℕ) → down_to f width y ≡ Alike → along_to f y x ≡ Alike → f y x ≡ true → x < width → y < height
-      → down_to f width height ≡ At y x
+  pub found : (width height y x : ℕ) → down_to f width y ≡ None → along_to f y x ≡ None → f y x ≡ true → x < width → y < height
+      → down_to f width height ≡ Some (place y x)
   found width height y x e g h lx ly =
       let p : x + 1 + (width - (x + 1)) ≡ width = omega arith in
       let q : y + 1 + (height - (y + 1)) ≡ height = omega arith in
@@ -101,18 +101,18 @@ module _ {p : Planes} (w : Walkable p) (y : ℕ) (l : y < p.size.height) where
   parts_long = part_length _ _ _ _ first_row ∙ sym (part_length _ _ _ _ second_row)
 
   -- where they agree, the row is passed over
-  pub row_quiet : AlikeBelow first_part second_part (length first_part) → along_to (differ_at p) y p.size.width ≡ Alike
+  pub row_quiet : AlikeBelow first_part second_part (length first_part) → along_to (differ_at p) y p.size.width ≡ None
   row_quiet h =
       along_quiet (differ_at p) y p.size.width
       (λ x k. same _ _ (sym (part_at _ _ _ y x k) ∙ h x (rw (part_length _ _ _ y first_row) k) ∙ part_at _ _ _ y x k))
 
-  pub row_alike : alike_to first_part second_part (length first_part) ≡ true → along_to (differ_at p) y p.size.width ≡ Alike
+  pub row_alike : alike_to first_part second_part (length first_part) ≡ true → along_to (differ_at p) y p.size.width ≡ None
   unfolding alike_to
   row_alike e = row_quiet (λ x k. eqb-true _ _ (all_at _ _ e x k))
 
   -- where they do not, the place is found
-  pub row_apart : (x : ℕ) → FirstApart first_part second_part x → down_to (differ_at p) p.size.width y ≡ Alike
-      → At y x ≡ first_difference p
+  pub row_apart : (x : ℕ) → FirstApart first_part second_part x → down_to (differ_at p) p.size.width y ≡ None
+      → Some (place y x) ≡ first_difference p
   row_apart x f above =
       let k : x < p.size.width = rw (part_length p.a.samples p.a.stride p.size.width y first_row) at f.0 in
       let before = along_quiet (differ_at p) y x

@@ -5,8 +5,9 @@ ghost use Rattle.psnr.specs.Inner.Walk.{Walkable};
 ghost use Rattle.locate.specs.Where.{first_difference, located_of};
 ghost use Rattle.locate.specs.Inner.Walk.{alike_to, AlikeBelow, FirstApart, laid};
 
-use crate::Located;
+use crate::Place;
 use plane::Layout;
+use refusal::Refusal;
 
 // Whether two rows of bytes agree. They are walked to their end, whatever they hold: such a loop is vectorised.
 #[tactic(auto, using(crate::proofs::Places::alike_steps))]
@@ -52,7 +53,7 @@ fn column16(a: &[u16], b: &[u16]) -> Option<usize>
 
 // Of bytes. A row that agrees is passed over as a whole.
 #[tactic(auto, using(crate::proofs::Places::first_steps))]
-fn first8(a: &[u8], b: &[u8], layout: Layout) -> Located
+fn first8(a: &[u8], b: &[u8], layout: Layout) -> Option<Place>
     requires { Walkable (laid layout a.now b.now) }
     ensures { result ≡ first_difference (laid layout a.now b.now) }
 {
@@ -64,16 +65,16 @@ fn first8(a: &[u8], b: &[u8], layout: Layout) -> Located
         let row_b = &b[from_b..from_b + width];
         if !alike8(row_a, row_b) {
             if let Some(x) = column8(row_a, row_b) {
-                return Located::At { row: y, column: x };
+                return Some(Place { row: y, column: x });
             }
         }
     }
-    Located::Alike
+    None
 }
 
 // The same of words.
 #[tactic(auto, using(crate::proofs::Places::first_steps))]
-fn first16(a: &[u16], b: &[u16], layout: Layout) -> Located
+fn first16(a: &[u16], b: &[u16], layout: Layout) -> Option<Place>
     requires { Walkable (laid layout a.now b.now) }
     ensures { result ≡ first_difference (laid layout a.now b.now) }
 {
@@ -85,15 +86,15 @@ fn first16(a: &[u16], b: &[u16], layout: Layout) -> Located
         let row_b = &b[from_b..from_b + width];
         if !alike16(row_a, row_b) {
             if let Some(x) = column16(row_a, row_b) {
-                return Located::At { row: y, column: x };
+                return Some(Place { row: y, column: x });
             }
         }
     }
-    Located::Alike
+    None
 }
 
 // Of planes of either width.
-fn first(a8: &[u8], a16: &[u16], b8: &[u8], b16: &[u16], layout: Layout) -> Located
+fn first(a8: &[u8], a16: &[u16], b8: &[u8], b16: &[u16], layout: Layout) -> Option<Place>
     requires { Walkable (planes layout a8 a16 b8 b16) }
     ensures { result ≡ first_difference (planes layout a8.entry a16.entry b8.entry b16.entry) }
 {
@@ -106,12 +107,15 @@ fn first(a8: &[u8], a16: &[u16], b8: &[u8], b16: &[u16], layout: Layout) -> Loca
 
 // The first place at which two planes of either width differ. Every sample is judged before the walk may leave early.
 #[tactic(auto, unfolding(crate::specs::Where::located_of))]
-pub fn answer(a8: &[u8], a16: &[u16], b8: &[u8], b16: &[u16], layout: Layout) -> Located
+pub fn answer(
+    a8: &[u8],
+    a16: &[u16],
+    b8: &[u8],
+    b16: &[u16],
+    layout: Layout,
+) -> Result<Option<Place>, Refusal>
     ensures { result ≡ located_of (planes layout a8.entry a16.entry b8.entry b16.entry) }
 {
-    let no = plane::check(a8, a16, b8, b16, layout, 0);
-    if no != 0 {
-        return Located::Refused(no);
-    }
-    first(a8, a16, b8, b16, layout)
+    plane::check(a8, a16, b8, b16, layout, 0)?;
+    Ok(first(a8, a16, b8, b16, layout))
 }

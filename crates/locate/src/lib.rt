@@ -7,26 +7,26 @@ ghost use Rattle.locate.specs.Where.{located_of};
 ghost use Rattle.locate.specs.Map.{mapped_of, map_after};
 
 use plane::{Layout, Size};
+use refusal::Refusal;
 
 pub mod first;
-pub mod tiles;
+pub mod map;
 
-// What the locator answers: the first place that differs, that there is none, or the refusal.
+// A place of a plane.
 #[derive(Clone, Copy, Debug, PartialEq, Eq)]
-pub enum Located {
-    At { row: usize, column: usize },
-    Alike,
-    Refused(u8),
+pub struct Place {
+    pub row: usize,
+    pub column: usize,
 }
 
-// What the map answers: how many tiles lie across and down, or the refusal.
+// How many tiles lie across and down two planes.
 #[derive(Clone, Copy, Debug, PartialEq, Eq)]
-pub enum Mapped {
-    Tiles { across: usize, down: usize },
-    Refused(u8),
+pub struct Tiles {
+    pub across: usize,
+    pub down: usize,
 }
 
-// The first place at which two planes of bytes differ.
+// The first place at which two planes of bytes differ, and none where they are alike.
 pub fn first_difference8(
     a: &[u8],
     b: &[u8],
@@ -35,7 +35,7 @@ pub fn first_difference8(
     stride_a: usize,
     stride_b: usize,
     depth: u32,
-) -> Located
+) -> Result<Option<Place>, Refusal>
     ensures { result ≡ located_of (called false a.entry b.entry width height stride_a stride_b depth) }
 {
     let size = Size {
@@ -61,7 +61,7 @@ pub fn first_difference16(
     stride_a: usize,
     stride_b: usize,
     depth: u32,
-) -> Located
+) -> Result<Option<Place>, Refusal>
     ensures { result ≡ located_of (called true a.entry b.entry width height stride_a stride_b depth) }
 {
     let size = Size {
@@ -88,7 +88,7 @@ pub fn error_map8(
     stride_b: usize,
     depth: u32,
     map: &mut [u64],
-) -> Mapped
+) -> Result<Tiles, Refusal>
     ensures value { result ≡ mapped_of (called false a.entry b.entry width height stride_a stride_b depth) map.old }
     ensures map_after { map.new ≡ map_after
         (called false a.entry b.entry width height stride_a stride_b depth) map.old }
@@ -104,7 +104,7 @@ pub fn error_map8(
         stride_a,
         stride_b,
     };
-    tiles::answer(a, &[0u16; 0], b, &[0u16; 0], layout, map)
+    map::answer(a, &[0u16; 0], b, &[0u16; 0], layout, map)
 }
 
 // The same of words.
@@ -117,7 +117,7 @@ pub fn error_map16(
     stride_b: usize,
     depth: u32,
     map: &mut [u64],
-) -> Mapped
+) -> Result<Tiles, Refusal>
     ensures value { result ≡ mapped_of (called true a.entry b.entry width height stride_a stride_b depth) map.old }
     ensures map_after { map.new ≡ map_after
         (called true a.entry b.entry width height stride_a stride_b depth) map.old }
@@ -133,5 +133,5 @@ pub fn error_map16(
         stride_a,
         stride_b,
     };
-    tiles::answer(&[0u8; 0], a, &[0u8; 0], b, layout, map)
+    map::answer(&[0u8; 0], a, &[0u8; 0], b, layout, map)
 }

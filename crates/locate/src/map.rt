@@ -8,9 +8,10 @@ ghost use Rattle.locate.specs.Map.{tile_side, tiles_along, tiles_of, tile_length
 ghost use Rattle.locate.specs.Map.{map_refusal, mapped_of, map_after};
 ghost use Rattle.locate.specs.Inner.Walk.{piece_most};
 
-use crate::Mapped;
+use crate::Tiles;
 use plane::Layout;
 use psnr::walk;
+use refusal::Refusal;
 
 // The side of a tile.
 const TILE_SIDE: usize = 8;
@@ -153,7 +154,7 @@ fn tile_row(
 
 // All rows of tiles, one after another, into as many places as there are tiles.
 #[tactic(auto, using(crate::proofs::Rows::map_none, crate::proofs::Rows::map_more))]
-fn tiles(a8: &[u8], a16: &[u16], b8: &[u8], b16: &[u16], layout: Layout, map: &mut [u64])
+fn fill(a8: &[u8], a16: &[u16], b8: &[u8], b16: &[u16], layout: Layout, map: &mut [u64])
     requires walkable { Walkable (planes layout a8 a16 b8 b16) }
     requires map_len { length map.old ≡ map_places (planes layout a8 a16 b8 b16) }
     ensures { map.new ≡ map_of (planes layout a8.entry a16.entry b8.entry b16.entry) }
@@ -166,19 +167,23 @@ fn tiles(a8: &[u8], a16: &[u16], b8: &[u8], b16: &[u16], layout: Layout, map: &m
     }
 }
 
-// The lowest of 1 2 4 5 6 8 that applies, and 0 where none does. `lent` is how many places there are.
+// The lowest of 1 2 4 5 6 8 that applies. `lent` is how many places there are.
 #[tactic(auto, using(plane::proofs::Accept::accepted))]
-fn refusal(a8: &[u8], a16: &[u16], b8: &[u8], b16: &[u16], layout: Layout, lent: usize) -> u8
+fn check(
+    a8: &[u8],
+    a16: &[u16],
+    b8: &[u8],
+    b16: &[u16],
+    layout: Layout,
+    lent: usize,
+) -> Result<(), Refusal>
     ensures { result ≡ map_refusal (planes layout a8.entry a16.entry b8.entry b16.entry) lent }
 {
-    let no = plane::check(a8, a16, b8, b16, layout, 0);
-    if no != 0 {
-        return no;
-    }
+    plane::check(a8, a16, b8, b16, layout, 0)?;
     if lent < places(layout.size.width, layout.size.height) {
-        return refusal::SCRATCH;
+        return Err(Refusal::Scratch);
     }
-    0
+    Ok(())
 }
 
 // The map of two planes of either width.
@@ -189,20 +194,17 @@ pub fn answer(
     b16: &[u16],
     layout: Layout,
     map: &mut [u64],
-) -> Mapped
+) -> Result<Tiles, Refusal>
     ensures value { result ≡ mapped_of (planes layout a8.entry a16.entry b8.entry b16.entry) map.old }
     ensures map_after { map.new ≡ map_after (planes layout a8.entry a16.entry b8.entry b16.entry) map.old }
 {
-    let no = refusal(a8, a16, b8, b16, layout, map.len());
-    if no != 0 {
-        return Mapped::Refused(no);
-    }
+    check(a8, a16, b8, b16, layout, map.len())?;
     let width = layout.size.width;
     let height = layout.size.height;
     let need = places(width, height);
-    tiles(a8, a16, b8, b16, layout, &mut map[..need]);
-    Mapped::Tiles {
+    fill(a8, a16, b8, b16, layout, &mut map[..need]);
+    Ok(Tiles {
         across: tiles_along(width),
         down: tiles_along(height),
-    }
+    })
 }

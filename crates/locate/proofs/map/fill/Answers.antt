@@ -1,9 +1,9 @@
--- `locate::tiles::tiles` meets its contract: a row of tiles more is put behind those that stand in the map. Assumes nothing.
+-- `locate::map::fill` meets its contract: a row of tiles more is put behind those that stand in the map. Assumes nothing.
 use Rattle.std.proofs.Common.{◌+◌, ◌*◌, ◌<◌, ◌≤◌, length, arith, rules}
 use Rattle.plane.specs.Inner.Lent.{planes}
 use Rattle.locate.specs.Map.{tiles_along}
 use Rattle.locate.proofs.Rows.{map_more, row_room}
-use Rattle.locate.proofs.tiles.tiles.Goals as goal
+use Rattle.locate.proofs.map.fill.Goals as goal
 
 pub loop-j-preserved : goal.loop-j-preserved
 loop-j-preserved c =

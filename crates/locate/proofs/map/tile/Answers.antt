@@ -1,10 +1,10 @@
--- `locate::tiles::tile` meets its contract: its rows and columns lie inside both planes, and the sum has room. Assumes nothing.
+-- `locate::map::tile` meets its contract: its rows and columns lie inside both planes, and the sum has room. Assumes nothing.
 use Rattle.std.proofs.Common.{arith}
 use native.Mathlib.Nat.{le_of_lt}
 use Rattle.plane.proofs.Limits.{side_small}
 use Rattle.locate.specs.Map.{tile_side}
 use Rattle.locate.proofs.Sides.{begins, ends, length_most}
-use Rattle.locate.proofs.tiles.tile.Goals as goal
+use Rattle.locate.proofs.map.tile.Goals as goal
 
 pub tile_length-columns-requires : goal.tile_length-columns-requires
 tile_length-columns-requires c = le_of_lt (begins _ _ c.requires.j_bound.1)

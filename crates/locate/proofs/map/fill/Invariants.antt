@@ -1,10 +1,10 @@
--- `locate::tiles::tiles` meets its contract. The loop's invariant: the first places have the rows of tiles passed. Assumes nothing.
+-- `locate::map::fill` meets its contract. The loop's invariant: the first places have the rows of tiles passed. Assumes nothing.
 use mathlib.Core.Path.{◌≡◌}
 use Prim.Native.Nat.{◌*◌, ◌≤◌}
 use lib.ListN.{length, take}
 use Rattle.plane.specs.Inner.Lent.{planes_in}
 use Rattle.locate.specs.Map.{tiles_along, map_to}
-use Rattle.locate.proofs.tiles.tiles.Given as goal
+use Rattle.locate.proofs.map.fill.Given as goal
 
 abbrev pub invariant-loop-j : goal.invariant-loop-j
 invariant-loop-j l =
