@@ -1,6 +1,6 @@
 -- What is known of a D that is answered, whoever was asked: a record, a total or a run of records. Assumes nothing.
-use mathlib.Core.Path.{◌≡◌, refl, sym, ap}
-use mathlib.Core.Bool.{Bool, true, false, true≢false}
+use mathlib.Core.Path.{◌≡◌, refl}
+use mathlib.Core.Bool.{Bool, true, false}
 use mathlib.Core.List.{List}
 use Prim.Native.Nat.{ℕ, zero, suc, ◌+◌, ◌-◌, ◌*◌, ◌^◌, ◌≤◌, ◌<◌}
 use native.Mathlib.Omega.{arith}
@@ -11,8 +11,7 @@ use Rattle.psnr.specs.declared.Total.{Total}
 use Rattle.psnr.specs.Record.{whole_of, record_suits}
 use Rattle.psnr.specs.Series.{first_max, error_total, count_total, series_refusal}
 use Rattle.psnr.proofs.Totals.{series_adds}
-use Rattle.decibels.specs.declared.Decibels.{Decibels}
-use Rattle.decibels.specs.declared.Decibels.TheVariants.{Hundredths, Identical}
+use Rattle.decibels.specs.declared.Decibels.TheVariants.{Hundredths}
 use Rattle.decibels.specs.Hundredths.{place_count, peak_of, hundredths_of}
 use Rattle.decibels.specs.Answer.{decibels_of, decibels_if, record_decibels, total_suits, total_decibels, series_decibels}
 use Rattle.decibels.proofs.Suits.{record_suits_lem, total_suits_lem}
