@@ -1,12 +1,13 @@
 -- Laws of the lent 32-bit places: one store more in a row, and one row more. Assumes nothing.
 use mathlib.Core.Path.{◌≡◌, ◌∙◌}
-use mathlib.Core.List.{List}
-use Prim.Native.Nat.{ℕ, ◌+◌, ◌*◌, ◌<◌}
+use mathlib.Core.List.{List, ◌++◌}
+use Prim.Native.Nat.{ℕ, ◌+◌, ◌*◌, ◌<◌, ◌≤◌}
 use native.Mathlib.Nat.{ne_of_lt, add-mul, one-mul, mul-le-mul_right}
 use native.Mathlib.Omega.{arith}
 use borrow.Author.Count.{below_more}
-use lib.ListN.{length, set}
+use lib.ListN.{length, set, take, drop}
 use lib.Seq.{get_or-set_same, get_or-set_other}
+use Rattle.std.proofs.lemmas.Grind.{elements}
 use Rattle.plane.specs.Plane.{at}
 use Rattle.downscale.specs.Inner.Longs.{Put, Filled}
 
@@ -20,6 +21,17 @@ put_more old l from n g v p e h =
           (get_or-set_same l (from + n) v 0 h ∙ e);
       before = λ i m. get_or-set_other l (from + n) i v 0 (ne_of_lt (omega arith)) ∙ p.before i m;
       after = λ i m. get_or-set_other l (from + n) i v 0 (λ q. absurd (omega arith)) ∙ p.after i (omega arith);
+    }
+
+-- a row of n numbers put back in the place of those from `from` on
+pub row_put : (old row : List ℕ) (from n m x : ℕ) (g : ℕ → ℕ) → from + n ≤ length old → m ≡ n → length row ≡ length (take m (drop from old))
+    → length (take m (drop from old)) ≤ x → ((i : ℕ) → i < x → at row i ≡ g i) → Put old (take from old ++ (row ++ drop m (drop from old))) from n g
+row_put old row from n m x g room e same whole h =
+    let len : length row ≡ n = grind (arith, elements) in
+    record {
+      there = λ i l. let e : at (take from old ++ (row ++ drop m (drop from old))) (from + i) ≡ at row i = grind (arith, elements) in e ∙ h i (omega (arith, same, whole, len));
+      before = λ i l. grind (arith, elements);
+      after = λ i l. grind (arith, elements);
     }
 
 -- ---- all rows

@@ -31,6 +31,7 @@ fn refusal(a8: &[u8], a16: &[u16], b8: &[u8], b16: &[u16], layout: Layout, kerne
 }
 
 // The score of two planes of either width that no test refuses.
+#[tactic(auto, using(plane::proofs::Depth::depth_small))]
 fn score(a8: &[u8], a16: &[u16], b8: &[u8], b16: &[u16], layout: Layout, kernel: &[u16]) -> Ssim
     requires accepted_pair { AcceptedPair (planes layout a8 a16 b8 b16) 0 }
     requires kernel_value { lawful lent_total kernel.now ≡ true }

@@ -16,7 +16,7 @@ fn sample(bytes: &[u8], words: &[u16], wide: bool, stride: usize, r: usize, c: u
     requires { r * stride + c < length (samples_of wide bytes.now words.now) }
     ensures { result ≡ sample_at (plane_of (samples_of wide bytes.now words.now) stride) r c }
 {
-    plane::sample(bytes, words, wide, r * stride + c) as u64
+    u64::from(plane::sample_of(bytes, words, wide, r * stride + c))
 }
 
 // Whether a kernel place lies inside a side: `at` is the place of the centre and that of the tap together.
@@ -32,9 +32,8 @@ fn weighed(down: u16, across: u16, a: u64, b: u64) -> Moments
     requires { Fits (weighed_of (down * across) a b) }
     ensures { result ≡ weighed_of (down * across) a b }
 {
-    let down = down as u64;
-    let across = across as u64;
-    let k = down * across;
+    let down = u64::from(down);
+    let k = down * u64::from(across);
     Moments {
         mux: k * a,
         muy: k * b,
@@ -75,6 +74,7 @@ fn plus(s: Moments, t: Moments) -> Moments
 }
 
 // The kernel place (i, j): nothing where it lies outside the planes.
+#[tactic(auto, using(crate::proofs::Parts::found, crate::proofs::Parts::place_inside, crate::proofs::Parts::place_outside))]
 fn place(
     a8: &[u8],
     a16: &[u16],
@@ -108,6 +108,7 @@ fn place(
 }
 
 // Row i of the kernel.
+#[tactic(auto, using(crate::proofs::Parts::row_none, crate::proofs::Parts::row_more))]
 fn kernel_row(
     a8: &[u8],
     a16: &[u16],
@@ -127,6 +128,7 @@ fn kernel_row(
         (sample_at (lent layout.size b8.entry b16.entry layout.stride_b)) }
 {
     let mut sum = none();
+    // by index: `place` reads the tap and the samples under it by the numbers of both
     for j in 0..kernel.len() {
         sum = plus(sum, place(a8, a16, b8, b16, layout, kernel, x, y, i, j));
     }
@@ -134,6 +136,7 @@ fn kernel_row(
 }
 
 // The whole window: every row of the kernel.
+#[tactic(auto, using(crate::proofs::Parts::rows_none, crate::proofs::Parts::rows_more))]
 pub fn moments_at(
     a8: &[u8],
     a16: &[u16],
@@ -152,6 +155,7 @@ pub fn moments_at(
         (sample_at (lent layout.size b8.entry b16.entry layout.stride_b)) x y }
 {
     let mut sum = none();
+    // by index: as in `kernel_row`
     for i in 0..kernel.len() {
         sum = plus(sum, kernel_row(a8, a16, b8, b16, layout, kernel, x, y, i));
     }

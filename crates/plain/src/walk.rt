@@ -12,6 +12,7 @@ use plane::Layout;
 use ssim::Totals;
 
 // The centres of row y more.
+#[tactic(auto, using(number::proofs::Folds::fold_none, number::proofs::Folds::fold_more))]
 fn centres(
     a8: &[u8],
     a16: &[u16],
@@ -20,7 +21,7 @@ fn centres(
     layout: Layout,
     kernel: &[u16],
     max2: f64,
-    t: Totals,
+    mut t: Totals,
     y: usize,
 ) -> Totals
     requires y_lt_height { y < layout.size.height }
@@ -30,7 +31,7 @@ fn centres(
         (sample_at (lent layout.size a8.entry a16.entry layout.stride_a))
         (sample_at (lent layout.size b8.entry b16.entry layout.stride_b)) x y) t layout.size.width }
 {
-    let mut t = t;
+    // by index: a centre is two numbers, its row and its column
     for x in 0..layout.size.width {
         t = ssim::centre::step(
             max2,
@@ -42,6 +43,7 @@ fn centres(
 }
 
 // The sums over every centre.
+#[tactic(auto, using(crate::proofs::Rows::totals_none))]
 pub fn totals(
     a8: &[u8],
     a16: &[u16],
@@ -61,6 +63,7 @@ pub fn totals(
         cs: 0.0,
         ssimw: 0.0,
     };
+    // by index: as in `centres`
     for y in 0..layout.size.height {
         t = centres(a8, a16, b8, b16, layout, kernel, max2, t, y);
     }

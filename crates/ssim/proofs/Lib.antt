@@ -1,6 +1,5 @@
 pub mod Powers
-mod Zeros
-mod Same
+pub mod Same
 pub mod Accept
 pub mod Asked
 pub mod Idle

@@ -12,47 +12,37 @@ ghost use Rattle.ssim.specs.Answer.{ssim_refusal, ssim_score, ssim_of, scratch_a
 ghost use Rattle.ssim.specs.Inner.Sound.{Sound};
 
 use plane::{Layout, Size};
+use refusal::Refusal;
 
 pub mod centre;
 pub mod walk;
 
-// What SSIM answers.
-#[derive(Clone, Copy)]
-pub enum Ssim {
-    Pair { ssim: f64, cs: f64 },
-    Refused(u8),
+// What SSIM gives.
+#[derive(Clone, Copy, Debug, PartialEq)]
+pub struct Ssim {
+    pub ssim: f64,
+    pub cs: f64,
 }
 
 // The running sums over the centres.
-#[derive(Clone, Copy)]
+#[derive(Clone, Copy, Debug, PartialEq)]
 pub struct Totals {
     pub ssim: f64,
     pub cs: f64,
     pub ssimw: f64,
 }
 
-// p, or twice p where p is below n.
-fn doubled(n: usize, p: usize) -> usize
-    requires p_bound { p ≤ 2 * n }
-    requires n_le_most_taps { n ≤ most_taps }
-    ensures { result ≡ doubled_below n p }
-{
-    if p < n { 2 * p } else { p }
-}
-
 // The least power of two not below the count of taps.
+#[tactic(auto, using(kernel::proofs::Says::taps_room, crate::proofs::Powers::least_power))]
 pub fn next_power(taps: usize) -> usize
     requires { (1 ≤ taps) × (taps ≤ most_taps) }
     ensures { result ≡ next_power taps }
 {
-    let mut p = 1;
-    for i in 0..taps {
-        p = doubled(taps, p);
-    }
-    p
+    taps.next_power_of_two()
 }
 
 // The places of scratch that a kernel of so many taps needs.
+#[tactic(auto, using(plane::proofs::Limits::side_small, crate::proofs::Powers::places_room))]
 pub fn scratch_places(width: usize, taps: usize) -> usize
     requires { (1 ≤ taps) × (taps ≤ most_taps) × (width ≤ side_limit) }
     ensures { result ≡ scratch_places width taps }
@@ -60,8 +50,8 @@ pub fn scratch_places(width: usize, taps: usize) -> usize
     6 * width * next_power(taps)
 }
 
-// The lowest of 1 2 4 5 6 7 8 that applies, and 0 where none does. `lent` is how many places of scratch there are.
-fn refusal(
+// The lowest of 1 2 4 5 6 7 8 that applies. `lent` is how many places of scratch there are.
+fn check(
     a8: &[u8],
     a16: &[u16],
     b8: &[u8],
@@ -69,23 +59,21 @@ fn refusal(
     layout: Layout,
     kernel: &[u16],
     lent: usize,
-) -> u8
+) -> Result<(), Refusal>
     ensures { result ≡ ssim_refusal (planes layout a8.entry a16.entry b8.entry b16.entry) kernel.now lent }
 {
-    let no = plane::check(a8, a16, b8, b16, layout, 0);
-    if no != 0 {
-        return no;
-    }
+    plane::check(a8, a16, b8, b16, layout, 0)?;
     if !kernel::is_lawful(kernel) {
-        return refusal::KERNEL;
+        return Err(Refusal::Kernel);
     }
     if lent < scratch_places(layout.size.width, kernel.len()) {
-        return refusal::SCRATCH;
+        return Err(Refusal::Scratch);
     }
-    0
+    Ok(())
 }
 
 // The score of two planes of either width that no test refuses. The needed part of the scratch is all zero afterwards.
+#[tactic(auto, unfolding(kernel::specs::Kernel::lent_total))]
 fn score(
     a8: &[u8],
     a16: &[u16],
@@ -94,7 +82,7 @@ fn score(
     layout: Layout,
     kernel: &[u16],
     scratch: &mut [i64],
-) -> Ssim
+) -> Result<Ssim, Refusal>
     requires { Sound (planes layout a8 a16 b8 b16) kernel.now (length scratch.old) }
     ensures value { result ≡ ssim_score (planes layout a8.entry a16.entry b8.entry b16.entry) kernel.now }
     ensures scratch_after { scratch.new ≡ cleared (pos 0) (scratch_places layout.size.width (length kernel.now))
@@ -128,16 +116,13 @@ fn answer(
     layout: Layout,
     kernel: &[u16],
     scratch: &mut [i64],
-) -> Ssim
+) -> Result<Ssim, Refusal>
     ensures value { result ≡ ssim_of (planes layout a8.entry a16.entry b8.entry b16.entry)
         kernel.now scratch.old }
     ensures scratch_after { scratch.new ≡ scratch_after (planes layout a8.entry a16.entry b8.entry b16.entry)
         kernel.now scratch.old }
 {
-    let no = refusal(a8, a16, b8, b16, layout, kernel, scratch.len());
-    if no != 0 {
-        return Ssim::Refused(no);
-    }
+    check(a8, a16, b8, b16, layout, kernel, scratch.len())?;
     score(a8, a16, b8, b16, layout, kernel, scratch)
 }
 
@@ -152,9 +137,10 @@ pub fn ssim8(
     depth: u32,
     kernel: &[u16],
     scratch: &mut [i64],
-) -> Ssim
+) -> Result<Ssim, Refusal>
     ensures value { result ≡ ssim_of (called false a.entry b.entry width height stride_a stride_b depth) kernel.now scratch.old }
-    ensures scratch_after { scratch.new ≡ scratch_after (called false a.entry b.entry width height stride_a stride_b depth) kernel.now scratch.old }
+    ensures scratch_after { scratch.new ≡ scratch_after (called false a.entry b.entry width height stride_a stride_b depth)
+        kernel.now scratch.old }
 {
     let size = Size {
         wide: false,
@@ -181,9 +167,10 @@ pub fn ssim16(
     depth: u32,
     kernel: &[u16],
     scratch: &mut [i64],
-) -> Ssim
+) -> Result<Ssim, Refusal>
     ensures value { result ≡ ssim_of (called true a.entry b.entry width height stride_a stride_b depth) kernel.now scratch.old }
-    ensures scratch_after { scratch.new ≡ scratch_after (called true a.entry b.entry width height stride_a stride_b depth) kernel.now scratch.old }
+    ensures scratch_after { scratch.new ≡ scratch_after (called true a.entry b.entry width height stride_a stride_b depth)
+        kernel.now scratch.old }
 {
     let size = Size {
         wide: true,

@@ -12,6 +12,7 @@ use crate::{Totals, centre};
 use window::Grid;
 
 // The centres of one row, whose column sums stand in `cols`. `down` is the weight of the rows, `total` what all taps sum to.
+#[tactic(auto, using(number::proofs::Folds::fold_none, number::proofs::Folds::fold_more))]
 pub fn centres(
     cols: &[i64],
     width: usize,
@@ -19,15 +20,16 @@ pub fn centres(
     total: u64,
     down: u64,
     max2: f64,
-    t: Totals,
+    mut t: Totals,
 ) -> Totals
-    requires width_le_side_limit { (width ≤ side_limit) × (5 * columns_of kernel.now width ≤ length cols.now) × (down ≤ fixed_total) }
+    requires width_le_side_limit { (width ≤ side_limit) × (5 * columns_of kernel.now width ≤ length cols.now)
+        × (down ≤ fixed_total) }
     requires kernel { Kernel kernel.now }
     requires total_value { total ≡ sum_to (tap kernel.now) (length kernel.now) }
     requires column_sums { ColumnSums cols.now (5 * columns_of kernel.now width) }
     ensures { result ≡ row_of max2 (moments_in kernel.now cols.now width down) t width }
 {
-    let mut t = t;
+    // by index: a centre is a place between the columns, and reads many of them
     for x in 0..width {
         t = centre::step(
             max2,
@@ -42,12 +44,11 @@ pub fn centres(
 pub fn clear(s: &mut [i64])
     ensures { s.new ≡ replicate (length s.old) (pos 0) }
 {
-    for i in 0..s.len() {
-        s[i] = 0;
-    }
+    s.fill(0);
 }
 
 // Every row: its column sums, between the margins of zeros that stand there, then its centres.
+#[tactic(auto, using(plane::proofs::Limits::side_small, kernel::proofs::Says::taps_room, crate::proofs::Same::totals_none))]
 fn rows(
     a8: &[u8],
     a16: &[u16],
@@ -79,6 +80,7 @@ fn rows(
         cs: 0.0,
         ssimw: 0.0,
     };
+    // by index: a row is read by its number, with those around it
     for y in 0..height {
         window::columns::fill(
             a8,

@@ -6,7 +6,7 @@ pub mod columns;
 pub mod row;
 
 // Which of three slices holds the samples of a plane. The 32-bit ones are those that MS-SSIM sums.
-#[derive(Clone, Copy)]
+#[derive(Clone, Copy, Debug, PartialEq, Eq)]
 pub enum Samples {
     Bytes,
     Words,
@@ -14,7 +14,7 @@ pub enum Samples {
 }
 
 // Two planes as the sums read them: their samples and sides, and the stride of each.
-#[derive(Clone, Copy)]
+#[derive(Clone, Copy, Debug, PartialEq, Eq)]
 pub struct Grid {
     pub samples: Samples,
     pub width: usize,
@@ -24,7 +24,7 @@ pub struct Grid {
 }
 
 // Five sums under a window: of a, b, a², ab and b².
-#[derive(Clone, Copy)]
+#[derive(Clone, Copy, Debug, PartialEq, Eq)]
 pub struct FiveSums {
     pub mux: u64,
     pub muy: u64,
@@ -34,7 +34,7 @@ pub struct FiveSums {
 }
 
 // The six moments at a centre: the five sums, and the weight of the taps inside.
-#[derive(Clone, Copy)]
+#[derive(Clone, Copy, Debug, PartialEq, Eq)]
 pub struct Moments {
     pub mux: u64,
     pub muy: u64,

@@ -16,6 +16,7 @@ use Rattle.kernel.specs.Kernel.{tap}
 use Rattle.window.specs.Moments.{clipped, moment_at, moments_at, most_sample}
 use Rattle.window.specs.Inner.Parts.{part_of, window_of, weight_of, across_of, Kernel, quant_of}
 use Rattle.window.specs.Inner.Columns.{at_z, cell_of, column_to, column_at, columns_of, Holds, Put, Margins, ColumnSum, ColumnSums, moments_in}
+use Rattle.window.proofs.Sums.Column.{column_fits}
 use Rattle.window.specs.declared.FiveSums.{FiveSums}
 use Rattle.window.proofs.Sums.Windows.{clipped_in, clipped_below, clipped_above, part_le}
 use Rattle.window.proofs.Centre.Separable.{separable, weights}
@@ -165,3 +166,6 @@ module _ (ker : List ℕ) (height : ℕ) (a b : ℕ → ℕ → ℕ) (y x : ℕ)
   pub holds_none : (s : List ℤ) → Holds s (5 * 0) ker height a b y
   unfolding Holds
   holds_none s = below_none _
+
+-- what the loop that fills a row rests on
+pub ruleset filled_steps = (holds_none, holds_more, column_fits)

@@ -1,15 +1,9 @@
 -- A place that both tests find inside is weighed; another adds nothing.
-use Rattle.std.proofs.Common.{◌∙◌, arith}
+use Rattle.std.proofs.Common.{arith}
 use Rattle.plane.specs.Inner.Lent.{planes}
 use Rattle.plane.proofs.Rows.{inside}
-use Rattle.plain.proofs.Parts.{found, reaches, place_inside, place_outside, weighed_fits}
+use Rattle.plain.proofs.Parts.{found, reaches, weighed_fits}
 use Rattle.plain.proofs.sums.place.Goals as goal
-
-pub returns-then-not-inside : goal.returns-then-not-inside
-returns-then-not-inside c =
-    let a = c.args in
-    let outside = found a.kernel.now a.layout.size.width a.layout.size.height a.x a.y a.i a.j c.inside.ensures c.inside-2.ensures c.if-not-inside.true in
-    c.none.ensures ∙ place_outside _ _ _ _ _ _ _ _ _ outside
 
 pub sample-a-requires : goal.sample-a-requires
 sample-a-requires c =
@@ -34,9 +28,3 @@ weighed-requires c =
     weighed_fits (planes a.layout a.a8 a.a16 a.b8 a.b16) r.accepted_pair a.kernel.now r.kernel_value a.x a.y (omega arith) (omega arith) _ _
     (omega arith) (omega arith) in_both
     )
-
-pub returns : goal.returns
-returns c =
-    let a = c.args in
-    let in_both = found a.kernel.now a.layout.size.width a.layout.size.height a.x a.y a.i a.j c.inside.ensures c.inside-2.ensures c.if-not-inside.false in
-    rw (c.weighed.ensures, c.sample-a.ensures, c.sample-b.ensures) (place_inside _ _ _ _ _ _ _ _ _ in_both)
