@@ -5,6 +5,8 @@
 ghost use Rattle.std.specs.Prelude.{◌≡◌};
 ghost use Rattle.combine.specs.Combine.{weighted_sum, whole_weight, visual_score, combinable, combined_ssim_of, combined_hvs_of};
 
+use refusal::Refusal;
+
 // The scores of the three planes.
 #[derive(Clone, Copy, Debug, PartialEq)]
 pub struct Planar {
@@ -15,16 +17,9 @@ pub struct Planar {
 
 // What combining SSIM answers: the weighted sum, and the weight that belongs to it.
 #[derive(Clone, Copy, Debug, PartialEq)]
-pub enum CombinedSsim {
-    Sum { sum: f64, weight: f64 },
-    Refused(u8),
-}
-
-// What combining PSNR-HVS answers.
-#[derive(Clone, Copy, Debug, PartialEq)]
-pub enum CombinedHvs {
-    Score(f64),
-    Refused(u8),
+pub struct CombinedSsim {
+    pub sum: f64,
+    pub weight: f64,
 }
 
 // Whether the weight is from 0 to 1 and the three numbers are finite.
@@ -59,32 +54,32 @@ fn visual_score(c: f64, scores: Planar) -> f64
 }
 
 // The weighted sum of three SSIM scores and its weight: 13 where the weight or a score is unlawful, 9 where a result is not finite.
-pub fn ssim(c: f64, scores: Planar) -> CombinedSsim
+pub fn ssim(c: f64, scores: Planar) -> Result<CombinedSsim, Refusal>
     ensures { result ≡ combined_ssim_of c scores }
 {
     if !combinable(c, scores) {
-        return CombinedSsim::Refused(refusal::WEIGHT);
+        return Err(Refusal::Weight);
     }
     let sum = weighted_sum(c, scores);
     let weight = whole_weight(c);
     if number::finite(sum) && number::finite(weight) {
-        CombinedSsim::Sum { sum, weight }
+        Ok(CombinedSsim { sum, weight })
     } else {
-        CombinedSsim::Refused(refusal::NOT_FINITE)
+        Err(Refusal::NotFinite)
     }
 }
 
 // Three PSNR-HVS scores in one: 13 where the weight or a score is unlawful, 9 where the result is not finite.
-pub fn hvs(c: f64, scores: Planar) -> CombinedHvs
+pub fn hvs(c: f64, scores: Planar) -> Result<f64, Refusal>
     ensures { result ≡ combined_hvs_of c scores }
 {
     if !combinable(c, scores) {
-        return CombinedHvs::Refused(refusal::WEIGHT);
+        return Err(Refusal::Weight);
     }
     let score = visual_score(c, scores);
     if number::finite(score) {
-        CombinedHvs::Score(score)
+        Ok(score)
     } else {
-        CombinedHvs::Refused(refusal::NOT_FINITE)
+        Err(Refusal::NotFinite)
     }
 }

@@ -206,6 +206,15 @@ lifted d p h =
         go (yes l) = l
         go (no l) = absurd (omega (arith, pow_mono {i = 52} {j = j} (omega arith)))
 
+-- by how many places they are moved, each bound a fact of its own
+pub lifted_from : (d : ℕ) → 0 < d → d < 2 ^ 52 → 11 ≤ count_leading_zeros 64 d
+lifted_from d p h = (lifted d p h).zeros.0
+
+pub lifted_upto : (d : ℕ) → 0 < d → d < 2 ^ 52 → count_leading_zeros 64 d < 64
+lifted_upto d p h = (lifted d p h).zeros.1
+
+pub ruleset lift_room = (lifted_from, lifted_upto)
+
 moved_up : (c d u w : ℕ) → u + w ≡ c → d * 2 ^ c ≡ d * 2 ^ u * 2 ^ w
 moved_up c d u w q = sym (mul_assoc d (2 ^ u) (2 ^ w) ∙ ap (λ (x : ℕ). d * x) (sym (pow-add 2 u w) ∙ ap (λ (x : ℕ). 2 ^ x) q))
 

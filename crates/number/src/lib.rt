@@ -23,6 +23,7 @@ pub const EXACT_LIMIT: u64 = 0x20_0000_0000_0000;
 pub const EXACT_LIMIT_DOUBLE: f64 = 9007199254740992.0;
 
 // The square root of +0 or of a positive finite number, as IEEE 754 rounds it; anything else is refused.
+#[tactic(auto, using(crate::proofs::Doubles::lift_room))]
 pub fn root(x: f64) -> Result<f64, Refusal>
     ensures { result ≡ root_of x }
 {

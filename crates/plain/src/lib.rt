@@ -11,28 +11,40 @@ ghost use Rattle.ssim.specs.Answer.{ssim_score};
 ghost use Rattle.plain.specs.Plain.{plain_refusal, plain_of};
 
 use plane::{Layout, Size};
+use refusal::Refusal;
 use ssim::Ssim;
 
 mod sums;
 mod walk;
 
-// The lowest of 1 2 4 5 6 7 that applies, and 0 where none does.
-fn refusal(a8: &[u8], a16: &[u16], b8: &[u8], b16: &[u16], layout: Layout, kernel: &[u16]) -> u8
+// The lowest of 1 2 4 5 6 7 that applies.
+fn check(
+    a8: &[u8],
+    a16: &[u16],
+    b8: &[u8],
+    b16: &[u16],
+    layout: Layout,
+    kernel: &[u16],
+) -> Result<(), Refusal>
     ensures { result ≡ plain_refusal (planes layout a8.entry a16.entry b8.entry b16.entry) kernel.now }
 {
-    let no = plane::check(a8, a16, b8, b16, layout, 0);
-    if no != 0 {
-        return no;
-    }
+    plane::check(a8, a16, b8, b16, layout, 0)?;
     if !kernel::is_lawful(kernel) {
-        return refusal::KERNEL;
+        return Err(Refusal::Kernel);
     }
-    0
+    Ok(())
 }
 
 // The score of two planes of either width that no test refuses.
 #[tactic(auto, using(plane::proofs::Depth::depth_small))]
-fn score(a8: &[u8], a16: &[u16], b8: &[u8], b16: &[u16], layout: Layout, kernel: &[u16]) -> Ssim
+fn score(
+    a8: &[u8],
+    a16: &[u16],
+    b8: &[u8],
+    b16: &[u16],
+    layout: Layout,
+    kernel: &[u16],
+) -> Result<Ssim, Refusal>
     requires accepted_pair { AcceptedPair (planes layout a8 a16 b8 b16) 0 }
     requires kernel_value { lawful lent_total kernel.now ≡ true }
     ensures { result ≡ ssim_score (planes layout a8.entry a16.entry b8.entry b16.entry) kernel.now }
@@ -42,13 +54,17 @@ fn score(a8: &[u8], a16: &[u16], b8: &[u8], b16: &[u16], layout: Layout, kernel:
 }
 
 // SSIM of two planes of either width.
-fn answer(a8: &[u8], a16: &[u16], b8: &[u8], b16: &[u16], layout: Layout, kernel: &[u16]) -> Ssim
+fn answer(
+    a8: &[u8],
+    a16: &[u16],
+    b8: &[u8],
+    b16: &[u16],
+    layout: Layout,
+    kernel: &[u16],
+) -> Result<Ssim, Refusal>
     ensures { result ≡ plain_of (planes layout a8.entry a16.entry b8.entry b16.entry) kernel.now }
 {
-    let no = refusal(a8, a16, b8, b16, layout, kernel);
-    if no != 0 {
-        return Ssim::Refused(no);
-    }
+    check(a8, a16, b8, b16, layout, kernel)?;
     score(a8, a16, b8, b16, layout, kernel)
 }
 
@@ -62,7 +78,7 @@ pub fn plain8(
     stride_b: usize,
     depth: u32,
     kernel: &[u16],
-) -> Ssim
+) -> Result<Ssim, Refusal>
     ensures { result ≡ plain_of (called false a.entry b.entry width height stride_a stride_b depth) kernel.now }
 {
     let size = Size {
@@ -89,7 +105,7 @@ pub fn plain16(
     stride_b: usize,
     depth: u32,
     kernel: &[u16],
-) -> Ssim
+) -> Result<Ssim, Refusal>
     ensures { result ≡ plain_of (called true a.entry b.entry width height stride_a stride_b depth) kernel.now }
 {
     let size = Size {

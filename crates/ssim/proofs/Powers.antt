@@ -44,11 +44,12 @@ pub power_le : (n : ℕ) → 1 ≤ n → next_power n ≤ 2 * n
 power_le n l = kept (λ (q : ℕ). q ≤ 2 * n) n (omega arith) (λ p q m. omega arith)
 
 -- nor what a row of lines takes
-pub places_room : (width n : ℕ) → width ≤ side_limit → 1 ≤ n → n ≤ most_taps → 6 * width * next_power n < 2 ^ 64
-places_room width n l some few =
-    let wide : 6 * width ≤ 2 ^ 20 = omega (arith, side_small) in
-    let short : next_power n ≤ 2 ^ 40 = omega (arith, taps_room, power_le n some) in
-    omega (arith, mul-le-mul wide short)
+pub places_room : (sums width n : ℕ) → sums ≤ 16 → width ≤ side_limit → 1 ≤ n → n ≤ most_taps → sums * width * next_power n < 2 ^ 64
+places_room sums width n few l some short =
+    let narrow : width ≤ 2 ^ 14 = omega (arith, side_small) in
+    let row : sums * width ≤ 16 * 2 ^ 14 = mul-le-mul few narrow in
+    let lines : next_power n ≤ 2 ^ 40 = omega (arith, taps_room, power_le n some) in
+    omega (arith, mul-le-mul row lines)
 
 -- ---- the least power of two not below the tap count
 

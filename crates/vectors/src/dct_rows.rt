@@ -1,5 +1,6 @@
 // Transforms and their inverses. A row has which of the two it is, the answer, 64 numbers, and the 64 that they become.
 use crate::{table, tell};
+use refusal::Refusal;
 use std::io;
 
 // How many numbers a block has, and how many a row.
@@ -26,7 +27,7 @@ impl TryFrom<i32> for Way {
     }
 }
 
-fn ask(way: Way, block: &[i32], out: &mut [i32]) -> u8 {
+fn ask(way: Way, block: &[i32], out: &mut [i32]) -> Result<(), Refusal> {
     match way {
         Way::Forward => dct::forward(block, out),
         Way::Inverse => dct::inverse(block, out),
@@ -42,7 +43,7 @@ fn row_is(row: &[i32; ROW]) -> bool {
     let (_, numbers) = row.split_at(2);
     let (block, becomes) = numbers.split_at(BLOCK);
     let mut out = [0i32; BLOCK];
-    let no = ask(way, block, &mut out);
+    let no = tell::number_of(ask(way, block, &mut out));
     i32::from(no) == answer && out.as_slice() == becomes
 }
 

@@ -1,7 +1,8 @@
 // PSNR-HVS of two planes: told are the kind and two zeros.
 use crate::rows::Row;
 use crate::{table, tell};
-use psnr_hvs::{Hvs, Kind};
+use psnr_hvs::Kind;
+use refusal::Refusal;
 
 // The kind that a row names by its number.
 fn kind_of(n: usize) -> Option<Kind> {
@@ -13,7 +14,7 @@ fn kind_of(n: usize) -> Option<Kind> {
     }
 }
 
-fn ask8(r: Row, kind: Kind) -> Hvs {
+fn ask8(r: Row, kind: Kind) -> Result<f64, Refusal> {
     let list = table::BYTES;
     psnr_hvs::psnr_hvs8(
         tell::part_of(&list, r.a.from..r.a.end),
@@ -27,7 +28,7 @@ fn ask8(r: Row, kind: Kind) -> Hvs {
     )
 }
 
-fn ask16(r: Row, kind: Kind) -> Hvs {
+fn ask16(r: Row, kind: Kind) -> Result<f64, Refusal> {
     let list = table::WORDS;
     psnr_hvs::psnr_hvs16(
         tell::part_of(&list, r.a.from..r.a.end),
@@ -41,7 +42,7 @@ fn ask16(r: Row, kind: Kind) -> Hvs {
     )
 }
 
-fn ask(r: Row, kind: Kind) -> Hvs {
+fn ask(r: Row, kind: Kind) -> Result<f64, Refusal> {
     if r.size.wide {
         ask16(r, kind)
     } else {
@@ -53,8 +54,5 @@ pub fn score_is(r: Row) -> bool {
     let Some(kind) = kind_of(r.told[0]) else {
         return false;
     };
-    match ask(r, kind) {
-        Hvs::Score(s) => r.no == 0 && tell::stand(&[s], r.at),
-        Hvs::Refused(no) => no == r.no,
-    }
+    r.has(ask(r, kind).map(|score| [score]))
 }

@@ -2,7 +2,8 @@
 // below the largest its samples reach, and two zeros. The places lent are those that 17 by 33 need, and no row asks for more.
 use crate::rows::Row;
 use crate::tell;
-use msssim::{MsSsim, Pairs};
+use msssim::Pairs;
+use refusal::Refusal;
 use std::array;
 
 // The samples of a plane, more than any row asks for; and the places lent, of 64 bits and of 32.
@@ -37,7 +38,7 @@ fn words(seed: usize, reach: usize) -> [u16; SAMPLES] {
     array::from_fn(|i| (WORD_MAX - below(i, seed, reach) % WORD_VALUES) as u16)
 }
 
-fn ask8(r: Row) -> MsSsim {
+fn ask8(r: Row) -> Result<Pairs, Refusal> {
     let a = bytes(r.a.from, r.told[0]);
     let b = bytes(r.b.from, r.told[0]);
     let mut scratch = [0i64; PLACES];
@@ -57,7 +58,7 @@ fn ask8(r: Row) -> MsSsim {
     )
 }
 
-fn ask16(r: Row) -> MsSsim {
+fn ask16(r: Row) -> Result<Pairs, Refusal> {
     let a = words(r.a.from, r.told[0]);
     let b = words(r.b.from, r.told[0]);
     let mut scratch = [0i64; PLACES];
@@ -77,7 +78,7 @@ fn ask16(r: Row) -> MsSsim {
     )
 }
 
-fn ask(r: Row) -> MsSsim {
+fn ask(r: Row) -> Result<Pairs, Refusal> {
     if r.size.wide { ask16(r) } else { ask8(r) }
 }
 
@@ -89,8 +90,5 @@ fn numbers(p: Pairs) -> [f64; 10] {
 }
 
 pub fn five_are(r: Row) -> bool {
-    match ask(r) {
-        MsSsim::Five(p) => r.no == 0 && tell::stand(&numbers(p), r.at),
-        MsSsim::Refused(no) => no == r.no,
-    }
+    r.has(ask(r).map(numbers))
 }

@@ -2,6 +2,7 @@
 // those samples, and the least side.
 use crate::rows::Row;
 use crate::tell;
+use refusal::Refusal;
 
 // The samples of a plane, as many as the table's places reach: at this place no sample is set.
 const ROOM: usize = plane::SIDE_LIMIT;
@@ -13,7 +14,7 @@ fn set<T: Copy>(samples: &mut [T], at: usize, value: T) {
     }
 }
 
-fn ask8(r: Row) -> Option<u8> {
+fn ask8(r: Row) -> Option<Result<(), Refusal>> {
     let [x, y, least] = r.told;
     let mut a = [0u8; ROOM];
     let mut b = [0u8; ROOM];
@@ -31,7 +32,7 @@ fn ask8(r: Row) -> Option<u8> {
     ))
 }
 
-fn ask16(r: Row) -> Option<u8> {
+fn ask16(r: Row) -> Option<Result<(), Refusal>> {
     let [x, y, least] = r.told;
     let mut a = [0u16; ROOM];
     let mut b = [0u16; ROOM];
@@ -50,6 +51,6 @@ fn ask16(r: Row) -> Option<u8> {
 }
 
 pub fn check_is(r: Row) -> bool {
-    let no = if r.size.wide { ask16(r) } else { ask8(r) };
-    no == Some(r.no)
+    let answer = if r.size.wide { ask16(r) } else { ask8(r) };
+    answer.map(tell::number_of) == Some(r.no)
 }

@@ -4,11 +4,12 @@ use crate::rows::Row;
 use crate::{table, tell};
 use psnr::judge::MOST_PLANE;
 use psnr::{Record, SquaredError};
+use refusal::Refusal;
 
 // The last frame.
 const FRAME: u32 = 4294967295;
 
-fn ask8(r: Row, plane: u32) -> SquaredError {
+fn ask8(r: Row, plane: u32) -> Result<SquaredError, Refusal> {
     let list = table::BYTES;
     psnr::squared_error8(
         tell::part_of(&list, r.a.from..r.a.end),
@@ -23,7 +24,7 @@ fn ask8(r: Row, plane: u32) -> SquaredError {
     )
 }
 
-fn ask16(r: Row, plane: u32) -> SquaredError {
+fn ask16(r: Row, plane: u32) -> Result<SquaredError, Refusal> {
     let list = table::WORDS;
     psnr::squared_error16(
         tell::part_of(&list, r.a.from..r.a.end),
@@ -48,7 +49,7 @@ fn record_is(s: Record, r: Row) -> bool {
         && s.plane == MOST_PLANE
 }
 
-fn ask(r: Row, plane: u32) -> SquaredError {
+fn ask(r: Row, plane: u32) -> Result<SquaredError, Refusal> {
     if r.size.wide {
         ask16(r, plane)
     } else {
@@ -59,18 +60,20 @@ fn ask(r: Row, plane: u32) -> SquaredError {
 // "Identical" belongs to an error of 0 and to no other.
 fn last_is(r: Row) -> bool {
     match ask(r, MOST_PLANE) {
-        SquaredError::Differs(s) => record_is(s, r) && r.told[0] != 0,
-        SquaredError::Identical(s) => record_is(s, r) && r.told[0] == 0,
-        SquaredError::Refused(no) => no == r.no,
+        Ok(SquaredError::Differs(s)) => record_is(s, r) && r.told[0] != 0,
+        Ok(SquaredError::Identical(s)) => record_is(s, r) && r.told[0] == 0,
+        Err(refusal) => refusal.number() == r.no,
     }
 }
 
-// A plane number that there is none of: the row's own refusal, and else 10.
+// A plane number that there is none of: the row's own refusal, and else the record's.
 fn past_is(r: Row) -> bool {
-    match ask(r, MOST_PLANE + 1) {
-        SquaredError::Differs(_) | SquaredError::Identical(_) => false,
-        SquaredError::Refused(no) => no == if r.no == 0 { refusal::RECORD } else { r.no },
-    }
+    let no = if r.no == 0 {
+        Refusal::Record.number()
+    } else {
+        r.no
+    };
+    tell::number_of(ask(r, MOST_PLANE + 1)) == no
 }
 
 pub fn error_is(r: Row) -> bool {

@@ -1,12 +1,12 @@
 // Roots: a number, and its root or -1 where it is refused.
 use crate::{table, tell};
-use number::Rooted;
+use refusal::Refusal;
 use std::io;
 
 fn root_is(x: f64, root: f64) -> bool {
     match number::root(x) {
-        Rooted::Root(r) => tell::same(r, root),
-        Rooted::Refused(no) => no == refusal::VALUE && root == -1.0,
+        Ok(r) => tell::same(r, root),
+        Err(refusal) => refusal == Refusal::Value && root == -1.0,
     }
 }
 

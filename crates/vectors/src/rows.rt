@@ -1,6 +1,7 @@
 // The largest table. A row asks for a call on two planes, and has the answer.
 use crate::{hvs_rows, msssim_rows, planes, psnr_rows, ssim_rows, table, tell};
 use plane::Size;
+use refusal::Refusal;
 use std::io;
 use std::num::TryFromIntError;
 use std::ops::Range;
@@ -25,6 +26,16 @@ pub struct Row {
     pub told: [usize; 3],
     pub no: u8,
     pub at: usize,
+}
+
+impl Row {
+    // Whether an answer is the row's: a refusal by its number, or scores as they stand in the list.
+    pub fn has<const N: usize>(self, answer: Result<[f64; N], Refusal>) -> bool {
+        match answer {
+            Ok(scores) => self.no == 0 && tell::stand(&scores, self.at),
+            Err(refusal) => self.no == refusal.number(),
+        }
+    }
 }
 
 impl TryFrom<[usize; ROW]> for Row {

@@ -2,6 +2,7 @@
 use crate::tell;
 use psnr::judge::COUNT_LIMIT;
 use psnr::{Record, Run, Summed, Total};
+use refusal::Refusal;
 use std::io;
 
 // The largest sample of depth 12.
@@ -41,9 +42,9 @@ fn repeated(sq_err: f64, n: u64, sample_max: u32, times: u32) -> Run {
 // Whether a series has this total, "identical" where the error is 0 and nowhere else.
 fn sums_to(s: Run, error: f64, n: u64, max: u32) -> bool {
     match psnr::finish(s) {
-        Summed::Differs(t) => total_is(t, error, n, max) && error != 0.0,
-        Summed::Identical(t) => total_is(t, error, n, max) && error == 0.0,
-        Summed::Refused(_) => false,
+        Ok(Summed::Differs(t)) => total_is(t, error, n, max) && error != 0.0,
+        Ok(Summed::Identical(t)) => total_is(t, error, n, max) && error == 0.0,
+        Err(_) => false,
     }
 }
 
@@ -51,9 +52,9 @@ fn total_is(t: Total, error: f64, n: u64, max: u32) -> bool {
     tell::same(t.sq_err, error) && t.n == n && t.sample_max == max
 }
 
-// Whether a series is refused by this number.
-fn refused(s: Run, no: u8) -> bool {
-    matches!(psnr::finish(s), Summed::Refused(k) if k == no)
+// Whether a series is refused so.
+fn refused(s: Run, refusal: Refusal) -> bool {
+    psnr::finish(s).err() == Some(refusal)
 }
 
 // So many of the largest records.
@@ -78,7 +79,7 @@ fn equal(times: u32, sample_max: u32) -> Run {
 }
 
 fn spoils(sq_err: f64, n: u64, sample_max: u32) -> bool {
-    refused(two(sq_err, n, sample_max), refusal::RECORD)
+    refused(two(sq_err, n, sample_max), Refusal::Record)
 }
 
 // One, two and three planes of the largest error; the totals 2^53 and one more.
@@ -86,9 +87,9 @@ fn totals(rt: &impl Print) -> io::Result<()> {
     let list = [
         sums_to(largest(1), MOST, 268435456, MAX),
         sums_to(largest(2), 9002801745100800.0, 536870912, MAX),
-        refused(largest(3), refusal::TOTAL),
+        refused(largest(3), Refusal::Total),
         sums_to(three(4397509640192.0), 9007199254740992.0, 805306368, MAX),
-        refused(three(4397509640193.0), refusal::TOTAL),
+        refused(three(4397509640193.0), Refusal::Total),
         sums_to(two(0.0, 3, 255), 9.0, 5, 255),
     ];
     tell::held(rt, "series", &list)
@@ -97,10 +98,10 @@ fn totals(rt: &impl Print) -> io::Result<()> {
 // No record, the most and one more; and a largest sample that no depth has.
 fn counts(rt: &impl Print) -> io::Result<()> {
     let list = [
-        refused(equal(0, 1), refusal::RECORD),
+        refused(equal(0, 1), Refusal::Record),
         sums_to(equal(65536, 1), 0.0, 327680, 1),
-        refused(equal(65537, 1), refusal::RECORD),
-        refused(equal(1, 254), refusal::RECORD),
+        refused(equal(65537, 1), Refusal::Record),
+        refused(equal(1, 254), Refusal::Record),
     ];
     tell::held(rt, "series of equal records", &list)
 }
@@ -130,7 +131,7 @@ fn rises(f: u32, p: u32, g: u32, q: u32) -> bool {
 }
 
 fn falls(f: u32, p: u32, g: u32, q: u32) -> bool {
-    refused(of_two(f, p, g, q), refusal::RECORD)
+    refused(of_two(f, p, g, q), Refusal::Record)
 }
 
 // Frames and planes that rise, that do not, and a plane that no frame has.

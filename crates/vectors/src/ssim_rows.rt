@@ -1,9 +1,10 @@
 // SSIM of two planes: told are where the kernel begins and ends, and how many places of scratch there are.
 use crate::rows::Row;
 use crate::{table, tell};
+use refusal::Refusal;
 use ssim::Ssim;
 
-fn ask8(r: Row, kernel: &[u16], scratch: &mut [i64]) -> Ssim {
+fn ask8(r: Row, kernel: &[u16], scratch: &mut [i64]) -> Result<Ssim, Refusal> {
     let list = table::BYTES;
     ssim::ssim8(
         tell::part_of(&list, r.a.from..r.a.end),
@@ -18,7 +19,7 @@ fn ask8(r: Row, kernel: &[u16], scratch: &mut [i64]) -> Ssim {
     )
 }
 
-fn ask16(r: Row, kernel: &[u16], scratch: &mut [i64]) -> Ssim {
+fn ask16(r: Row, kernel: &[u16], scratch: &mut [i64]) -> Result<Ssim, Refusal> {
     let list = table::WORDS;
     ssim::ssim16(
         tell::part_of(&list, r.a.from..r.a.end),
@@ -33,7 +34,7 @@ fn ask16(r: Row, kernel: &[u16], scratch: &mut [i64]) -> Ssim {
     )
 }
 
-fn ask(r: Row) -> Ssim {
+fn ask(r: Row) -> Result<Ssim, Refusal> {
     let [from, end, places] = r.told;
     let taps = table::TAPS;
     let kernel = tell::part_of(&taps, from..end);
@@ -47,8 +48,5 @@ fn ask(r: Row) -> Ssim {
 }
 
 pub fn pair_is(r: Row) -> bool {
-    match ask(r) {
-        Ssim::Pair { ssim, cs } => r.no == 0 && tell::stand(&[ssim, cs], r.at),
-        Ssim::Refused(no) => no == r.no,
-    }
+    r.has(ask(r).map(|s| [s.ssim, s.cs]))
 }

@@ -1,5 +1,6 @@
 // What the replays share: the line that each prints, parts of what is lent, and numbers compared.
 use crate::table;
+use refusal::Refusal;
 use std::io;
 use std::ops::Range;
 
@@ -25,6 +26,11 @@ pub fn held(rt: &impl Print, name: &str, list: &[bool]) -> io::Result<()> {
 // A part of what is lent, and nothing where it is not there.
 pub fn part_of<T>(list: &[T], places: Range<usize>) -> &[T] {
     list.get(places).unwrap_or(&[])
+}
+
+// The number that the tables have for an answer: its refusal's, or 0.
+pub fn number_of<T: Drop>(answer: Result<T, Refusal>) -> u8 {
+    answer.err().map_or(0, Refusal::number)
 }
 
 // Whether two numbers are one, zeros of unlike sign told apart.

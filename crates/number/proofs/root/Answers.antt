@@ -45,26 +45,6 @@ pub returns-then-bits-eq0 : goal.returns-then-bits-eq0
 returns-then-bits-eq0 c =
     sym zero-root ∙ by_bits c.args.x (subst T (sym c.well_formed.0.1) tt) 0 c.if-bits-eq0.true
 
-pub overflow_cast-up : goal.overflow_cast-up
-overflow_cast-up c =
-    let lift = below_leading (to_bits binary64 c.args.x) (omega arith) (omega arith) in
-    omega (arith, lift.zeros)
-
-pub overflow_sub-up : goal.overflow_sub-up
-overflow_sub-up c =
-    let lift = below_leading (to_bits binary64 c.args.x) (omega arith) (omega arith) in
-    lift.zeros.0
-
-pub overflow_shl-digits : goal.overflow_shl-digits
-overflow_shl-digits c =
-    let lift = below_leading (to_bits binary64 c.args.x) (omega arith) (omega arith) in
-    omega (arith, lift.zeros)
-
-pub overflow_sub-up-then-field-eq0 : goal.overflow_sub-up-then-field-eq0
-overflow_sub-up-then-field-eq0 c =
-    let lift = below_leading (to_bits binary64 c.args.x) (omega arith) (omega arith) in
-    omega (arith, lift.zeros)
-
 pub scaled_root-requires : goal.scaled_root-requires
 scaled_root-requires c =
     let lift = below_leading (to_bits binary64 c.args.x) (omega arith) (omega arith) in
@@ -78,9 +58,6 @@ returns-then-field-eq0 c =
     ap Ok (c.scaled_root.ensures ∙ ap (λ (x : ℕ). units binary64 false (nearest_root 53 (x * 2 ^ (52 + (1022 - u) % 2))) ((1022 - u) / 2)) lift.exact)
     ∙ sym (small_root d (omega arith) (omega arith))
     ∙ by_bits c.args.x (subst T (sym c.well_formed.0.1) tt) d (omega arith)
-
-pub scaled_root-requires-then-field-lt2047 : goal.scaled_root-requires-then-field-lt2047
-scaled_root-requires-then-field-lt2047 c = (omega arith, omega arith, omega arith)
 
 pub returns-then-field-lt2047 : goal.returns-then-field-lt2047
 returns-then-field-lt2047 c =

@@ -4,9 +4,6 @@ use lib.Ieee.{binary64, units}
 use Rattle.number.proofs.Doubles.{units_bits}
 use Rattle.number.proofs.scaled_root.Goals as goal
 
-pub nearest-s-requires : goal.nearest-s-requires
-nearest-s-requires c = (c.requires.0, c.requires.1, omega arith)
-
 pub returns : goal.returns
 returns c = let s = c.nearest-s.ensures in
     units_bits (c.args.w / 2) c.nearest-s.result (omega arith) s.1 s.2
