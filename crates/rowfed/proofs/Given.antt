@@ -5,18 +5,16 @@ use mathlib.Core.List.{List, [], ◌∷◌}
 use Prim.Native.Nat.{ℕ, zero, suc, ◌+◌, ◌-◌, ◌/◌, ◌≤◌}
 use native.Mathlib.Omega.{arith}
 use borrow.Author.Tests.{le-leb, eq-eqb}
-use lib.Dec.{lit<}
 use lib.IntN.{ℤ}
 use lib.ListN.{length, replicate, length-append}
 use lib.Seq.{take-append_seam, drop-append_seam}
 use Rattle.std.specs.Prelude.{Ok, Err}
 use Rattle.refusal.specs.First.{Verdict, by_refusal}
-use Rattle.plane.specs.Limits.{least_depth}
 use Rattle.plane.specs.declared.Size.{Size}
 use Rattle.plane.specs.Plane.{Planes, at}
 use Rattle.plane.proofs.All.{all_true}
 use Rattle.plane.proofs.Accept.{sides_say}
-use Rattle.plane.proofs.Depth.{depth_says, byte_depth, below_depths}
+use Rattle.plane.proofs.Depth.{depth_says, byte_depth}
 use Rattle.kernel.specs.Kernel.{most_taps, lent_total, lawful}
 use Rattle.ssim.specs.declared.Totals.{Totals}
 use Rattle.row_ring.specs.Taken.{scored_after}
