@@ -8,7 +8,7 @@ use Rattle.plane.specs.Inner.Unread.{unread_refusal}
 use Rattle.plane.proofs.All.{all_none, all_more, all_at, none_at, none_ext}
 use Rattle.plane.proofs.Depth.{depth_says, max_grows}
 use Rattle.plane.proofs.Limits.{deepest}
-use Rattle.plane.proofs.Rows.{part, part_length, part_at}
+use Rattle.plane.proofs.Rows.{part, part_at}
 use Rattle.plane.proofs.Sums.{sum_ext}
 use Rattle.plane.proofs.Unread.{unread_says, unread_depth}
 use Rattle.std.specs.Prelude.{Ok, Err}
@@ -49,17 +49,17 @@ module _ (p : Planes) where
   max = max_of size.depth
 
   -- ---- a row of each plane as a part of a slice, by whatever name its samples are known
-  pub row_walked_lem : (y : ℕ) {a b : List ℕ} → p.a.samples ≡ a → p.b.samples ≡ b → y * p.a.stride + size.width ≤ length a
-      → let r = part a p.a.stride size.width y in
-      row_walked size.depth r (part b p.b.stride size.width y) (length r) ≡ walked_at p y
+  pub row_walked_lem : (y : ℕ) {a b f s : List ℕ} → p.a.samples ≡ a → p.b.samples ≡ b
+      → f ≡ part a p.a.stride size.width y → s ≡ part b p.b.stride size.width y → length f ≡ size.width
+      → row_walked size.depth f s (length f) ≡ walked_at p y
   unfolding row_walked walked_at row_suits row_error squares_in
-  row_walked_lem y {a} {b} ea eb la =
+  row_walked_lem y {a} {b} ea eb ef es long =
       let width = size.width in
       let first : (x : ℕ) → x < width → at (part a p.a.stride width y) x ≡ sample_at p.a y x =
       λ x l. part_at a p.a.stride width y x l ∙ ap (λ (t : List ℕ). at t (y * p.a.stride + x)) (sym ea) in
       let second : (x : ℕ) → x < width → at (part b p.b.stride width y) x ≡ sample_at p.b y x =
       λ x l. part_at b p.b.stride width y x l ∙ ap (λ (t : List ℕ). at t (y * p.b.stride + x)) (sym eb) in
-      rw (part_length a p.a.stride width y la)
+      rw (long, ef, es)
       (ap₂ walked_if (ap₂ ◌&&◌ (none_ext max _ _ width first) (none_ext max _ _ width second))
       (sum_ext _ _ width (λ x l. ap₂ square_of (first x l) (second x l))))
 

@@ -1,6 +1,6 @@
 // The sum of the squared differences over the visible samples of two planes, and test 6 on the way: words are read once for both. Nobody
 // above knows how the rows are walked.
-ghost use Rattle.std.specs.Prelude.{◌≡◌, ◌*◌, ◌%◌, ◌^◌, ◌<◌, ◌≤◌, min, true, false, length};
+ghost use Rattle.std.specs.Prelude.{◌≡◌, ◌+◌, ◌*◌, ◌%◌, ◌^◌, ◌<◌, ◌≤◌, true, false, length, slice_range};
 ghost use Rattle.plane.specs.Limits.{side_limit, most_depth};
 ghost use Rattle.plane.specs.Inner.Lent.{planes};
 ghost use Rattle.psnr.specs.Squared.{square_of};
@@ -141,6 +141,16 @@ fn row16(a: &[u16], b: &[u16], depth: u32) -> Result<u64, Refusal>
 
 // ---- planes
 
+// Row y of a plane, without its padding.
+fn row_of<S>(samples: &[S], stride: usize, width: usize, y: usize) -> &[S]
+    requires { (y * stride + width ≤ length samples.now) × (length samples.now < 2 ^ 64) }
+    ensures value { result.now ≡ slice_range samples.now (y * stride) (y * stride + width) }
+    ensures length_value { length result.now ≡ width }
+{
+    let start = y * stride;
+    &samples[start..start + width]
+}
+
 // The same of row y.
 fn row(
     a8: &[u8],
@@ -156,16 +166,14 @@ fn row(
 {
     let width = layout.size.width;
     let depth = layout.size.depth;
-    let stride_a = layout.stride_a;
-    let stride_b = layout.stride_b;
-    let from_a = y * stride_a;
-    let from_b = y * stride_b;
-    let end_a = from_a + width;
-    let end_b = from_b + width;
     if layout.size.wide {
-        row16(&a16[from_a..end_a], &b16[from_b..end_b], depth)
+        let first = row_of(a16, layout.stride_a, width, y);
+        let second = row_of(b16, layout.stride_b, width, y);
+        row16(first, second, depth)
     } else {
-        row8(&a8[from_a..end_a], &b8[from_b..end_b], depth)
+        let first = row_of(a8, layout.stride_a, width, y);
+        let second = row_of(b8, layout.stride_b, width, y);
+        row8(first, second, depth)
     }
 }
 
