@@ -13,14 +13,7 @@ pub fn store(r: T8, out: &mut [i32])
     requires { 8 ≤ length out.old }
     ensures { out.new ≡ vals r ++ drop 8 out.old }
 {
-    out[0] = r.t0;
-    out[1] = r.t1;
-    out[2] = r.t2;
-    out[3] = r.t3;
-    out[4] = r.t4;
-    out[5] = r.t5;
-    out[6] = r.t6;
-    out[7] = r.t7;
+    out[..8].copy_from_slice(&[r.t0, r.t1, r.t2, r.t3, r.t4, r.t5, r.t6, r.t7]);
 }
 
 // Eight numbers of a block, each `by` places after the one before: a column by 8, a row by 1.
