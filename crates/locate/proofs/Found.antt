@@ -11,8 +11,7 @@ use borrow.Author.Tests.{eqb-true, eqb-false, not-true, not-false, eq-eqb, ne_eq
 use lib.Dec.{eqb}
 use Rattle.std.specs.Prelude.{Option, None, Some, Ok, Err}
 use Rattle.refusal.specs.First.{Verdict, unless_refused}
-use Rattle.plane.specs.declared.Size.{Size}
-use Rattle.plane.specs.Plane.{Plane, Planes, planes_of, sample_at}
+use Rattle.plane.specs.Plane.{Size, Plane, Planes, planes_of, sample_at}
 use Rattle.plane.specs.Tests.{pair_refusal}
 use Rattle.plane.specs.Inner.Lawful.{Equivalent}
 use Rattle.plane.proofs.Sums.{sum_term}

@@ -1,7 +1,10 @@
 -- The first place found stays the first. Assumes nothing.
 use mathlib.Core.Path.{◌≡◌, refl, sym, ◌∙◌}
 use mathlib.Core.Bool.{Bool, true, false, not, ◌&&◌}
-use mathlib.Core.List.{List}
+use mathlib.Core.List.{List, map}
+use Rattle.std.proofs.lemmas.List.{length-map}
+use Rattle.plane.specs.declared.Pair as two
+use Rattle.plane.specs.Inner.Seen.{planes, row_in}
 use Prim.Native.Nat.{ℕ, zero, suc, ◌+◌, ◌-◌, ◌*◌, ◌≤◌, ◌<◌}
 use native.Mathlib.Nat.{add-suc, add-zero}
 use native.Mathlib.Numerals.{add-one}
@@ -10,9 +13,9 @@ use borrow.Author.Tests.{eq-eqb, ne_eqb, eqb-true}
 use lib.Dec.{eqb}
 use lib.ListN.{length}
 use Rattle.std.specs.Prelude.{None, Some}
-use Rattle.plane.specs.Plane.{Planes, at}
+use Rattle.plane.specs.Plane.{Planes, at, sample_at}
 use Rattle.plane.proofs.All.{all_none, all_more, all_at}
-use Rattle.plane.proofs.Rows.{row_inside, part, part_length, part_at}
+use Rattle.plane.proofs.Rows.{row_inside, row_length, row_at}
 use Rattle.psnr.specs.Inner.Walk.{Walkable}
 use Rattle.locate.specs.Where.{place, differ_at, along_to, down_to, first_difference}
 use Rattle.locate.specs.Inner.Walk.{alike_to, AlikeBelow, FirstApart}
@@ -83,42 +86,63 @@ module _ (a b : List ℕ) where
 pub ruleset alike_steps = (alike_none, alike_next)
 
 -- and as rows of two planes
-module _ {p : Planes} (w : Walkable p) (y : ℕ) (l : y < p.size.height) where
-  abbrev first_part : List ℕ
-  first_part = part p.a.samples p.a.stride p.size.width y
+module _ {S : Type 0} (value : S → ℕ) (wide : Bool) (c : two.Pair S) (w : Walkable (planes value wide c)) (y : ℕ) (l : y < c.format.height) where
+  abbrev p : Planes
+  p = planes value wide c
 
-  abbrev second_part : List ℕ
-  second_part = part p.b.samples p.b.stride p.size.width y
+  abbrev width : ℕ
+  width = c.format.width
+
+  abbrev pub first_row : List S
+  first_row = row_in c.a.samples.now c.a.stride width y
+
+  abbrev pub second_row : List S
+  second_row = row_in c.b.samples.now c.b.stride width y
 
   -- each ends inside its plane
-  pub first_row : y * p.a.stride + p.size.width ≤ length p.a.samples
-  first_row = row_inside _ _ w.bounded.first.long l
+  pub first_inside : y * c.a.stride + width ≤ length c.a.samples.now
+  first_inside = row_inside width c.a.stride (rw length-map at w.bounded.first.long) l
 
-  pub second_row : y * p.b.stride + p.size.width ≤ length p.b.samples
-  second_row = row_inside _ _ w.bounded.second.long l
+  pub second_inside : y * c.b.stride + width ≤ length c.b.samples.now
+  second_inside = row_inside width c.b.stride (rw length-map at w.bounded.second.long) l
 
-  pub parts_long : length first_part ≡ length second_part
-  parts_long = part_length _ _ _ _ first_row ∙ sym (part_length _ _ _ _ second_row)
+  pub first_long : length first_row ≡ width
+  first_long = row_length value c.a.samples.now c.a.stride width y first_inside
 
-  -- where they agree, the row is passed over
-  pub row_quiet : AlikeBelow first_part second_part (length first_part) → along_to (differ_at p) y p.size.width ≡ None
-  row_quiet h =
-      along_quiet (differ_at p) y p.size.width
-      (λ x k. same _ _ (sym (part_at _ _ _ y x k) ∙ h x (rw (part_length _ _ _ y first_row) k) ∙ part_at _ _ _ y x k))
+  second_long : length second_row ≡ width
+  second_long = row_length value c.b.samples.now c.b.stride width y second_inside
 
-  pub row_alike : alike_to first_part second_part (length first_part) ≡ true → along_to (differ_at p) y p.size.width ≡ None
-  unfolding alike_to
-  row_alike e = row_quiet (λ x k. eqb-true _ _ (all_at _ _ e x k))
+  pub first_at : (x : ℕ) → x < width → at (map value first_row) x ≡ sample_at p.a y x
+  first_at = row_at value c.a.samples.now c.a.stride width y first_inside
 
-  -- where they do not, the place is found
-  pub row_apart : (x : ℕ) → FirstApart first_part second_part x → down_to (differ_at p) p.size.width y ≡ None
-      → Some (place y x) ≡ first_difference p
-  row_apart x f above =
-      let k : x < p.size.width = rw (part_length p.a.samples p.a.stride p.size.width y first_row) at f.0 in
-      let before = along_quiet (differ_at p) y x
-      (λ z m. let n : z < p.size.width = omega arith in same _ _ (sym (part_at _ _ _ y z n) ∙ f.2 z m ∙ part_at _ _ _ y z n)) in
-      let apart = unlike _ _ (λ e. f.1 (part_at _ _ _ y x k ∙ e ∙ sym (part_at _ _ _ y x k))) in
-      sym (found (differ_at p) p.size.width p.size.height y x above before apart k l)
+  pub second_at : (x : ℕ) → x < width → at (map value second_row) x ≡ sample_at p.b y x
+  second_at = row_at value c.b.samples.now c.b.stride width y second_inside
+
+  module _ {a b : List S} (ea : a ≡ first_row) (eb : b ≡ second_row) where
+    pub rows_long : length a ≡ length b
+    rows_long = rw (ea, eb) (first_long ∙ sym second_long)
+
+    -- where they agree, the row is passed over
+    pub row_quiet : AlikeBelow (map value a) (map value b) (length a) → along_to (differ_at p) y width ≡ None
+    row_quiet h =
+        let same_at = rw (ea, eb) at h in
+        along_quiet (differ_at p) y width
+        (λ x k. same _ _ (sym (first_at x k) ∙ same_at x (rw first_long k) ∙ second_at x k))
+
+    pub row_alike : alike_to (map value a) (map value b) (length a) ≡ true → along_to (differ_at p) y width ≡ None
+    unfolding alike_to
+    row_alike e = row_quiet (λ x k. eqb-true _ _ (all_at _ _ e x k))
+
+    -- where they do not, the place is found
+    pub row_apart : (x : ℕ) → FirstApart (map value a) (map value b) x → down_to (differ_at p) width y ≡ None
+        → Some (place y x) ≡ first_difference p
+    row_apart x f above =
+        let here = rw (ea, eb) at f in
+        let k : x < width = rw (length-map, first_long) at here.0 in
+        let before = along_quiet (differ_at p) y x
+        (λ z m. let n : z < width = omega arith in same _ _ (sym (first_at z n) ∙ here.2 z m ∙ second_at z n)) in
+        let apart = unlike _ _ (λ e. here.1 (first_at x k ∙ e ∙ sym (second_at x k))) in
+        sym (found (differ_at p) width c.format.height y x above before apart k l)
 
 -- the walk to the first place
-pub ruleset first_steps = (first_row, second_row, parts_long, down_none, down_more, row_quiet, row_alike, row_apart)
+pub ruleset first_steps = (first_inside, second_inside, down_none, down_more)

@@ -13,8 +13,7 @@ use Rattle.std.specs.Prelude.{Ok, Err}
 use Rattle.refusal.specs.First.{Verdict, first_broken, by_refusal, unless_refused}
 use Rattle.number.specs.Steps.{list_to}
 use Rattle.number.proofs.Lists.{list_length, list_ext}
-use Rattle.plane.specs.declared.Size.{Size}
-use Rattle.plane.specs.Plane.{Plane, Planes, planes_of, at, sample_at}
+use Rattle.plane.specs.Plane.{Size, Plane, Planes, planes_of, at, sample_at}
 use Rattle.plane.specs.Sums.{sum_to}
 use Rattle.plane.specs.Tests.{pair_refusal}
 use Rattle.plane.specs.Inner.Lawful.{Equivalent}

@@ -1,8 +1,6 @@
 -- What the leaves of the two walks promise each other. Definitions only.
-use Rattle.std.specs.Prelude.{◌≡◌, ◌≢◌, Bool, List, ℕ, ◌*◌, ◌<◌, eqb, length}
-use Rattle.plane.specs.Plane.{Planes, planes_of, plane_of, at, all_to}
-use Rattle.plane.specs.declared.Layout.{Layout}
-use Rattle.psnr.specs.Inner.Walk.{word_most}
+use Rattle.std.specs.Prelude.{◌≡◌, ◌≢◌, Bool, List, ℕ, ◌*◌, ◌^◌, ◌<◌, eqb, length}
+use Rattle.plane.specs.Plane.{at, all_to}
 use Rattle.locate.specs.Map.{tile_side}
 
 -- the first n samples of two rows agree
@@ -17,10 +15,6 @@ AlikeBelow a b n = (k : ℕ) → k < n → at a k ≡ at b k
 abbrev pub FirstApart : List ℕ → List ℕ → ℕ → Type 0
 FirstApart a b x = (x < length a) × (at a x ≢ at b x) × AlikeBelow a b x
 
--- two planes of one width as they are lent
-abbrev pub laid : Layout → List ℕ → List ℕ → Planes
-laid layout a b = planes_of layout.size (plane_of a layout.stride_a) (plane_of b layout.stride_b)
-
--- the largest squared error of one row of a tile
+-- more than the squared error of one row of a tile can be
 abbrev pub piece_most : ℕ
-piece_most = tile_side * (word_most * word_most)
+piece_most = tile_side * 2 ^ 32
