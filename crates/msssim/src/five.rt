@@ -3,7 +3,8 @@ ghost use Rattle.std.specs.Prelude.{◌≡◌, ◌*◌, length};
 ghost use Rattle.msssim.specs.Scale.{scale_count};
 ghost use Rattle.msssim.specs.Answer.{all_finite, five_of};
 
-use crate::{Pairs, scales::NUMBERS};
+use crate::Pairs;
+use crate::scales::NUMBERS;
 use refusal::Refusal;
 
 // None is infinite or not a number.

@@ -67,7 +67,6 @@ fn scratch_suits(size: Size, scratch: &[i64], a32: &[u32], b32: &[u32]) -> bool
 }
 
 // The lowest of 1 2 3 4 5 6 8 that applies.
-#[tactic(auto, using(crate::proofs::Accept::in_parts), unfolding(crate::specs::Answer::least_side))]
 fn check(
     a8: &[u8],
     a16: &[u16],

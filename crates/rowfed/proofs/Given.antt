@@ -22,7 +22,7 @@ use Rattle.ssim.specs.declared.Totals.{Totals}
 use Rattle.row_ring.specs.Taken.{scored_after}
 use Rattle.row_ring.proofs.Rows.{scored_before}
 use Rattle.rowfed.specs.declared.State.{State}
-use Rattle.rowfed.specs.State.{held_kernel, zeros, places_suit, counts_suit, possible}
+use Rattle.rowfed.specs.State.{held_kernel, zeros, places_suit, counts_suit, possible, no_state}
 use Rattle.rowfed.specs.Begin.{begin_refusal}
 use Rattle.rowfed.specs.Feed.{feed_refusal, taken_in, with_rows, state_fed}
 use Rattle.rowfed.specs.Runs.{Between, fed_once, fed_all, begun_with, SameNumbers, Reached}
@@ -89,6 +89,11 @@ reached_possible wide s r =
     same_possible wide s _ r.same (feeds_possible wide h r.feeds first)
 
 -- ---- what is not
+-- the state of zeros: no call takes it
+pub no_state_impossible : (wide : Bool) → possible wide no_state ≡ false
+unfolding possible least_depth
+no_state_impossible wide = rw (sym (below_depths wide 0 (lit< tt)))
+
 -- the depth says of which sample width a state is
 pub depth_names_width : (s : State) → possible false s ≡ true → possible true s ≡ false
 unfolding possible

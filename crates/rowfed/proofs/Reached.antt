@@ -150,6 +150,6 @@ possible_reached wide s e full =
       feeds = feed wide s ∷ [];
       of_wide = refl;
       begun = begins wide s e;
-      fed = (rw (begins wide s e), (feeds wide s e, tt));
+      fed = (refl, (feeds wide s e, tt));
       same = numbers wide s e full;
     }

@@ -5,6 +5,7 @@ use Rattle.plane.specs.Plane.{at, all_to, max_of}
 use Rattle.plane.specs.Tests.{depth_suits, sides_suit}
 use Rattle.kernel.specs.Kernel.{most_taps, lent_total, lawful}
 use Rattle.ssim.specs.Scratch.{next_power, scratch_places}
+use Rattle.ssim.specs.Score.{no_totals}
 use Rattle.row_ring.specs.declared.Ring.{Ring}
 use Rattle.row_ring.specs.Taken.{scored_after}
 use Rattle.rowfed.specs.declared.State.{State}
@@ -47,3 +48,8 @@ counts_suit s = leb s.rows s.height && eqb s.scored (scored_after s.rows s.heigh
 -- judged.
 unfoldable pub possible : Bool → State → Bool
 possible wide s = depth_suits wide s.depth && (sides_suit s.width s.height && (places_suit s.kernel s.taps && counts_suit s))
+
+-- the state of zeros; it is not possible, so no call takes it
+abbrev pub no_state : State
+no_state =
+    record { width = 0; height = 0; depth = 0; taps = 0; kernel = replicate most_taps 0; rows = 0; scored = 0; sums = no_totals }

@@ -19,7 +19,7 @@ pub mod taken;
 
 // What the caller holds between calls: the sides and the depth of the planes, the kernel in the first `taps` of its places, how many rows have
 // come, how many rows of centres are scored, and their sums.
-#[derive(Clone, Copy)]
+#[derive(Clone, Copy, Debug, PartialEq)]
 pub struct State {
     pub width: usize,
     pub height: usize,
@@ -32,7 +32,13 @@ pub struct State {
 }
 
 // Planes of bytes whose rows will come: 1 2 7 8. Accepted, the needed part of the scratch is all zero and the rest as it was; refused, all is.
-pub fn begin8(width: usize, height: usize, depth: u32, kernel: &[u16], scratch: &mut [i64]) -> Result<State, Refusal>
+pub fn begin8(
+    width: usize,
+    height: usize,
+    depth: u32,
+    kernel: &[u16],
+    scratch: &mut [i64],
+) -> Result<State, Refusal>
     ensures value { result ≡ begin_of (size_of false width height depth) kernel.now scratch.old }
     ensures scratch_after { scratch.new ≡ scratch_begun (size_of false width height depth)
         kernel.now scratch.old }
@@ -47,7 +53,13 @@ pub fn begin8(width: usize, height: usize, depth: u32, kernel: &[u16], scratch: 
 }
 
 // The same of words.
-pub fn begin16(width: usize, height: usize, depth: u32, kernel: &[u16], scratch: &mut [i64]) -> Result<State, Refusal>
+pub fn begin16(
+    width: usize,
+    height: usize,
+    depth: u32,
+    kernel: &[u16],
+    scratch: &mut [i64],
+) -> Result<State, Refusal>
     ensures value { result ≡ begin_of (size_of true width height depth) kernel.now scratch.old }
     ensures scratch_after { scratch.new ≡ scratch_begun (size_of true width height depth)
         kernel.now scratch.old }

@@ -20,14 +20,8 @@ use row_ring::Ring;
 use ssim::{Totals, centre, walk};
 
 // The lowest of 4 5 6 that applies to the rows of a feed. No rows need no samples.
-#[tactic(auto, using(crate::proofs::Accept::no_rows, crate::proofs::Accept::some_rows))]
-fn check_rows(
-    a8: &[u8],
-    a16: &[u16],
-    b8: &[u8],
-    b16: &[u16],
-    layout: Layout,
-) -> Result<(), Refusal>
+#[tactic(auto, using(crate::proofs::Accept::no_rows))]
+fn check_rows(a8: &[u8], a16: &[u16], b8: &[u8], b16: &[u16], layout: Layout) -> Result<(), Refusal>
     requires depth_value { depth_suits layout.size.wide layout.size.depth ≡ true }
     requires le_width { 1 ≤ layout.size.width }
     ensures { result ≡ first_broken (rows_tests (planes layout a8.entry a16.entry b8.entry b16.entry)) }
