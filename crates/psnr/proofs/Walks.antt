@@ -1,8 +1,8 @@
 -- What a walk over two planes finds, row by row, and what that says of the whole. Assumes nothing.
-use Rattle.std.proofs.Common.{◌≡◌, ℕ, ◌+◌, ◌*◌, ◌<◌, ◌≤◌, Bool, true, false, ◌&&◌, List, length, map, sym, refl, ap, ◌∙◌, ap₂, true≢false, le_trans}
+use Rattle.std.proofs.Common.{◌≡◌, ℕ, ◌+◌, ◌*◌, ◌<◌, ◌≤◌, Bool, true, false, ◌&&◌, List, length, map, sym, refl, ◌∙◌, ap₂, true≢false, le_trans}
 use Rattle.refusal.proofs.Chain.{and_left, and_right}
 use Rattle.plane.specs.declared.Pair as two
-use Rattle.plane.specs.Plane.{Size, Plane, Planes, max_of, sample_limit, at, sample_at, all_to}
+use Rattle.plane.specs.Plane.{Size, Plane, Planes, max_of, sample_limit, all_to}
 use Rattle.plane.specs.Tests.{row_suits, samples_suit}
 use Rattle.plane.specs.Inner.Unread.{unread_refusal}
 use Rattle.plane.proofs.All.{all_none, all_more, all_at, none_at, none_ext}
