@@ -66,7 +66,12 @@ fn scratch_suits<S: Stored>(format: Format, scratch: &[i64], a32: &[u32], b32: &
 }
 
 // The lowest of 1 2 3 4 5 6 8 that applies.
-fn check<S: Stored>(p: Pair<'_, S>, scratch: &[i64], a32: &[u32], b32: &[u32]) -> Result<(), Refusal>
+fn check<S: Stored>(
+    p: Pair<'_, S>,
+    scratch: &[i64],
+    a32: &[u32],
+    b32: &[u32],
+) -> Result<(), Refusal>
     ensures { result ≡ msssim_refusal (planes S.Sample.value S.WIDE p.entry)
         (scratch_of scratch.now a32.now b32.now) }
 {
