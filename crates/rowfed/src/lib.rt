@@ -32,7 +32,11 @@ pub struct State {
 }
 
 // Planes whose rows will come: 1 2 7 8. Accepted, the needed part of the scratch is all zero and the rest as it was; refused, all is.
-pub fn begin<S: Stored>(format: Format, kernel: &[u16], scratch: &mut [i64]) -> Result<State, Refusal>
+pub fn begin<S: Stored>(
+    format: Format,
+    kernel: &[u16],
+    scratch: &mut [i64],
+) -> Result<State, Refusal>
     ensures value { result ≡ begin_of (sized S.WIDE format) kernel.now scratch.old }
     ensures scratch_after { scratch.new ≡ scratch_begun (sized S.WIDE format) kernel.now scratch.old }
 {

@@ -28,9 +28,7 @@ fn check_rows<S: Stored>(p: Pair<'_, S>) -> Result<(), Refusal>
 {
     let width = p.format.width;
     if p.format.height == 0 {
-        if plane::stride_suits(width, p.a.stride)
-            & plane::stride_suits(width, p.b.stride)
-        {
+        if plane::stride_suits(width, p.a.stride) & plane::stride_suits(width, p.b.stride) {
             return Ok(());
         }
         return Err(Refusal::Stride);
@@ -57,11 +55,7 @@ fn check_late(state: State, rows: usize, lent: usize) -> Result<(), Refusal>
 
 // 15 where the state is impossible; else the lowest of 4 5 6 8 15 that applies.
 #[tactic(auto, using(crate::proofs::Accept::feed_in_parts))]
-fn check<S: Stored>(
-    p: Pair<'_, S>,
-    state: State,
-    lent: usize,
-) -> Result<(), Refusal>
+fn check<S: Stored>(p: Pair<'_, S>, state: State, lent: usize) -> Result<(), Refusal>
     requires { (p.format.width ≡ state.width) × (p.format.depth ≡ state.depth) }
     ensures { result ≡ feed_refusal state (planes S.Sample.value S.WIDE p.entry) lent }
 {
@@ -99,9 +93,7 @@ fn take<S: Stored>(
 {
     let past = ring.lines * ring.width;
     walk::clear(&mut used[past..]);
-    row_ring::take_rows(
-        p, ring, kernel, received, max2, t, used,
-    )
+    row_ring::take_rows(p, ring, kernel, received, max2, t, used)
 }
 
 // The same of a state, whose kernel stands in the first `taps` of these places.
