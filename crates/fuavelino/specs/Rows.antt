@@ -4,7 +4,7 @@ use Rattle.std.specs.Float.{nan}
 use Rattle.std.specs.Borrow.{Bor}
 use Rattle.refusal.specs.declared.Refusal.{Refusal}
 use Rattle.refusal.specs.First.{Verdict}
-use Rattle.plane.specs.Plane.{at}
+use Rattle.plane.specs.Plane.{Planes, plane_of, at}
 use Rattle.rowfed.specs.declared.State.{State}
 use Rattle.rowfed.specs.Feed.{fed_rows, feed_refusal, state_fed, scratch_fed}
 use Rattle.fuavelino.specs.Answer.{written}
@@ -37,14 +37,17 @@ lent_state numbers kernel sums = state_in numbers kernel sums
 
 -- a feed to a state, of bytes or of words, its parameters as they stand: its refusal, the state then, and what is left in the scratch
 module _ (wide : Bool) (s : State) (a b : Bor (List ℕ)) (stride_a stride_b rows : ℕ) (scratch : List ℤ) where
+  abbrev pub lent_rows : Planes
+  lent_rows = fed_rows wide s (plane_of a.now stride_a) (plane_of b.now stride_b) rows
+
   abbrev pub fed_to : Verdict
-  fed_to = feed_refusal s (fed_rows wide s a b stride_a stride_b rows) (length scratch)
+  fed_to = feed_refusal s lent_rows (length scratch)
 
   abbrev pub state_by : State
-  state_by = state_fed s (fed_rows wide s a b stride_a stride_b rows) scratch
+  state_by = state_fed s lent_rows scratch
 
   abbrev pub left_by : List ℤ
-  left_by = scratch_fed s (fed_rows wide s a b stride_a stride_b rows) scratch
+  left_by = scratch_fed s lent_rows scratch
 
 -- what a begin then leaves in the three arrays: the state's parts, or what stood there
 abbrev pub numbers_written : Result State Refusal → List ℕ → List ℕ

@@ -9,7 +9,9 @@ ghost use Rattle.rowfed.specs.Finish.{finish_of, scratch_finished};
 ghost use Rattle.fuavelino.specs.Rows.{state_in, lent_state, fed_to, state_by, left_by, numbers_of, sums_of, numbers_written, kernel_written, sums_written};
 ghost use Rattle.fuavelino.specs.Ssim.{ssim_written, cs_written};
 
+use crate::plane_of;
 use crate::ssim_calls::put_pair;
+use plane::Format;
 use refusal::Refusal;
 use rowfed::State;
 use ssim::Totals;
@@ -102,7 +104,12 @@ pub extern "C" fn fuavelino_rows_begin8(
     ensures sums_after { sums.new ≡ sums_written (begin_of (size_of false width height depth) kernel.now scratch.old)
         sums.old }
 {
-    let answer = rowfed::begin8(width, height, depth, kernel, scratch);
+    let format = Format {
+        width,
+        height,
+        depth,
+    };
+    let answer = rowfed::begin::<u8>(format, kernel, scratch);
     put_state(answer, numbers, held, sums)
 }
 
@@ -127,7 +134,12 @@ pub extern "C" fn fuavelino_rows_begin16(
     ensures sums_after { sums.new ≡ sums_written (begin_of (size_of true width height depth) kernel.now scratch.old)
         sums.old }
 {
-    let answer = rowfed::begin16(width, height, depth, kernel, scratch);
+    let format = Format {
+        width,
+        height,
+        depth,
+    };
+    let answer = rowfed::begin::<u16>(format, kernel, scratch);
     put_state(answer, numbers, held, sums)
 }
 
@@ -162,7 +174,13 @@ pub extern "C" fn fuavelino_rows_feed8(
         return Refusal::State.number();
     }
     let mut state = lent_state(n, *held, *sums);
-    match rowfed::feed8(&mut state, a, b, stride_a, stride_b, rows, scratch) {
+    match rowfed::feed(
+        &mut state,
+        plane_of(a, stride_a),
+        plane_of(b, stride_b),
+        rows,
+        scratch,
+    ) {
         Ok(()) => {
             put_counts(&state, numbers, sums);
             0
@@ -202,7 +220,13 @@ pub extern "C" fn fuavelino_rows_feed16(
         return Refusal::State.number();
     }
     let mut state = lent_state(n, *held, *sums);
-    match rowfed::feed16(&mut state, a, b, stride_a, stride_b, rows, scratch) {
+    match rowfed::feed(
+        &mut state,
+        plane_of(a, stride_a),
+        plane_of(b, stride_b),
+        rows,
+        scratch,
+    ) {
         Ok(()) => {
             put_counts(&state, numbers, sums);
             0
