@@ -8,8 +8,7 @@ use Rattle.refusal.specs.declared.Refusal.TheVariants as no
 use Rattle.refusal.specs.Numbers.{number_of}
 use Rattle.refusal.specs.First.{Verdict, unless, first_broken, unless_refused, lower_of}
 use Rattle.refusal.proofs.Chain.{together}
-use Rattle.plane.specs.declared.Size.{Size}
-use Rattle.plane.specs.Plane.{Plane, Planes, every}
+use Rattle.plane.specs.Plane.{Size, Plane, Planes, every}
 use Rattle.plane.specs.Tests.{size_tests, layout_tests, plane_refusal, pair_refusal, stride_suits, long_enough, samples_suit}
 use Rattle.plane.specs.Inner.Unread.{unread_refusal}
 use Rattle.plane.proofs.Several.{one_more}

@@ -14,8 +14,7 @@ use Rattle.std.specs.Prelude.{Result, Ok, Err}
 use Rattle.refusal.specs.declared.Refusal.{Refusal}
 use Rattle.refusal.specs.First.{Verdict, unless_refused, lower_of}
 use Rattle.number.specs.Steps.{double}
-use Rattle.plane.specs.declared.Size.{Size}
-use Rattle.plane.specs.Plane.{Plane}
+use Rattle.plane.specs.Plane.{Size, Plane}
 use Rattle.plane.specs.Inner.Lawful.{Lawful, Sized, Equivalent}
 use Rattle.plane.proofs.Accept.{accepted}
 use Rattle.plane.proofs.Exchange.{refusal_equivalent}

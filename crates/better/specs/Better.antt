@@ -4,8 +4,7 @@ use Rattle.std.specs.Borrow.{Bor}
 use Rattle.refusal.specs.declared.Refusal.{Refusal}
 use Rattle.refusal.specs.First.{Verdict, unless_refused}
 use Rattle.number.specs.Steps.{double}
-use Rattle.plane.specs.declared.Size.{Size}
-use Rattle.plane.specs.Plane.{Plane, plane_of, size_of, Planes, planes_of}
+use Rattle.plane.specs.Plane.{Size, Plane, plane_of, size_of, Planes, planes_of}
 use Rattle.plane.specs.Tests.{plane_refusal}
 use Rattle.psnr.specs.Squared.{squared_error_score}
 use Rattle.better.specs.declared.Better.{Better}

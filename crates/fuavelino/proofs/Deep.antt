@@ -2,7 +2,8 @@
 use mathlib.Core.Path.{◌≡◌, sym}
 use mathlib.Core.Bool.{Bool, true, false}
 use Prim.Native.Nat.{ℕ, ◌<◌}
-use Rattle.refusal.specs.Numbers.{state_no}
+use Rattle.std.specs.Prelude.{Err}
+use Rattle.refusal.specs.declared.Refusal.TheVariants as no
 use Rattle.plane.specs.Limits.{most_depth}
 use Rattle.plane.specs.Plane.{Planes}
 use Rattle.plane.proofs.Depth.{above_depths}
@@ -17,9 +18,9 @@ module _ (s : State) (deep : most_depth true < s.depth) where
   unfolding possible
   deep_state wide = rw (← (above_depths wide s.depth deep))
 
-  pub deep_feed : (g : Planes) (lent : ℕ) → feed_refusal s g lent ≡ state_no
+  pub deep_feed : (g : Planes) (lent : ℕ) → feed_refusal s g lent ≡ Err no.State
   deep_feed g lent = sym (state_refuses s g lent (deep_state g.size.wide))
 
-  pub deep_finish : (lent : ℕ) → finish_refusal s lent ≡ state_no
+  pub deep_finish : (lent : ℕ) → finish_refusal s lent ≡ Err no.State
   unfolding finish_tests
   deep_finish lent = rw (deep_state false, deep_state true)

@@ -1,10 +1,12 @@
 // The better of two candidates, for other languages. `sq_err` and `which` are written where the answer is 0, and as they were otherwise.
 // A slice cannot be returned to another language, which has both planes in its hands: `which` tells.
 ghost use Rattle.std.specs.Prelude.{◌≡◌, true, false};
+ghost use Rattle.refusal.specs.First.{answer_number};
 ghost use Rattle.better.specs.Better.{contest, better_of};
-ghost use Rattle.fuavelino.specs.Better.{better_number, smaller_written, which_written};
+ghost use Rattle.fuavelino.specs.Better.{smaller_written, which_written};
 
 use better::Better;
+use refusal::Refusal;
 
 // The candidates by number.
 const FIRST: u8 = 1;
@@ -12,23 +14,23 @@ const FIRST: u8 = 1;
 const SECOND: u8 = 2;
 
 // Writes the smaller error and whose it is, where there is one.
-fn put_better(answer: Better, sq_err: &mut f64, which: &mut u8) -> u8
-    ensures value { result ≡ better_number answer }
+fn put_better(answer: Result<Better, Refusal>, sq_err: &mut f64, which: &mut u8) -> u8
+    ensures value { result ≡ answer_number answer }
     ensures sq_err_after { (sq_err.new ≡ smaller_written answer sq_err.old)
         × (which.new ≡ which_written answer which.old) }
 {
     match answer {
-        Better::First(e) => {
+        Ok(Better::First(e)) => {
             *sq_err = e;
             *which = FIRST;
             0
         }
-        Better::Second(e) => {
+        Ok(Better::Second(e)) => {
             *sq_err = e;
             *which = SECOND;
             0
         }
-        Better::Refused(n) => n,
+        Err(no) => no.number(),
     }
 }
 
@@ -47,7 +49,7 @@ pub extern "C" fn fuavelino_better8(
     sq_err: &mut f64,
     which: &mut u8,
 ) -> u8
-    ensures value { result ≡ better_number
+    ensures value { result ≡ answer_number
         (better_of (contest false o.entry a.entry b.entry width height stride_o stride_a stride_b depth)) }
     ensures sq_err_after { (sq_err.new ≡ smaller_written
         (better_of (contest false o.entry a.entry b.entry width height stride_o stride_a stride_b depth))
@@ -75,7 +77,7 @@ pub extern "C" fn fuavelino_better16(
     sq_err: &mut f64,
     which: &mut u8,
 ) -> u8
-    ensures value { result ≡ better_number
+    ensures value { result ≡ answer_number
         (better_of (contest true o.entry a.entry b.entry width height stride_o stride_a stride_b depth)) }
     ensures sq_err_after { (sq_err.new ≡ smaller_written
         (better_of (contest true o.entry a.entry b.entry width height stride_o stride_a stride_b depth))

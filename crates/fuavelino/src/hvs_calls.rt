@@ -1,12 +1,14 @@
 // PSNR-HVS for other languages: one call for each kind of plane and each width, so that no fourth kind can be asked for. `score` is
 // written where the answer is 0, and as it was otherwise.
 ghost use Rattle.std.specs.Prelude.{◌≡◌, true, false};
+ghost use Rattle.refusal.specs.First.{answer_number};
 ghost use Rattle.plane.specs.Plane.{called};
 ghost use Rattle.hvs_block.specs.declared.Kind.TheVariants.{Luma, Cb, Cr};
 ghost use Rattle.psnr_hvs.specs.Score.{hvs_of};
-ghost use Rattle.fuavelino.specs.Hvs.{hvs_number, hvs_written};
+ghost use Rattle.fuavelino.specs.Answer.{written};
 
-use psnr_hvs::{Hvs, Kind};
+use crate::put;
+use psnr_hvs::Kind;
 
 // PSNR-HVS of two planes of bytes of this kind: the answer as a number, with the score written.
 fn score8(
@@ -20,17 +22,12 @@ fn score8(
     kind: Kind,
     score: &mut f64,
 ) -> u8
-    ensures value { result ≡ hvs_number (hvs_of (called false a.entry b.entry width height stride_a stride_b depth) kind) }
-    ensures score_after { score.new ≡ hvs_written (hvs_of
+    ensures value { result ≡ answer_number (hvs_of (called false a.entry b.entry width height stride_a stride_b depth) kind) }
+    ensures score_after { score.new ≡ written (λ x. x) (hvs_of
         (called false a.entry b.entry width height stride_a stride_b depth) kind) score.old }
 {
-    match psnr_hvs::psnr_hvs8(a, b, width, height, stride_a, stride_b, depth, kind) {
-        Hvs::Score(s) => {
-            *score = s;
-            0
-        }
-        Hvs::Refused(n) => n,
-    }
+    let answer = psnr_hvs::psnr_hvs8(a, b, width, height, stride_a, stride_b, depth, kind);
+    put(answer, score)
 }
 
 // The same of words.
@@ -45,17 +42,12 @@ fn score16(
     kind: Kind,
     score: &mut f64,
 ) -> u8
-    ensures value { result ≡ hvs_number (hvs_of (called true a.entry b.entry width height stride_a stride_b depth) kind) }
-    ensures score_after { score.new ≡ hvs_written (hvs_of
+    ensures value { result ≡ answer_number (hvs_of (called true a.entry b.entry width height stride_a stride_b depth) kind) }
+    ensures score_after { score.new ≡ written (λ x. x) (hvs_of
         (called true a.entry b.entry width height stride_a stride_b depth) kind) score.old }
 {
-    match psnr_hvs::psnr_hvs16(a, b, width, height, stride_a, stride_b, depth, kind) {
-        Hvs::Score(s) => {
-            *score = s;
-            0
-        }
-        Hvs::Refused(n) => n,
-    }
+    let answer = psnr_hvs::psnr_hvs16(a, b, width, height, stride_a, stride_b, depth, kind);
+    put(answer, score)
 }
 
 // PSNR-HVS of two y planes of bytes: 0, or the lowest of 1 2 3 4 5 6 9.
@@ -70,8 +62,8 @@ pub extern "C" fn fuavelino_psnr_hvs_y8(
     depth: u32,
     score: &mut f64,
 ) -> u8
-    ensures value { result ≡ hvs_number (hvs_of (called false a.entry b.entry width height stride_a stride_b depth) Luma) }
-    ensures score_after { score.new ≡ hvs_written (hvs_of
+    ensures value { result ≡ answer_number (hvs_of (called false a.entry b.entry width height stride_a stride_b depth) Luma) }
+    ensures score_after { score.new ≡ written (λ x. x) (hvs_of
         (called false a.entry b.entry width height stride_a stride_b depth) Luma) score.old }
 {
     score8(
@@ -99,8 +91,8 @@ pub extern "C" fn fuavelino_psnr_hvs_u8(
     depth: u32,
     score: &mut f64,
 ) -> u8
-    ensures value { result ≡ hvs_number (hvs_of (called false a.entry b.entry width height stride_a stride_b depth) Cb) }
-    ensures score_after { score.new ≡ hvs_written (hvs_of
+    ensures value { result ≡ answer_number (hvs_of (called false a.entry b.entry width height stride_a stride_b depth) Cb) }
+    ensures score_after { score.new ≡ written (λ x. x) (hvs_of
         (called false a.entry b.entry width height stride_a stride_b depth) Cb) score.old }
 {
     score8(
@@ -128,8 +120,8 @@ pub extern "C" fn fuavelino_psnr_hvs_v8(
     depth: u32,
     score: &mut f64,
 ) -> u8
-    ensures value { result ≡ hvs_number (hvs_of (called false a.entry b.entry width height stride_a stride_b depth) Cr) }
-    ensures score_after { score.new ≡ hvs_written (hvs_of
+    ensures value { result ≡ answer_number (hvs_of (called false a.entry b.entry width height stride_a stride_b depth) Cr) }
+    ensures score_after { score.new ≡ written (λ x. x) (hvs_of
         (called false a.entry b.entry width height stride_a stride_b depth) Cr) score.old }
 {
     score8(
@@ -157,8 +149,8 @@ pub extern "C" fn fuavelino_psnr_hvs_y16(
     depth: u32,
     score: &mut f64,
 ) -> u8
-    ensures value { result ≡ hvs_number (hvs_of (called true a.entry b.entry width height stride_a stride_b depth) Luma) }
-    ensures score_after { score.new ≡ hvs_written (hvs_of
+    ensures value { result ≡ answer_number (hvs_of (called true a.entry b.entry width height stride_a stride_b depth) Luma) }
+    ensures score_after { score.new ≡ written (λ x. x) (hvs_of
         (called true a.entry b.entry width height stride_a stride_b depth) Luma) score.old }
 {
     score16(
@@ -186,8 +178,8 @@ pub extern "C" fn fuavelino_psnr_hvs_u16(
     depth: u32,
     score: &mut f64,
 ) -> u8
-    ensures value { result ≡ hvs_number (hvs_of (called true a.entry b.entry width height stride_a stride_b depth) Cb) }
-    ensures score_after { score.new ≡ hvs_written (hvs_of
+    ensures value { result ≡ answer_number (hvs_of (called true a.entry b.entry width height stride_a stride_b depth) Cb) }
+    ensures score_after { score.new ≡ written (λ x. x) (hvs_of
         (called true a.entry b.entry width height stride_a stride_b depth) Cb) score.old }
 {
     score16(
@@ -215,8 +207,8 @@ pub extern "C" fn fuavelino_psnr_hvs_v16(
     depth: u32,
     score: &mut f64,
 ) -> u8
-    ensures value { result ≡ hvs_number (hvs_of (called true a.entry b.entry width height stride_a stride_b depth) Cr) }
-    ensures score_after { score.new ≡ hvs_written (hvs_of
+    ensures value { result ≡ answer_number (hvs_of (called true a.entry b.entry width height stride_a stride_b depth) Cr) }
+    ensures score_after { score.new ≡ written (λ x. x) (hvs_of
         (called true a.entry b.entry width height stride_a stride_b depth) Cr) score.old }
 {
     score16(

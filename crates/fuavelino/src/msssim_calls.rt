@@ -1,26 +1,28 @@
 // MS-SSIM for other languages. `pairs` is written where the answer is 0, and as it was otherwise: ssim and cs of the first scale, which
 // is the planes themselves, then of the second, and so on.
 ghost use Rattle.std.specs.Prelude.{◌≡◌, true, false};
+ghost use Rattle.refusal.specs.First.{answer_number};
 ghost use Rattle.plane.specs.Plane.{called};
 ghost use Rattle.msssim.specs.Scratch.{scratch_of};
 ghost use Rattle.msssim.specs.Answer.{msssim_of, scratch_after};
-ghost use Rattle.fuavelino.specs.Msssim.{msssim_number, pairs_written};
+ghost use Rattle.fuavelino.specs.Msssim.{pairs_written};
 
-use msssim::MsSsim;
+use msssim::Pairs;
+use refusal::Refusal;
 
 // Writes the pairs where there are some.
-fn put_pairs(answer: MsSsim, pairs: &mut [f64; 10]) -> u8
-    ensures value { result ≡ msssim_number answer }
+fn put_pairs(answer: Result<Pairs, Refusal>, pairs: &mut [f64; 10]) -> u8
+    ensures value { result ≡ answer_number answer }
     ensures pairs_after { pairs.new ≡ pairs_written answer pairs.old }
 {
     match answer {
-        MsSsim::Five(p) => {
+        Ok(p) => {
             *pairs = [
                 p.ssim1, p.cs1, p.ssim2, p.cs2, p.ssim3, p.cs3, p.ssim4, p.cs4, p.ssim5, p.cs5,
             ];
             0
         }
-        MsSsim::Refused(n) => n,
+        Err(no) => no.number(),
     }
 }
 
@@ -39,7 +41,7 @@ pub extern "C" fn fuavelino_msssim8(
     b32: &mut [u32],
     pairs: &mut [f64; 10],
 ) -> u8
-    ensures value { result ≡ msssim_number (msssim_of (called false a.entry b.entry width height stride_a stride_b depth)
+    ensures value { result ≡ answer_number (msssim_of (called false a.entry b.entry width height stride_a stride_b depth)
         (scratch_of scratch.old a32.old b32.old)) }
     ensures b32_value { scratch_of scratch.new a32.new b32.new ≡ scratch_after (called false a.entry b.entry
         width height stride_a stride_b depth) (scratch_of scratch.old a32.old b32.old) }
@@ -68,7 +70,7 @@ pub extern "C" fn fuavelino_msssim16(
     b32: &mut [u32],
     pairs: &mut [f64; 10],
 ) -> u8
-    ensures value { result ≡ msssim_number (msssim_of (called true a.entry b.entry width height stride_a stride_b depth)
+    ensures value { result ≡ answer_number (msssim_of (called true a.entry b.entry width height stride_a stride_b depth)
         (scratch_of scratch.old a32.old b32.old)) }
     ensures b32_value { scratch_of scratch.new a32.new b32.new ≡ scratch_after (called true a.entry b.entry
         width height stride_a stride_b depth) (scratch_of scratch.old a32.old b32.old) }

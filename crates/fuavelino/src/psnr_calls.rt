@@ -6,28 +6,28 @@ ghost use Rattle.psnr.specs.Series.{series_of};
 ghost use Rattle.fuavelino.specs.Psnr.{error_number, error_written, series_number, series_written};
 
 use psnr::{Record, SquaredError, Summed};
+use refusal::Refusal;
 
 // Writes the figures of a record where there is one.
-fn put_record(answer: SquaredError, sq_err: &mut f64, n: &mut u64, sample_max: &mut u32) -> u8
+fn put_record(
+    answer: Result<SquaredError, Refusal>,
+    sq_err: &mut f64,
+    n: &mut u64,
+    sample_max: &mut u32,
+) -> u8
     ensures value { result ≡ error_number answer }
     ensures sample_max_after { record { sq_err = sq_err.new; n = n.new; sample_max = sample_max.new }
         ≡ error_written answer
         (record { sq_err = sq_err.old; n = n.old; sample_max = sample_max.old }) }
 {
     match answer {
-        SquaredError::Differs(r) => {
+        Ok(SquaredError::Differs(r) | SquaredError::Identical(r)) => {
             *sq_err = r.sq_err;
             *n = r.n;
             *sample_max = r.sample_max;
             0
         }
-        SquaredError::Identical(r) => {
-            *sq_err = r.sq_err;
-            *n = r.n;
-            *sample_max = r.sample_max;
-            0
-        }
-        SquaredError::Refused(k) => k,
+        Err(no) => no.number(),
     }
 }
 
@@ -87,26 +87,25 @@ pub extern "C" fn fuavelino_squared_error16(
 }
 
 // Writes a total where there is one.
-fn put_total(answer: Summed, sq_err: &mut f64, n: &mut u64, sample_max: &mut u32) -> u8
+fn put_total(
+    answer: Result<Summed, Refusal>,
+    sq_err: &mut f64,
+    n: &mut u64,
+    sample_max: &mut u32,
+) -> u8
     ensures { (result ≡ series_number answer)
         × (record { sq_err = sq_err.new; n = n.new; sample_max = sample_max.new }
         ≡ series_written answer
         (record { sq_err = sq_err.old; n = n.old; sample_max = sample_max.old })) }
 {
     match answer {
-        Summed::Differs(t) => {
+        Ok(Summed::Differs(t) | Summed::Identical(t)) => {
             *sq_err = t.sq_err;
             *n = t.n;
             *sample_max = t.sample_max;
             0
         }
-        Summed::Identical(t) => {
-            *sq_err = t.sq_err;
-            *n = t.n;
-            *sample_max = t.sample_max;
-            0
-        }
-        Summed::Refused(k) => k,
+        Err(no) => no.number(),
     }
 }
 

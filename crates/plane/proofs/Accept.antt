@@ -9,9 +9,8 @@ use lib.Dec.{leb}
 use Rattle.std.specs.Prelude.{Ok}
 use Rattle.refusal.proofs.Chain.{and_left, and_right, passed, none_broken}
 use Rattle.plane.specs.Limits.{side_limit, stride_limit}
-use Rattle.plane.specs.declared.Size.{Size}
-use Rattle.plane.specs.Plane.{Plane, max_of, sample_at, every}
-use Rattle.plane.specs.Inner.Lent.{Long}
+use Rattle.plane.specs.Plane.{Size, Plane, max_of, sample_at, every}
+use Rattle.plane.specs.Inner.Seen.{Long}
 use Rattle.plane.specs.Tests.{side_suits, sides_suit, sides_reach, stride_suits, long_enough, row_suits, samples_suit}
 use Rattle.plane.specs.Tests.{depth_suits, size_tests, layout_tests, plane_tests, plane_refusal}
 use Rattle.plane.specs.Inner.Lawful.{Lawful, Sized, Each, Accepted}

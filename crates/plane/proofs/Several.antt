@@ -8,8 +8,7 @@ use Rattle.std.specs.Prelude.{Ok}
 use Rattle.refusal.specs.declared.Refusal.TheVariants as no
 use Rattle.refusal.specs.First.{Verdict, first_broken, lower_of, unless_refused}
 use Rattle.refusal.proofs.Chain.{passed, together}
-use Rattle.plane.specs.declared.Size.{Size}
-use Rattle.plane.specs.Plane.{Plane, Planes}
+use Rattle.plane.specs.Plane.{Size, Plane, Planes}
 use Rattle.plane.specs.Plane.{both as both_of}
 use Rattle.plane.specs.Tests.{depth_suits, stride_suits, long_enough, samples_suit}
 use Rattle.plane.specs.Tests.{size_tests, layout_tests, pair_refusal}

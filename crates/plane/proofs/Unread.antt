@@ -8,11 +8,10 @@ use Rattle.std.specs.Prelude.{Ok}
 use Rattle.refusal.specs.declared.Refusal.TheVariants as no
 use Rattle.refusal.specs.First.{Verdict, unless, first_broken, lower_of, unless_refused}
 use Rattle.refusal.proofs.Chain.{and_left, and_right, Passed, passed, together}
-use Rattle.plane.specs.declared.Size.{Size}
-use Rattle.plane.specs.Plane.{Plane, Planes, both}
+use Rattle.plane.specs.Plane.{Size, Plane, Planes, both}
 use Rattle.plane.specs.Tests.{depth_suits, stride_suits, long_enough, samples_suit}
 use Rattle.plane.specs.Tests.{size_tests, layout_tests, plane_tests, pair_refusal}
-use Rattle.plane.specs.Inner.Lent.{Long}
+use Rattle.plane.specs.Inner.Seen.{Long}
 use Rattle.plane.specs.Inner.Lawful.{Sized}
 use Rattle.plane.specs.Inner.Unread.{lent_tests, read_tests, unread_tests, unread_refusal}
 use Rattle.plane.proofs.Accept.{long_says, sized}

@@ -4,8 +4,7 @@ use Rattle.refusal.specs.declared.Refusal.{Refusal}
 use Rattle.refusal.specs.declared.Refusal.TheVariants as no
 use Rattle.refusal.specs.First.{Verdict, first_broken}
 use Rattle.plane.specs.Limits.{side_limit, stride_limit, least_depth, most_depth}
-use Rattle.plane.specs.declared.Size.{Size}
-use Rattle.plane.specs.Plane.{Plane, Planes, both, max_of, sample_at, needed, all_to, every}
+use Rattle.plane.specs.Plane.{Size, Plane, Planes, both, max_of, sample_at, needed, all_to, every}
 
 -- 1: the depth suits the sample width
 unfoldable pub depth_suits : Bool → ℕ → Bool

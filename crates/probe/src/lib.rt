@@ -3,55 +3,45 @@
 #![tactic(auto)]
 
 ghost use Rattle.std.specs.Prelude.{◌≡◌, true, false, length};
-ghost use Rattle.plane.specs.Plane.{at};
-ghost use Rattle.plane.specs.Tests.{none_above};
-ghost use Rattle.window.specs.Moments.{most_sample};
+ghost use Rattle.refusal.specs.First.{answer_number};
 ghost use Rattle.better.specs.Better.{contest, winner_of};
 ghost use Rattle.probe.specs.Downscale.{downscale_refusal, Later};
 ghost use Rattle.probe.specs.Winner.{sample_written};
 
+use refusal::Refusal;
+
 // The largest sample that the sums of a scale are made for.
 const MOST_SAMPLE: u32 = 1048576;
 
-// Whether no place is above that.
-fn none_above(longs: &[u32]) -> bool
-    ensures { result ≡ none_above most_sample (at longs.now) (length longs.now) }
-{
-    let mut ok = true;
-    for i in 0..longs.len() {
-        ok = ok & (longs[i] <= MOST_SAMPLE);
-    }
-    ok
-}
-
-// The lowest of 2, 5 and 6 that applies, and 0 where none does.
-fn refusal(longs: &[u32], width: usize, height: usize) -> u8
+// The lowest of 2, 5 and 6 that applies.
+fn check(longs: &[u32], width: usize, height: usize) -> Result<(), Refusal>
     ensures { result ≡ downscale_refusal width height longs.now }
 {
     if !plane::sides_suit(width, height) {
-        return refusal::SIZE;
+        return Err(Refusal::Size);
     }
     if longs.len() < height * width {
-        return refusal::SHORT;
+        return Err(Refusal::Short);
     }
-    if !none_above(longs) {
-        return refusal::SAMPLE;
+    if !plane::none_above(longs, MOST_SAMPLE) {
+        return Err(Refusal::Sample);
     }
-    0
+    Ok(())
 }
 
 // The scale below, in place; or 2, 5 or 6, and the places are as they were.
 #[unsafe(no_mangle)]
 pub extern "C" fn probe_downscale(longs: &mut [u32], width: usize, height: usize) -> u8
-    ensures value { result ≡ downscale_refusal width height longs.old }
+    ensures value { result ≡ answer_number (downscale_refusal width height longs.old) }
     ensures later { Later (downscale_refusal width height longs.old) width height longs.old longs.new }
 {
-    let no = refusal(longs, width, height);
-    if no != 0 {
-        return no;
+    match check(longs, width, height) {
+        Ok(()) => {
+            downscale::downscale(longs, width, height);
+            0
+        }
+        Err(no) => no.number(),
     }
-    downscale::downscale(longs, width, height);
-    0
 }
 
 // How long the better of two planes of bytes is, as it is handed back, and its sample `at`, where it has one.

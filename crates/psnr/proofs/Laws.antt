@@ -5,8 +5,7 @@ use borrow.Author.Tests.{lt-leb}
 use Rattle.std.specs.Prelude.{Ok, Err}
 use Rattle.refusal.specs.declared.Refusal.TheVariants as no
 use Rattle.plane.specs.Limits.{side_limit, least_depth, most_depth}
-use Rattle.plane.specs.declared.Size.{Size}
-use Rattle.plane.specs.Plane.{Plane, Planes, planes_of, max_of, sample_at}
+use Rattle.plane.specs.Plane.{Size, Plane, Planes, planes_of, max_of, sample_at}
 use Rattle.plane.specs.Sums.{sum_to}
 use Rattle.plane.specs.Tests.{pair_refusal}
 use Rattle.plane.specs.Inner.Lawful.{AcceptedPair, Alike, Equivalent}

@@ -17,7 +17,7 @@ use Rattle.plane.specs.Tests.{none_above}
 use Rattle.plane.proofs.All.{none_none, none_at, none_holds}
 use Rattle.plane.proofs.Depth.{max_small}
 use Rattle.plane.proofs.Limits.{side_small}
-use Rattle.plane.proofs.Rows.{cut, cut_length, cut_at}
+use lib.Seq.{length-take-le, get_or-take, get_or-drop}
 use Rattle.plane.proofs.Sums.{sum_none, sum_more, sum_ext, sum_split, sum_bound}
 use Rattle.std.specs.Prelude.{Ok, Err}
 use Rattle.refusal.specs.declared.Refusal.TheVariants as no
@@ -26,6 +26,17 @@ use Rattle.psnr.specs.Inner.Walk.{squares_in, bits_in, part_length, walked_if, p
 use Rattle.psnr.proofs.Squares.{square_le}
 
 -- ---- the parts of a row
+-- that from one place up to another
+abbrev cut : List ℕ → ℕ → ℕ → List ℕ
+cut samples from to = take (to - from) (drop from samples)
+
+module _ (samples : List ℕ) (from to : ℕ) where
+  cut_length : from ≤ to → to ≤ length samples → length (cut samples from to) ≡ to - from
+  cut_length l m = length-take-le (to - from) (drop from samples) (simp length-drop (omega arith))
+
+  cut_at : (i : ℕ) → i < to - from → at (cut samples from to) i ≡ at samples (from + i)
+  cut_at i l = get_or-take (to - from) (drop from samples) i 0 l ∙ get_or-drop from samples i 0
+
 -- the k-th of its whole parts of n samples
 chunk_cut : (n m k : ℕ) (xs : List ℕ) → k < m → get_or (first_chunks n m xs) k [] ≡ cut xs (k * n) (k * n + n)
 chunk_cut n zero k xs l = absurd (omega arith)

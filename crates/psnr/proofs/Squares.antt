@@ -1,8 +1,7 @@
 -- How large the squared error can be, and that planes which no test refuses can be walked. Assumes nothing.
 use Rattle.std.proofs.Common.{◌≡◌, ℕ, ◌+◌, ◌*◌, ◌^◌, ◌<◌, ◌≤◌, true, List, le_trans, lt_of_le_of_lt, mul-le-mul_right, mul-le-mul, arith, lit<}
 use Rattle.plane.specs.Limits.{side_limit, most_depth}
-use Rattle.plane.specs.declared.Size.{Size}
-use Rattle.plane.specs.Plane.{Plane, Planes, max_of, sample_limit, at, sample_at}
+use Rattle.plane.specs.Plane.{Size, Plane, Planes, max_of, sample_limit, at, sample_at}
 use Rattle.plane.specs.Inner.Lawful.{Bounded, Lawful, AcceptedPair}
 use Rattle.plane.proofs.Depth.{max_grows}
 use Rattle.plane.proofs.Sums.{sum_none, sum_more, sum_bound}

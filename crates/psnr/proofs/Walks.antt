@@ -1,17 +1,20 @@
 -- What a walk over two planes finds, row by row, and what that says of the whole. Assumes nothing.
-use Rattle.std.proofs.Common.{◌≡◌, ℕ, ◌+◌, ◌*◌, ◌<◌, ◌≤◌, Bool, true, false, ◌&&◌, List, length, sym, refl, ap, ◌∙◌, ap₂, true≢false, le_trans}
+use Rattle.std.proofs.Common.{◌≡◌, ℕ, ◌+◌, ◌*◌, ◌<◌, ◌≤◌, Bool, true, false, ◌&&◌, List, length, map, sym, refl, ◌∙◌, ap₂, true≢false, le_trans}
 use Rattle.refusal.proofs.Chain.{and_left, and_right}
-use Rattle.plane.specs.declared.Size.{Size}
-use Rattle.plane.specs.Plane.{Plane, Planes, max_of, sample_limit, at, sample_at, all_to}
+use Rattle.plane.specs.declared.Pair as two
+use Rattle.plane.specs.Plane.{Size, Plane, Planes, max_of, sample_limit, all_to}
 use Rattle.plane.specs.Tests.{row_suits, samples_suit}
 use Rattle.plane.specs.Inner.Unread.{unread_refusal}
 use Rattle.plane.proofs.All.{all_none, all_more, all_at, none_at, none_ext}
 use Rattle.plane.proofs.Depth.{depth_says, max_grows}
 use Rattle.plane.proofs.Limits.{deepest}
-use Rattle.plane.proofs.Rows.{part, part_at}
+use Rattle.plane.specs.Inner.Seen.{planes, row_in}
+use Rattle.plane.proofs.Rows.{row_inside, row_length, row_at}
+use Rattle.plane.specs.Limits.{side_limit, most_depth}
+use Rattle.std.proofs.lemmas.List.{length-map}
 use Rattle.plane.proofs.Sums.{sum_ext}
 use Rattle.plane.proofs.Unread.{unread_says, unread_depth}
-use Rattle.std.specs.Prelude.{Ok, Err}
+use Rattle.std.specs.Prelude.{Result, Ok, Err}
 use Rattle.refusal.specs.declared.Refusal.{Refusal}
 use Rattle.refusal.specs.declared.Refusal.TheVariants as no
 use Rattle.psnr.specs.Limits.{total_limit}
@@ -41,27 +44,52 @@ readable p least e =
       second_long = says.1.1;
     }
 
+-- ---- a row of each plane as a part of a slice
+module _ {S : Type 0} (value : S → ℕ) (wide : Bool) (p : two.Pair S) (y : ℕ) where
+  abbrev width : ℕ
+  width = p.format.width
+
+  abbrev first : List S
+  first = row_in p.a.samples.now p.a.stride width y
+
+  abbrev second : List S
+  second = row_in p.b.samples.now p.b.stride width y
+
+  module _ (r : Readable (planes value wide p)) (l : y < p.format.height) where
+    pub first_inside : y * p.a.stride + width ≤ length p.a.samples.now
+    first_inside = row_inside width p.a.stride (rw length-map at r.first_long) l
+
+    pub second_inside : y * p.b.stride + width ≤ length p.b.samples.now
+    second_inside = row_inside width p.b.stride (rw length-map at r.second_long) l
+
+    -- they may be walked
+    pub row_may : (length first ≡ length second) × (length first ≤ side_limit) × (p.format.depth ≤ most_depth wide)
+    row_may =
+        let one = row_length value p.a.samples.now p.a.stride width y first_inside in
+        let other = row_length value p.b.samples.now p.b.stride width y second_inside in
+        (one ∙ sym other, rw one r.width_most, (depth_says wide p.format.depth r.depth_suits_lem).1)
+
+    -- and what is found in them is what is found in row y
+    pub row_walked_lem : row_walked p.format.depth (map value first) (map value second) (length first) ≡ walked_at (planes value wide p) y
+    unfolding row_walked walked_at row_suits row_error squares_in
+    row_walked_lem =
+        let top = max_of p.format.depth in
+        let one = row_at value p.a.samples.now p.a.stride width y first_inside in
+        let other = row_at value p.b.samples.now p.b.stride width y second_inside in
+        rw (row_length value p.a.samples.now p.a.stride width y first_inside)
+        (ap₂ walked_if (ap₂ ◌&&◌ (none_ext top _ _ width one) (none_ext top _ _ width other))
+        (sum_ext _ _ width (λ x l. ap₂ square_of (one x l) (other x l))))
+
+    pub row_found : {f s : List S} {found : Result ℕ Refusal} → f ≡ first → s ≡ second
+        → found ≡ row_walked p.format.depth (map value f) (map value s) (length f) → found ≡ walked_at (planes value wide p) y
+    row_found ef es e = (rw (ef, es) at e) ∙ row_walked_lem
+
 module _ (p : Planes) where
   abbrev size : Size
   size = p.size
 
   abbrev max : ℕ
   max = max_of size.depth
-
-  -- ---- a row of each plane as a part of a slice, by whatever name its samples are known
-  pub row_walked_lem : (y : ℕ) {a b f s : List ℕ} → p.a.samples ≡ a → p.b.samples ≡ b
-      → f ≡ part a p.a.stride size.width y → s ≡ part b p.b.stride size.width y → length f ≡ size.width
-      → row_walked size.depth f s (length f) ≡ walked_at p y
-  unfolding row_walked walked_at row_suits row_error squares_in
-  row_walked_lem y {a} {b} ea eb ef es long =
-      let width = size.width in
-      let first : (x : ℕ) → x < width → at (part a p.a.stride width y) x ≡ sample_at p.a y x =
-      λ x l. part_at a p.a.stride width y x l ∙ ap (λ (t : List ℕ). at t (y * p.a.stride + x)) (sym ea) in
-      let second : (x : ℕ) → x < width → at (part b p.b.stride width y) x ≡ sample_at p.b y x =
-      λ x l. part_at b p.b.stride width y x l ∙ ap (λ (t : List ℕ). at t (y * p.b.stride + x)) (sym eb) in
-      rw (long, ef, es)
-      (ap₂ walked_if (ap₂ ◌&&◌ (none_ext max _ _ width first) (none_ext max _ _ width second))
-      (sum_ext _ _ width (λ x l. ap₂ square_of (first x l) (second x l))))
 
   -- ---- row after row
   -- no sample of row y is above sample_max, and none of the first n rows

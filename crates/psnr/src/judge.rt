@@ -49,16 +49,10 @@ pub fn count_suits(n: u64) -> bool
 }
 
 // Whether max is the sample_max of a depth.
-#[tactic(auto, using(crate::proofs::Records::some_steps), unfolding(plane::specs::Limits::most_depth, crate::specs::Record::max_suits))]
 pub fn max_suits(max: u32) -> bool
     ensures { result ≡ max_suits max }
 {
-    let mut ok = false;
-    // no `any`: over twelve depths it is no plainer, and its proof is longer
-    for i in 0..plane::DEPTH_LIMIT {
-        ok |= max == plane::sample_max(i + 1);
-    }
-    ok
+    (0..plane::DEPTH_LIMIT).any(|i| max == plane::sample_max(i + 1))
 }
 
 // Whether the plane's number is 0, 1 or 2.

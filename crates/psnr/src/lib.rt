@@ -1,15 +1,15 @@
 // Squared error of two planes, the record that keeps it, and a series of records; after psnr.rs. SCOPE, "Squared error".
 #![tactic(auto)]
 
-ghost use Rattle.std.specs.Prelude.{◌≡◌, true, false};
-ghost use Rattle.plane.specs.Plane.{called};
-ghost use Rattle.plane.specs.Inner.Lent.{planes};
+ghost use Rattle.std.specs.Prelude.{◌≡◌};
+ghost use Rattle.plane.specs.Inner.Seen.{planes};
 ghost use Rattle.psnr.specs.Squared.{squared_error_of};
 ghost use Rattle.psnr.specs.Series.{series_of};
 ghost use Rattle.psnr.specs.Inner.Fold.{rises, run_with, run_start, run_step, run_finish};
 
-use plane::{Layout, Size};
+use plane::Pair;
 use refusal::Refusal;
+use walk::Compared;
 
 pub mod judge;
 pub mod walk;
@@ -72,28 +72,24 @@ pub enum Run {
     Spoiled,
 }
 
-// The answer for two planes of either width, the samples of each as bytes and as words. 6 is judged on the walk, and 10 after it.
-fn answer(
-    a8: &[u8],
-    a16: &[u16],
-    b8: &[u8],
-    b16: &[u16],
-    layout: Layout,
+// The squared error of two planes, recorded as that of this plane of this frame. 6 is judged on the walk, and 10 after it.
+pub fn squared_error<S: Compared>(
+    p: Pair<'_, S>,
     frame: u32,
     plane: u32,
 ) -> Result<SquaredError, Refusal>
-    ensures { result ≡ squared_error_of (planes layout a8.entry a16.entry b8.entry b16.entry) frame plane }
+    ensures { result ≡ squared_error_of (planes S.Sample.value S.WIDE p.entry) frame plane }
 {
-    plane::check_unread(a8, a16, b8, b16, layout, 0)?;
-    let error = walk::rows(a8, a16, b8, b16, layout)?;
+    plane::check_unread(p, 0)?;
+    let error = walk::rows(p)?;
     let suits = judge::plane_suits(plane);
     if !suits {
         return Err(Refusal::Record);
     }
     let record = Record {
         sq_err: number::exact(error),
-        n: (layout.size.width * layout.size.height) as u64,
-        sample_max: plane::sample_max(layout.size.depth),
+        n: (p.format.width * p.format.height) as u64,
+        sample_max: plane::sample_max(p.format.depth),
         frame,
         plane,
     };
@@ -102,62 +98,6 @@ fn answer(
     } else {
         Ok(SquaredError::Differs(record))
     }
-}
-
-// The squared error of two planes of bytes, recorded as that of this plane of this frame.
-pub fn squared_error8(
-    a: &[u8],
-    b: &[u8],
-    width: usize,
-    height: usize,
-    stride_a: usize,
-    stride_b: usize,
-    depth: u32,
-    frame: u32,
-    plane: u32,
-) -> Result<SquaredError, Refusal>
-    ensures { result ≡ squared_error_of (called false a.entry b.entry width height stride_a stride_b depth) frame plane }
-{
-    let size = Size {
-        wide: false,
-        width,
-        height,
-        depth,
-    };
-    let layout = Layout {
-        size,
-        stride_a,
-        stride_b,
-    };
-    answer(a, &[0u16; 0], b, &[0u16; 0], layout, frame, plane)
-}
-
-// The same of words.
-pub fn squared_error16(
-    a: &[u16],
-    b: &[u16],
-    width: usize,
-    height: usize,
-    stride_a: usize,
-    stride_b: usize,
-    depth: u32,
-    frame: u32,
-    plane: u32,
-) -> Result<SquaredError, Refusal>
-    ensures { result ≡ squared_error_of (called true a.entry b.entry width height stride_a stride_b depth) frame plane }
-{
-    let size = Size {
-        wide: true,
-        width,
-        height,
-        depth,
-    };
-    let layout = Layout {
-        size,
-        stride_a,
-        stride_b,
-    };
-    answer(&[0u8; 0], a, &[0u8; 0], b, layout, frame, plane)
 }
 
 // Whether the record comes after the last one, where there is one.

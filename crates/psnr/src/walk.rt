@@ -1,30 +1,62 @@
 // The sum of the squared differences over the visible samples of two planes, and test 6 on the way: words are read once for both. Nobody
 // above knows how the rows are walked.
-ghost use Rattle.std.specs.Prelude.{◌≡◌, ◌+◌, ◌*◌, ◌%◌, ◌^◌, ◌<◌, ◌≤◌, true, false, length, slice_range};
+ghost use Rattle.std.specs.Prelude.{◌≡◌, ℕ, ◌*◌, ◌%◌, ◌^◌, ◌≤◌, true, false, length, map};
 ghost use Rattle.plane.specs.Limits.{side_limit, most_depth};
-ghost use Rattle.plane.specs.Inner.Lent.{planes};
+ghost use Rattle.plane.specs.Inner.Seen.{planes};
 ghost use Rattle.psnr.specs.Squared.{square_of};
 ghost use Rattle.psnr.specs.Inner.Walk.{word_most, Readable, squares_in, bits_in, part_length};
 ghost use Rattle.psnr.specs.Inner.Walk.{pair_suits, row_walked, walked_at, walked_of};
 
-use plane::Layout;
+use plane::{Pair, Stored};
 use refusal::Refusal;
 
-// (a - b)², of bytes and of words.
-#[tactic(auto, unfolding(crate::specs::Squared::square_of))]
-pub fn square8(a: u8, b: u8) -> u32
-    ensures { (result ≡ square_of a b) × (result ≤ word_most) }
-{
-    let d = u32::from(a.abs_diff(b));
-    d * d
+// Samples whose rows can be compared: bytes and words have each their own way to add up squares.
+pub trait Compared: Stored {
+    // No square is larger.
+    ghost most_square: { ℕ };
+
+    // (a - b)²
+    fn square(self, other: Self) -> u32
+        ensures value { result ≡ square_of (Self.value self) (Self.value other) }
+        ensures upper_bound { result ≤ most_square };
+
+    // The sum over two rows, or that a sample is above sample_max.
+    fn row(a: &[Self], b: &[Self], depth: u32) -> Result<u64, Refusal>
+        requires { (length a.now ≡ length b.now) × (length a.now ≤ side_limit) × (depth ≤ most_depth Self.WIDE) }
+        ensures { result ≡ row_walked depth (map Self.value a.now) (map Self.value b.now) (length a.now) };
 }
 
-#[tactic(auto, unfolding(crate::specs::Squared::square_of))]
-pub fn square16(a: u16, b: u16) -> u32
-    ensures { (result ≡ square_of a b) × (result ≤ word_most * word_most) }
-{
-    let d = u32::from(a.abs_diff(b));
-    d * d
+impl Compared for u8 {
+    ghost most_square = { word_most };
+
+    #[tactic(auto, unfolding(crate::specs::Squared::square_of))]
+    fn square(self, other: u8) -> u32 {
+        let d = u32::from(self.abs_diff(other));
+        d * d
+    }
+
+    #[tactic(auto, unfolding(crate::specs::Inner::Walk::row_walked))]
+    fn row(a: &[u8], b: &[u8], depth: u32) -> Result<u64, Refusal> {
+        if suit8(a, b, depth) {
+            Ok(u64::from(sum8(a, b)))
+        } else {
+            Err(Refusal::Sample)
+        }
+    }
+}
+
+impl Compared for u16 {
+    ghost most_square = { word_most * word_most };
+
+    #[tactic(auto, unfolding(crate::specs::Squared::square_of))]
+    fn square(self, other: u16) -> u32 {
+        let d = u32::from(self.abs_diff(other));
+        d * d
+    }
+
+    fn row(a: &[u16], b: &[u16], depth: u32) -> Result<u64, Refusal> {
+        row16(a, b, depth)
+    }
 }
 
 // ---- bytes
@@ -41,7 +73,7 @@ fn part8(a: &[u8], b: &[u8]) -> u32
 {
     let mut sum = 0;
     for (p, q) in a.iter().zip(b) {
-        sum += square8(*p, *q);
+        sum += p.square(*q);
     }
     sum
 }
@@ -74,18 +106,6 @@ fn suit8(a: &[u8], b: &[u8], depth: u32) -> bool
     plane::none_above(a, max as u8) && plane::none_above(b, max as u8)
 }
 
-// The sum over two rows of bytes, or that a sample is above sample_max.
-#[tactic(auto, unfolding(crate::specs::Inner::Walk::row_walked))]
-fn row8(a: &[u8], b: &[u8], depth: u32) -> Result<u64, Refusal>
-    requires { (length a.now ≡ length b.now) × (length a.now ≤ side_limit) × (depth ≤ most_depth false) }
-    ensures { result ≡ row_walked depth a.now b.now (length a.now) }
-{
-    if !suit8(a, b, depth) {
-        return Err(Refusal::Sample);
-    }
-    Ok(u64::from(sum8(a, b)))
-}
-
 // ---- words
 
 // How many squares fit 32 bits, where no sample has more bits than the depth.
@@ -114,13 +134,13 @@ fn part16(a: &[u16], b: &[u16]) -> Part
     let mut sum = 0u32;
     let mut bits = 0u16;
     for (p, q) in a.iter().zip(b) {
-        sum = sum.wrapping_add(square16(*p, *q));
+        sum = sum.wrapping_add(p.square(*q));
         bits |= *p | *q;
     }
     Part { sum, bits }
 }
 
-// The same of two rows of words, part by part.
+// The sum over two rows of words, part by part, or that a sample is above sample_max.
 #[tactic(auto, using(plane::proofs::Depth::depth_small, crate::proofs::Parts::part_some), unfolding(crate::specs::Inner::Walk::row_walked))]
 fn row16(a: &[u16], b: &[u16], depth: u32) -> Result<u64, Refusal>
     requires { (length a.now ≡ length b.now) × (length a.now ≤ side_limit) × (depth ≤ most_depth true) }
@@ -141,51 +161,18 @@ fn row16(a: &[u16], b: &[u16], depth: u32) -> Result<u64, Refusal>
 
 // ---- planes
 
-// Row y of a plane, without its padding.
-fn row_of<S>(samples: &[S], stride: usize, width: usize, y: usize) -> &[S]
-    requires { (y * stride + width ≤ length samples.now) × (length samples.now < 2 ^ 64) }
-    ensures value { result.now ≡ slice_range samples.now (y * stride) (y * stride + width) }
-    ensures length_value { length result.now ≡ width }
+// The sum over all rows, or that a sample is above sample_max; no row is read after one in which a sample is.
+pub fn rows<S: Compared>(p: Pair<'_, S>) -> Result<u64, Refusal>
+    requires { Readable (planes S.Sample.value S.WIDE p) }
+    ensures { result ≡ walked_of (planes S.Sample.value S.WIDE p.entry) }
 {
-    let start = y * stride;
-    &samples[start..start + width]
-}
-
-// The same of row y.
-fn row(
-    a8: &[u8],
-    a16: &[u16],
-    b8: &[u8],
-    b16: &[u16],
-    layout: Layout,
-    y: usize,
-) -> Result<u64, Refusal>
-    requires readable { Readable (planes layout a8 a16 b8 b16) }
-    requires y_lt_height { y < layout.size.height }
-    ensures { result ≡ walked_at (planes layout a8.entry a16.entry b8.entry b16.entry) y }
-{
-    let width = layout.size.width;
-    let depth = layout.size.depth;
-    if layout.size.wide {
-        let first = row_of(a16, layout.stride_a, width, y);
-        let second = row_of(b16, layout.stride_b, width, y);
-        row16(first, second, depth)
-    } else {
-        let first = row_of(a8, layout.stride_a, width, y);
-        let second = row_of(b8, layout.stride_b, width, y);
-        row8(first, second, depth)
-    }
-}
-
-// The same of all rows; no row is read after one in which a sample is above sample_max.
-pub fn rows(a8: &[u8], a16: &[u16], b8: &[u8], b16: &[u16], layout: Layout) -> Result<u64, Refusal>
-    requires { Readable (planes layout a8 a16 b8 b16) }
-    ensures { result ≡ walked_of (planes layout a8.entry a16.entry b8.entry b16.entry) }
-{
+    let width = p.format.width;
     let mut sum = 0u64;
     // by index: a row begins at y times each plane's own stride
-    for y in 0..layout.size.height {
-        sum += row(a8, a16, b8, b16, layout, y)?;
+    for y in 0..p.format.height {
+        let first = plane::row(p.a, width, y);
+        let second = plane::row(p.b, width, y);
+        sum += S::row(first, second, p.format.depth)?;
     }
     Ok(sum)
 }

@@ -12,8 +12,7 @@ use Rattle.refusal.specs.First.{Verdict, unless_refused}
 use Rattle.number.specs.Steps.{◌⊘◌, double}
 use Rattle.number.proofs.Folds.{fold_ext}
 use Rattle.number.proofs.Lists.{list_ext}
-use Rattle.plane.specs.declared.Size.{Size}
-use Rattle.plane.specs.Plane.{Plane, planes_of, both, max_of}
+use Rattle.plane.specs.Plane.{Size, Plane, planes_of, both, max_of}
 use Rattle.plane.specs.Inner.Lawful.{Alike, Equivalent}
 use Rattle.plane.proofs.Exchange.{refusal_equivalent}
 use Rattle.plane.proofs.Accept.{accepted}

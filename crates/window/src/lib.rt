@@ -5,24 +5,6 @@
 pub mod columns;
 pub mod row;
 
-// Which of three slices holds the samples of a plane. The 32-bit ones are those that MS-SSIM sums.
-#[derive(Clone, Copy, Debug, PartialEq, Eq)]
-pub enum Samples {
-    Bytes,
-    Words,
-    Longs,
-}
-
-// Two planes as the sums read them: their samples and sides, and the stride of each.
-#[derive(Clone, Copy, Debug, PartialEq, Eq)]
-pub struct Grid {
-    pub samples: Samples,
-    pub width: usize,
-    pub height: usize,
-    pub stride_a: usize,
-    pub stride_b: usize,
-}
-
 // Five sums under a window: of a, b, a², ab and b².
 #[derive(Clone, Copy, Debug, PartialEq, Eq)]
 pub struct FiveSums {

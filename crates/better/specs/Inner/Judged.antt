@@ -1,14 +1,14 @@
--- What one pair of planes is found to be, the answer that two such findings make, and a contest of planes of either width as inner functions
--- are lent them. Definitions only.
-use Rattle.std.specs.Prelude.{cond, leb, List, ℕ, Result, Ok, Err}
-use Rattle.std.specs.Borrow.{Bor}
+-- What one pair of planes is found to be, the answer that two such findings make, and a contest of planes as the code
+-- has them. Definitions only.
+use Rattle.std.specs.Prelude.{Bool, cond, leb, ℕ, Result, Ok, Err}
 use Rattle.refusal.specs.declared.Refusal.{Refusal}
 use Rattle.refusal.specs.Numbers.{number_of}
 use Rattle.refusal.specs.First.{unless_refused}
-use Rattle.plane.specs.declared.Size.{Size}
+use Rattle.plane.specs.declared.Format.{Format}
+use Rattle.plane.specs.declared.Plane as code
 use Rattle.plane.specs.Plane.{Planes}
 use Rattle.plane.specs.Tests.{pair_refusal}
-use Rattle.plane.specs.Inner.Lent.{lent}
+use Rattle.plane.specs.Inner.Seen.{sized, seen}
 use Rattle.psnr.specs.Squared.{squared_error_score}
 use Rattle.better.specs.declared.Better.{Better}
 use Rattle.better.specs.Better.{Contest, smaller_of}
@@ -28,7 +28,7 @@ decided (Ok first) (Err y) = Err y
 decided (Err x) (Ok second) = Err x
 decided (Err x) (Err y) = Err (least_of x y)
 
--- the samples of each plane as bytes and as words
-abbrev pub lent_contest : Size → Bor (List ℕ) → Bor (List ℕ) → Bor (List ℕ) → Bor (List ℕ) → Bor (List ℕ) → Bor (List ℕ) → ℕ → ℕ → ℕ → Contest
-lent_contest size o8 o16 a8 a16 b8 b16 stride_o stride_a stride_b =
-    record { size = size; original = lent size o8 o16 stride_o; first = lent size a8 a16 stride_a; second = lent size b8 b16 stride_b }
+-- an original and two candidates as the code has them
+abbrev pub contest_of : {S : Type 0} → (S → ℕ) → Bool → Format → code.Plane S → code.Plane S → code.Plane S → Contest
+contest_of value wide format o a b =
+    record { size = sized wide format; original = seen value o; first = seen value a; second = seen value b }

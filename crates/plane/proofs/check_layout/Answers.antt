@@ -4,4 +4,4 @@ use Rattle.plane.proofs.Unread.{lent_says}
 use Rattle.plane.proofs.check_layout.Goals as goal
 
 pub samples_suit-requires-clause-long : goal.samples_suit-requires-clause-long
-samples_suit-requires-clause-long c = lent_says _ _ (sym c.in_ok-check_lent.ensures)
+samples_suit-requires-clause-long g c = lent_says _ _ (sym c.in_ok-check_lent.ensures)

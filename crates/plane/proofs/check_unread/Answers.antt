@@ -1,17 +1,17 @@
 -- `plane::check_unread` meets its contract: the tests of the sizes decide where they refuse, else those of how the planes are lent.
 -- Assumes nothing.
 use Rattle.std.proofs.Common.{rules, ◌≡◌, Err, sym, ◌∙◌}
-use Rattle.plane.specs.Inner.Lent.{planes}
+use Rattle.plane.specs.Inner.Seen.{planes}
 use Rattle.plane.proofs.Unread.{unread_in_parts}
 use Rattle.plane.proofs.check_unread.Goals as goal
 
 pub returns-in_err-check_size : goal.returns-in_err-check_size
-returns-in_err-check_size c =
-    let parts = unread_in_parts (planes c.args.layout c.args.a8 c.args.a16 c.args.b8 c.args.b16) c.args.least in
+returns-in_err-check_size g c =
+    let parts = unread_in_parts (planes g.S.Sample.value g.S.Stored.WIDE c.args.p) c.args.least in
     let told : c.from_residual.result ≡ Err c.in_err-check_size.field-0.0 = search rules in
     told ∙ sym (rw (← c.in_err-check_size.ensures) at parts)
 
 pub returns : goal.returns
-returns c =
-    let parts = unread_in_parts (planes c.args.layout c.args.a8 c.args.a16 c.args.b8 c.args.b16) c.args.least in
+returns g c =
+    let parts = unread_in_parts (planes g.S.Sample.value g.S.Stored.WIDE c.args.p) c.args.least in
     c.lower.ensures ∙ sym (rw (← c.in_ok-check_size.ensures, ← c.check_lent-first.ensures, ← c.check_lent-second.ensures) at parts)

@@ -4,8 +4,7 @@ use Rattle.std.specs.Prelude.{Bool, List, [], ◌∷◌, ◌++◌, ℕ}
 use Rattle.refusal.specs.declared.Refusal.{Refusal}
 use Rattle.refusal.specs.declared.Refusal.TheVariants as no
 use Rattle.refusal.specs.First.{Verdict, first_broken}
-use Rattle.plane.specs.declared.Size.{Size}
-use Rattle.plane.specs.Plane.{Plane, Planes, both, every}
+use Rattle.plane.specs.Plane.{Size, Plane, Planes, both, every}
 use Rattle.plane.specs.Tests.{stride_suits, long_enough, samples_suit, size_tests}
 
 -- how each plane is lent: 4 and 5

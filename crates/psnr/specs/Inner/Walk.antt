@@ -6,7 +6,7 @@ use Rattle.plane.specs.Limits.{side_limit}
 use Rattle.plane.specs.Plane.{Planes, sample_limit, at, max_of}
 use Rattle.plane.specs.Sums.{sum_to}
 use Rattle.plane.specs.Tests.{depth_suits, none_above, row_suits, samples_suit}
-use Rattle.plane.specs.Inner.Lent.{Long}
+use Rattle.plane.specs.Inner.Seen.{Long}
 use Rattle.plane.specs.Inner.Lawful.{BoundedPair}
 use Rattle.psnr.specs.Squared.{square_of, row_error, squared_error_score}
 
