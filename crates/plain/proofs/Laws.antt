@@ -19,8 +19,7 @@ use Rattle.refusal.specs.declared.Refusal.TheVariants as no
 use Rattle.refusal.specs.Numbers.{number_of}
 use Rattle.refusal.specs.First.{Verdict, first_broken, unless_refused, answer_number}
 use Rattle.number.specs.Steps.{◌⊘◌, double}
-use Rattle.plane.specs.declared.Size.{Size}
-use Rattle.plane.specs.Plane.{Plane, Planes, planes_of, max_of}
+use Rattle.plane.specs.Plane.{Size, Plane, Planes, planes_of, max_of}
 use Rattle.plane.specs.Tests.{size_tests, layout_tests, pair_tests}
 use Rattle.plane.specs.Inner.Lawful.{Equivalent}
 use Rattle.kernel.specs.Kernel.{lawful, lent_total}

@@ -3,10 +3,10 @@
 // margins, and are zero between the rows.
 #![tactic(auto)]
 
-ghost use Rattle.std.specs.Prelude.{◌≡◌, ℕ, min, ◌+◌, ◌-◌, ◌*◌, ◌/◌, ◌%◌, ◌<◌, ◌≤◌, length};
+ghost use Rattle.std.specs.Prelude.{◌≡◌, ℕ, min, ◌+◌, ◌-◌, ◌*◌, ◌/◌, ◌%◌, ◌<◌, ◌≤◌, length, map};
 ghost use Rattle.plane.specs.Limits.{side_limit};
-ghost use Rattle.plane.specs.Plane.{sample_at};
-ghost use Rattle.plane.specs.Inner.Lent.{planes, Long};
+ghost use Rattle.plane.specs.Plane.{at, sample_at};
+ghost use Rattle.plane.specs.Inner.Seen.{sized, seen, planes, Long};
 ghost use Rattle.plane.specs.Sums.{sum_to};
 ghost use Rattle.kernel.specs.Kernel.{tap, lent_total};
 ghost use Rattle.window.specs.Moments.{moments_at};
@@ -17,7 +17,7 @@ ghost use Rattle.row_ring.specs.Ring.{ring_places, packed_of, place_at, ring_a, 
 ghost use Rattle.row_ring.specs.Inner.Places.{Clean, Roomy};
 ghost use Rattle.row_ring.specs.Taken.{rows_from, scored_after, taken_of};
 
-use plane::Layout;
+use plane::{Pair, Sample, Stored};
 use ssim::{Totals, walk};
 use window::{FiveSums, columns};
 
@@ -31,36 +31,30 @@ pub struct Ring {
     pub lines: usize,
 }
 
-// Row `i` of a group, to the places from `to` on.
-fn store_row(
-    a8: &[u8],
-    a16: &[u16],
-    b8: &[u8],
-    b16: &[u16],
-    layout: Layout,
-    i: usize,
-    to: usize,
-    s: &mut [i64],
-)
-    requires i_lt_height { (i < layout.size.height) × (to + layout.size.width ≤ length s.old) }
-    requires long { Long layout.size (planes layout a8 a16 b8 b16).a }
-    requires long_2 { Long layout.size (planes layout a8 a16 b8 b16).b }
-    ensures { Put s.old s.new to layout.size.width
-        (λ (x : ℕ). packed_of (sample_at (planes layout a8.entry a16.entry b8.entry b16.entry).a i x)
-        (sample_at (planes layout a8.entry a16.entry b8.entry b16.entry).b i x)) }
+// The pairs of two rows of samples, to the places from `to` on.
+#[tactic(auto, using(window::proofs::Sums::Stores::put_none))]
+fn store_pairs<S: Sample>(first: &[S], second: &[S], to: usize, s: &mut [i64])
+    requires { (length second.now ≡ length first.now) × (to + length first.now ≤ length s.old) }
+    ensures { Put s.old s.new to (length first.now)
+        (λ (x : ℕ). packed_of (at (map S.value first.now) x) (at (map S.value second.now) x)) }
 {
-    let wide = layout.size.wide;
-    let first = i * layout.stride_a;
-    let second = i * layout.stride_b;
-    // by index: two samples, each of bytes or of words, and a place of the ring are met together
-    for x in 0..layout.size.width {
-        pair::put(
-            to + x,
-            plane::sample_of(a8, a16, wide, first + x),
-            plane::sample_of(b8, b16, wide, second + x),
-            s,
-        );
+    // by index: two samples and a place of the ring are met together
+    for (x, a) in first.iter().enumerate() {
+        pair::put(to + x, a.value(), second[x].value(), s);
     }
+}
+
+// Row `i` of a group, to the places from `to` on.
+fn store_row<S: Stored>(p: Pair<'_, S>, i: usize, to: usize, s: &mut [i64])
+    requires i_lt_height { (i < p.format.height) × (to + p.format.width ≤ length s.old) }
+    requires long { Long (sized S.WIDE p.format) (seen S.Sample.value p.a) }
+    requires long_2 { Long (sized S.WIDE p.format) (seen S.Sample.value p.b) }
+    ensures { Put s.old s.new to p.entry.format.width
+        (λ (x : ℕ). packed_of (sample_at (seen S.Sample.value p.entry.a) i x)
+        (sample_at (seen S.Sample.value p.entry.b) i x)) }
+{
+    let width = p.format.width;
+    store_pairs(plane::row(p.a, width, i), plane::row(p.b, width, i), to, s);
 }
 
 // The taps from `from` up to `upto` down column x of the ring, of which the first stands at place `at` and none past the last line.
@@ -211,12 +205,8 @@ pub fn scored_after(r: usize, height: usize, off: usize) -> usize
 }
 
 // Row `i` of a group, which is row `row` of the whole, and then the centres from `from` up to `upto`.
-fn take_row(
-    a8: &[u8],
-    a16: &[u16],
-    b8: &[u8],
-    b16: &[u16],
-    layout: Layout,
+fn take_row<S: Stored>(
+    p: Pair<'_, S>,
     i: usize,
     ring: Ring,
     kernel: &[u16],
@@ -227,10 +217,10 @@ fn take_row(
     t: Totals,
     s: &mut [i64],
 ) -> Totals
-    requires i_lt_height { (i < layout.size.height) × (layout.size.width ≡ ring.width) × (from ≤ upto) × (upto ≤ ring.height)
+    requires i_lt_height { (i < p.format.height) × (p.format.width ≡ ring.width) × (from ≤ upto) × (upto ≤ ring.height)
         × (ring.width ≤ side_limit) × (ring.height ≤ side_limit) }
-    requires long { Long layout.size (planes layout a8 a16 b8 b16).a }
-    requires long_2 { Long layout.size (planes layout a8 a16 b8 b16).b }
+    requires long { Long (sized S.WIDE p.format) (seen S.Sample.value p.a) }
+    requires long_2 { Long (sized S.WIDE p.format) (seen S.Sample.value p.b) }
     requires roomy { Roomy ring kernel.now (length s.old) }
     requires clean { Clean ring s.old }
     requires kernel { Kernel kernel.now }
@@ -238,21 +228,17 @@ fn take_row(
     ensures value { result ≡ rows_from max2 kernel.now ring.width ring.height
         (ring_a s.new ring.width ring.lines) (ring_b s.new ring.width ring.lines) t from (upto - from) }
     ensures put { Put s.old s.new (row % ring.lines * ring.width) ring.width
-        (λ (x : ℕ). packed_of (sample_at (planes layout a8.entry a16.entry b8.entry b16.entry).a i x)
-        (sample_at (planes layout a8.entry a16.entry b8.entry b16.entry).b i x)) }
+        (λ (x : ℕ). packed_of (sample_at (seen S.Sample.value p.entry.a) i x)
+        (sample_at (seen S.Sample.value p.entry.b) i x)) }
 {
     let to = row % ring.lines * ring.width;
-    store_row(a8, a16, b8, b16, layout, i, to, s);
+    store_row(p, i, to, s);
     score_rows(ring, kernel, from, upto, max2, t, s)
 }
 
 // Every row of a group, of which the first is row `received` of the whole.
-pub fn take_rows(
-    a8: &[u8],
-    a16: &[u16],
-    b8: &[u8],
-    b16: &[u16],
-    layout: Layout,
+pub fn take_rows<S: Stored>(
+    p: Pair<'_, S>,
     ring: Ring,
     kernel: &[u16],
     received: usize,
@@ -260,28 +246,26 @@ pub fn take_rows(
     t: Totals,
     s: &mut [i64],
 ) -> Totals
-    requires height_bound { (received + layout.size.height ≤ ring.height) × (layout.size.width ≡ ring.width)
+    requires height_bound { (received + p.format.height ≤ ring.height) × (p.format.width ≡ ring.width)
         × (ring.width ≤ side_limit) × (ring.height ≤ side_limit) }
-    requires long { 0 < layout.size.height → Long layout.size (planes layout a8 a16 b8 b16).a
-        × Long layout.size (planes layout a8 a16 b8 b16).b }
+    requires long { 0 < p.format.height → Long (sized S.WIDE p.format) (seen S.Sample.value p.a)
+        × Long (sized S.WIDE p.format) (seen S.Sample.value p.b) }
     requires roomy { Roomy ring kernel.now (length s.old) }
     requires clean { Clean ring s.old }
     requires kernel { Kernel kernel.now }
     requires lent_total_value { lent_total ≡ sum_to (tap kernel.now) (length kernel.now) }
     ensures { record { places = s.new; totals = result } ≡ taken_of max2 kernel.now ring
-        (planes layout a8.entry a16.entry b8.entry b16.entry) received
-        (record { places = s.old; totals = t }) layout.size.height }
+        (planes S.Sample.value S.WIDE p.entry) received
+        (record { places = s.old; totals = t }) p.entry.format.height }
 {
     let off = kernel.len() / 2;
     let height = ring.height;
     let mut t = t;
-    for i in 0..layout.size.height {
+    for i in 0..p.format.height {
         let row = received + i;
         let from = scored_after(row, height, off);
         let upto = scored_after(row + 1, height, off);
-        t = take_row(
-            a8, a16, b8, b16, layout, i, ring, kernel, row, from, upto, max2, t, s,
-        );
+        t = take_row(p, i, ring, kernel, row, from, upto, max2, t, s);
     }
     t
 }

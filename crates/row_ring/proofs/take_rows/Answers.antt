@@ -6,7 +6,7 @@ use native.Mathlib.Omega.{arith}
 use borrow.Author.Rules.{rules}
 use lib.ListN.{length}
 use Rattle.plane.specs.Plane.{Planes}
-use Rattle.plane.specs.Inner.Lent.{planes}
+use Rattle.plane.specs.Inner.Seen.{planes}
 use Rattle.plane.proofs.Limits.{side_small}
 use Rattle.row_ring.specs.Taken.{Kept}
 use Rattle.row_ring.specs.Ring.{ring_places}
@@ -16,13 +16,13 @@ use Rattle.row_ring.proofs.Taken.{taken_none, taken_more}
 use Rattle.row_ring.proofs.take_rows.Goals as goal
 
 pub loop-i-init : goal.loop-i-init
-loop-i-init c = (search rules, refl, c.requires.clean, sym (taken_none _ _ _ _ _ _))
+loop-i-init g c = (search rules, refl, c.requires.clean, sym (taken_none _ _ _ _ _ _))
 
 pub overflow_add-row-in-loop-i : goal.overflow_add-row-in-loop-i
-overflow_add-row-in-loop-i c = omega (arith, side_small)
+overflow_add-row-in-loop-i g c = omega (arith, side_small)
 
 pub take_row-t-requires : goal.take_row-t-requires
-take_row-t-requires c =
+take_row-t-requires g c =
     let l = c.loop-i in
     let off = length c.args.kernel.now / 2 in
     let row = c.args.received + l.i in
@@ -44,11 +44,11 @@ take_row-t-requires c =
     }
 
 pub overflow_step-i : goal.overflow_step-i
-overflow_step-i c = omega (arith, c.loop-i-test.true, c.requires.height_bound, side_small)
+overflow_step-i g c = omega (arith, c.loop-i-test.true, c.requires.height_bound, side_small)
 
 pub loop-i-preserved : goal.loop-i-preserved
-loop-i-preserved c =
-    let group : Planes = planes c.args.layout c.args.a8 c.args.a16 c.args.b8 c.args.b16 in
+loop-i-preserved g c =
+    let group : Planes = planes g.S.Sample.value g.S.Stored.WIDE c.args.p in
     let before : Kept = record { places = c.args.s.now; totals = c.args.t } in
     let some-lines : 0 < c.args.ring.lines = omega (arith, c.requires.roomy.0, c.requires.kernel.odd) in
     let l = c.loop-i in
@@ -68,8 +68,8 @@ loop-i-preserved c =
     )
 
 pub shape_of-s : goal.shape_of-s
-shape_of-s c = c.loop-i.invariant.1
+shape_of-s g c = c.loop-i.invariant.1
 
 pub returns : goal.returns
-returns c = let e : c.loop-i.i ≡ c.args.layout.size.height = omega arith in
+returns g c = let e : c.loop-i.i ≡ c.args.p.format.height = omega arith in
     rw e at c.loop-i.invariant.3

@@ -5,7 +5,7 @@ use Rattle.rowfed.proofs.Accept.{depth_suits_lem, sides_suit_lem, sound_state}
 use Rattle.rowfed.proofs.taken.check.Goals as goal
 
 pub check_rows-requires : goal.check_rows-requires
-check_rows-requires c =
+check_rows-requires g c =
     let ok = sym c.is_possible.ensures ∙ c.if-not-is_possible.false in
     record {
       depth_value = rw c.requires.1 (depth_suits_lem _ _ ok);
@@ -13,4 +13,4 @@ check_rows-requires c =
     }
 
 pub check_late-requires : goal.check_late-requires
-check_late-requires c = sound_state _ _ (sym c.is_possible.ensures ∙ c.if-not-is_possible.false)
+check_late-requires g c = sound_state _ _ (sym c.is_possible.ensures ∙ c.if-not-is_possible.false)

@@ -15,10 +15,10 @@ use Rattle.ssim.proofs.Same.{totals_more}
 use Rattle.ssim.proofs.walk.rows.Goals as goal
 
 pub centres-t-requires : goal.centres-t-requires
-centres-t-requires c =
-    let both : OnGrid = on_grid c.args.grid c.args.a8 c.args.a16 c.args.a32 c.args.b8 c.args.b16 c.args.b32 in
+centres-t-requires g c =
+    let both : OnGrid = on_grid g.S.Sample.value c.args.p in
     let start : ℕ = 5 * (length c.args.kernel.now / 2) in
-    let count : ℕ = start + 5 * c.args.grid.width - start in
+    let count : ℕ = start + 5 * c.args.p.format.width - start in
     let old : List ℤ = c.loop-y.cols in
     let filled : List ℤ = c.fill.new.cols in
     let room : start + count ≤ length old = omega arith in
@@ -26,18 +26,18 @@ centres-t-requires c =
     let same : length filled ≡ count = kept ∙ part_length start count old room in
     let small = c.requires.summable (omega arith) in
     record {
-      width_le_side_limit = omega (arith, same_len_mid start count old filled kept, weight_le c.args.kernel.now c.args.grid.height c.loop-y.y c.requires.kernel);
+      width_le_side_limit = omega (arith, same_len_mid start count old filled kept, weight_le c.args.kernel.now c.args.p.format.height c.loop-y.y c.requires.kernel);
       kernel = c.requires.kernel;
       total_value = c.requires.total_value;
-      column_sums = all_sums old filled count c.args.kernel.now c.args.grid.width c.args.grid.height (sample_at both.a) (sample_at both.b)
+      column_sums = all_sums old filled count c.args.kernel.now c.args.p.format.width c.args.p.format.height (sample_at both.a) (sample_at both.b)
           c.loop-y.y c.fill.ensures c.loop-y.invariant.2 (omega arith) (omega arith) same c.requires.kernel small.first.small small.second.small;
     }
 
 pub loop-y-preserved : goal.loop-y-preserved
-loop-y-preserved c =
-    let both : OnGrid = on_grid c.args.grid c.args.a8 c.args.a16 c.args.a32 c.args.b8 c.args.b16 c.args.b32 in
+loop-y-preserved g c =
+    let both : OnGrid = on_grid g.S.Sample.value c.args.p in
     let start : ℕ = 5 * (length c.args.kernel.now / 2) in
-    let count : ℕ = start + 5 * c.args.grid.width - start in
+    let count : ℕ = start + 5 * c.args.p.format.width - start in
     let old : List ℤ = c.loop-y.cols in
     let filled : List ℤ = c.fill.new.cols in
     let room : start + count ≤ length old = omega arith in
@@ -45,9 +45,9 @@ loop-y-preserved c =
     let same : length filled ≡ count = kept ∙ part_length start count old room in (
       search rules,
       same_len_mid start count old filled kept ∙ c.loop-y.invariant.1,
-      margins_kept old filled count c.args.kernel.now c.args.grid.width c.args.grid.height (sample_at both.a) (sample_at both.b)
+      margins_kept old filled count c.args.kernel.now c.args.p.format.width c.args.p.format.height (sample_at both.a) (sample_at both.b)
           c.loop-y.y c.fill.ensures c.loop-y.invariant.2 (omega arith) (omega arith) same,
       rw (c.centres-t.ensures, c.weight-down.ensures, c.loop-y.invariant.3)
-          (totals_more c.args.max2 c.args.kernel.now c.args.grid.width c.args.grid.height (sample_at both.a) (sample_at both.b)
+          (totals_more c.args.max2 c.args.kernel.now c.args.p.format.width c.args.p.format.height (sample_at both.a) (sample_at both.b)
           old filled count c.loop-y.y c.fill.ensures c.loop-y.invariant.2 (omega arith) (omega arith) same),
     )
