@@ -3,8 +3,7 @@
 use mathlib.Core.Path.{◌≡◌, ap}
 use mathlib.Core.List.{List}
 use lib.Ieee.{Float}
-use Rattle.plane.specs.declared.Size.{Size}
-use Rattle.plane.specs.Plane.{Plane, planes_of, max_of, sample_at}
+use Rattle.plane.specs.Plane.{Size, Plane, planes_of, max_of, sample_at}
 use Rattle.plane.specs.Tests.{layout_tests}
 use Rattle.plane.specs.Inner.Lawful.{Alike, Equivalent}
 use Rattle.plane.proofs.Exchange.{samples_alike}

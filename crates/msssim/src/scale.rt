@@ -8,8 +8,8 @@ ghost use Rattle.window.specs.Moments.{most_sample};
 ghost use Rattle.window.specs.Inner.Columns.{columns_of};
 ghost use Rattle.msssim.specs.Scale.{scale_of, scale_totals, mean_ssim, mean_cs};
 
+use plane::{Format, Pair, Plane};
 use ssim::Totals;
-use window::{Grid, Samples};
 
 // What the taps of the fixed kernel sum to.
 const FIXED_TOTAL: u64 = 1024;
@@ -35,26 +35,24 @@ pub fn totals(
     let kernel = [8u16, 37, 112, 218, 274, 218, 112, 37, 8];
     let need = 5 * (width + MARGINS);
     let max2 = ssim::centre::squared(max);
-    let grid = Grid {
-        samples: Samples::Longs,
+    // the samples of a scale go up to `max`: no depth is read
+    let format = Format {
         width,
         height,
-        stride_a: width,
-        stride_b: width,
+        depth: 0,
     };
-    ssim::walk::totals(
-        &[0u8; 0],
-        &[0u16; 0],
-        a32,
-        &[0u8; 0],
-        &[0u16; 0],
-        b32,
-        grid,
-        &kernel,
-        FIXED_TOTAL,
-        max2,
-        &mut cols[..need],
-    )
+    let p = Pair {
+        format,
+        a: Plane {
+            samples: a32,
+            stride: width,
+        },
+        b: Plane {
+            samples: b32,
+            stride: width,
+        },
+    };
+    ssim::walk::totals(p, &kernel, FIXED_TOTAL, max2, &mut cols[..need])
 }
 
 // The pair of a scale to the first two places.

@@ -2,7 +2,7 @@
 ghost use Rattle.std.specs.Prelude.{◌≡◌, ◌*◌, ◌^◌, ◌≤◌, pos, length, replicate};
 ghost use Rattle.plane.specs.Limits.{side_limit};
 ghost use Rattle.plane.specs.Plane.{plane_of, sample_at};
-ghost use Rattle.plane.specs.Inner.Lent.{planes};
+ghost use Rattle.plane.specs.Inner.Seen.{planes};
 ghost use Rattle.plane.specs.Inner.Lawful.{Bounded};
 ghost use Rattle.kernel.specs.Kernel.{fixed_kernel};
 ghost use Rattle.window.specs.Moments.{most_sample};
@@ -13,7 +13,7 @@ ghost use Rattle.msssim.specs.Answer.{first_scale, msssim_score};
 ghost use Rattle.msssim.specs.Inner.Sound.{Sound};
 
 use crate::{Pairs, five, scale};
-use plane::Layout;
+use plane::{Pair, Stored};
 use refusal::Refusal;
 
 // How many scales there are.
@@ -60,50 +60,41 @@ fn pairs_from(
 }
 
 // The pairs of the five scales: the planes are widened, and scored from there on.
-fn five_pairs(
-    a8: &[u8],
-    a16: &[u16],
-    b8: &[u8],
-    b16: &[u16],
-    layout: Layout,
+fn five_pairs<S: Stored>(
+    p: Pair<'_, S>,
     cols: &mut [i64],
     a32: &mut [u32],
     b32: &mut [u32],
     pairs: &mut [f64],
 )
-    requires sound { Sound (planes layout a8 a16 b8 b16) (scratch_of cols.old a32.old b32.old) }
+    requires sound { Sound (planes S.Sample.value S.WIDE p) (scratch_of cols.old a32.old b32.old) }
     requires pairs_len { length pairs.old ≡ 2 * scale_count }
-    ensures { pairs.new ≡ pairs_from scale_count
-        (first_scale (planes layout a8.entry a16.entry b8.entry b16.entry)) }
+    ensures { pairs.new ≡ pairs_from scale_count (first_scale (planes S.Sample.value S.WIDE p.entry)) }
 {
-    downscale::widen(a8, a16, layout.size, layout.stride_a, a32);
-    downscale::widen(b8, b16, layout.size, layout.stride_b, b32);
-    let width = layout.size.width;
-    let height = layout.size.height;
-    let max = plane::sample_max(layout.size.depth);
+    let width = p.format.width;
+    let height = p.format.height;
+    downscale::widen(p.a, width, height, a32);
+    downscale::widen(p.b, width, height, b32);
+    let max = plane::sample_max(p.format.depth);
     pairs_from(a32, b32, width, height, max, SCALES, cols, pairs);
 }
 
 // The score of two planes that no test refuses, in scratch that is all needed: all of it is zero afterwards.
 #[tactic(auto, unfolding(crate::specs::Scale::scale_count))]
-pub fn score(
-    a8: &[u8],
-    a16: &[u16],
-    b8: &[u8],
-    b16: &[u16],
-    layout: Layout,
+pub fn score<S: Stored>(
+    p: Pair<'_, S>,
     cols: &mut [i64],
     a32: &mut [u32],
     b32: &mut [u32],
 ) -> Result<Pairs, Refusal>
-    requires { Sound (planes layout a8 a16 b8 b16) (scratch_of cols.old a32.old b32.old) }
-    ensures value { result ≡ msssim_score (planes layout a8.entry a16.entry b8.entry b16.entry) }
+    requires { Sound (planes S.Sample.value S.WIDE p) (scratch_of cols.old a32.old b32.old) }
+    ensures value { result ≡ msssim_score (planes S.Sample.value S.WIDE p.entry) }
     ensures cols_after { cols.new ≡ replicate (length cols.old) (pos 0) }
     ensures a32_after { a32.new ≡ replicate (length a32.old) 0 }
     ensures b32_after { b32.new ≡ replicate (length b32.old) 0 }
 {
     let mut pairs = [0.0; NUMBERS];
-    five_pairs(a8, a16, b8, b16, layout, cols, a32, b32, &mut pairs);
+    five_pairs(p, cols, a32, b32, &mut pairs);
     ssim::walk::clear(cols);
     downscale::clear(a32);
     downscale::clear(b32);

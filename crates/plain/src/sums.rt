@@ -75,7 +75,7 @@ fn plus(s: Moments, t: Moments) -> Moments
 }
 
 // The kernel place (i, j): nothing where it lies outside the planes.
-#[tactic(auto, using(crate::proofs::Parts::found, crate::proofs::Parts::place_inside, crate::proofs::Parts::place_outside))]
+#[tactic(auto, using(crate::proofs::Parts::place_steps))]
 fn place<S: Stored>(
     p: Pair<'_, S>,
     kernel: &[u16],

@@ -14,8 +14,7 @@ use Rattle.refusal.specs.declared.Refusal.TheVariants as no
 use Rattle.refusal.specs.First.{first_broken, unless, unless_refused, lower_of}
 use Rattle.refusal.proofs.Chain.{and_left, and_right, passed, together}
 use Rattle.plane.specs.Limits.{side_limit}
-use Rattle.plane.specs.declared.Size.{Size}
-use Rattle.plane.specs.Plane.{Plane, Planes, both, every, all_to}
+use Rattle.plane.specs.Plane.{Size, Plane, Planes, both, every, all_to}
 use Rattle.plane.specs.Tests.{depth_suits, sides_suit, stride_suits, long_enough, samples_suit, size_tests, layout_tests}
 use Rattle.plane.proofs.Accept.{sides_say, long_says}
 use Rattle.plane.proofs.Depth.{depth_says, depth_small}

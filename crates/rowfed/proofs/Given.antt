@@ -12,8 +12,7 @@ use lib.Seq.{take-append_seam, drop-append_seam}
 use Rattle.std.specs.Prelude.{Ok, Err}
 use Rattle.refusal.specs.First.{Verdict, by_refusal}
 use Rattle.plane.specs.Limits.{least_depth}
-use Rattle.plane.specs.declared.Size.{Size}
-use Rattle.plane.specs.Plane.{Planes, at}
+use Rattle.plane.specs.Plane.{Size, Planes, at}
 use Rattle.plane.proofs.All.{all_true}
 use Rattle.plane.proofs.Accept.{sides_say}
 use Rattle.plane.proofs.Depth.{depth_says, byte_depth, below_depths}

@@ -14,8 +14,7 @@ use lib.Seq.{ext_get_or}
 use Rattle.std.specs.Prelude.{Ok}
 use Rattle.refusal.proofs.Chain.{and_right, none_broken}
 use Rattle.plane.specs.Limits.{side_limit, stride_limit}
-use Rattle.plane.specs.declared.Size.{Size}
-use Rattle.plane.specs.Plane.{Plane, Planes, plane_of, size_of, planes_of, needed}
+use Rattle.plane.specs.Plane.{Size, Plane, Planes, plane_of, size_of, planes_of, needed}
 use Rattle.plane.specs.Tests.{sides_reach, stride_suits, long_enough, row_suits, samples_suit, size_tests}
 use Rattle.plane.proofs.All.{all_at, all_true, none_true}
 use Rattle.kernel.specs.Kernel.{most_taps, lent_total, lawful}

@@ -2,7 +2,7 @@
 use Rattle.std.specs.Prelude.{Bool, List, ◌++◌, ℕ, ℤ, pos, length, Result, Ok}
 use Rattle.refusal.specs.declared.Refusal.{Refusal}
 use Rattle.refusal.specs.First.{Verdict, first_broken, by_refusal, unless_refused}
-use Rattle.plane.specs.declared.Size.{Size}
+use Rattle.plane.specs.Plane.{Size}
 use Rattle.plane.specs.Tests.{size_tests}
 use Rattle.ssim.specs.Answer.{lent_tests}
 use Rattle.ssim.specs.Scratch.{scratch_places, cleared}

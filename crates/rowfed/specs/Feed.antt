@@ -1,10 +1,9 @@
 -- SCOPE, "Rows as they arrive": feed. The rows of a feed are two planes of that height. Definitions only.
 use Rattle.std.specs.Prelude.{Bool, ◌||◌, List, [], ◌∷◌, ◌++◌, ℕ, ◌+◌, ◌-◌, ◌*◌, ◌/◌, eqb, leb, ℤ, pos, length, take, drop, replicate}
-use Rattle.std.specs.Borrow.{Bor}
 use Rattle.refusal.specs.declared.Refusal.{Refusal}
 use Rattle.refusal.specs.declared.Refusal.TheVariants as no
 use Rattle.refusal.specs.First.{Verdict, first_broken, by_refusal}
-use Rattle.plane.specs.Plane.{Plane, Planes, plane_of, size_of, planes_of, both, every}
+use Rattle.plane.specs.Plane.{Plane, Planes, size_of, planes_of, both, every}
 use Rattle.plane.specs.Tests.{stride_suits, long_enough, samples_suit}
 use Rattle.ssim.specs.declared.Totals.{Totals}
 use Rattle.row_ring.specs.Taken.{scored_after, Kept, taken_of}
@@ -13,9 +12,8 @@ use Rattle.rowfed.specs.declared.State.{State}
 use Rattle.rowfed.specs.State.{possible, kernel_of, ring_of, max2_of, places_of}
 
 -- the rows of a feed that is lent bytes or words, its parameters as they stand: the width and the depth are the state's
-abbrev pub fed_rows : Bool → State → Bor (List ℕ) → Bor (List ℕ) → ℕ → ℕ → ℕ → Planes
-fed_rows wide s a b stride_a stride_b rows =
-    planes_of (size_of wide s.width rows s.depth) (plane_of a.now stride_a) (plane_of b.now stride_b)
+abbrev pub fed_rows : Bool → State → Plane → Plane → ℕ → Planes
+fed_rows wide s a b rows = planes_of (size_of wide s.width rows s.depth) a b
 
 -- 4 5 6 of the rows; no rows need no samples
 unfoldable pub rows_tests : Planes → List (Refusal × Bool)

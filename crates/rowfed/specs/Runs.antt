@@ -1,7 +1,6 @@
 -- SCOPE, "Rows as they arrive": feeds one after another, and two planes cut into groups of rows. Definitions only.
 use Rattle.std.specs.Prelude.{◌≡◌, Bool, true, List, [], ◌∷◌, ℕ, ◌+◌, ◌<◌, ℤ, length, Ok}
-use Rattle.plane.specs.declared.Size.{Size}
-use Rattle.plane.specs.Plane.{Planes, sample_at, size_of}
+use Rattle.plane.specs.Plane.{Size, Planes, sample_at, size_of}
 use Rattle.plane.specs.Tests.{stride_suits, long_enough}
 use Rattle.rowfed.specs.declared.State.{State}
 use Rattle.rowfed.specs.Begin.{begin_refusal, begun_state, scratch_begun}

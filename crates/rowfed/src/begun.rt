@@ -1,25 +1,26 @@
 // Begin.
 ghost use Rattle.std.specs.Prelude.{◌≡◌, ◌≤◌, length};
+ghost use Rattle.plane.specs.Inner.Seen.{sized};
 ghost use Rattle.kernel.specs.Kernel.{most_taps};
 ghost use Rattle.ssim.specs.Score.{no_totals};
 ghost use Rattle.rowfed.specs.State.{held_kernel};
-ghost use Rattle.rowfed.specs.Begin.{begin_refusal, begun_state, begin_of, scratch_begun};
+ghost use Rattle.rowfed.specs.Begin.{begin_refusal, begun_state};
 
 use crate::State;
-use plane::Size;
+use plane::{Format, Stored};
 use refusal::Refusal;
-use ssim::{Totals, walk};
+use ssim::Totals;
 
 // The lowest of 1 2 7 8 that applies.
 #[tactic(auto, using(crate::proofs::Accept::begin_in_parts))]
-fn check(size: Size, kernel: &[u16], lent: usize) -> Result<(), Refusal>
-    ensures { result ≡ begin_refusal size kernel.now lent }
+pub fn check<S: Stored>(format: Format, kernel: &[u16], lent: usize) -> Result<(), Refusal>
+    ensures { result ≡ begin_refusal (sized S.WIDE format) kernel.now lent }
 {
-    plane::check_size(size, 0)?;
+    plane::check_size::<S>(format, 0)?;
     if !kernel::is_lawful(kernel) {
         return Err(Refusal::Kernel);
     }
-    if lent < ssim::scratch_places(size.width, kernel.len()) {
+    if lent < ssim::scratch_places(format.width, kernel.len()) {
         return Err(Refusal::Scratch);
     }
     Ok(())
@@ -47,29 +48,18 @@ fn no_sums() -> Totals
 }
 
 // No row has come.
-fn new_state(size: Size, kernel: &[u16]) -> State
+pub fn new_state<S: Stored>(format: Format, kernel: &[u16]) -> State
     requires { length kernel.now ≤ most_taps }
-    ensures { result ≡ begun_state size kernel.now }
+    ensures { result ≡ begun_state (sized S.WIDE format) kernel.now }
 {
     State {
-        width: size.width,
-        height: size.height,
-        depth: size.depth,
+        width: format.width,
+        height: format.height,
+        depth: format.depth,
         taps: kernel.len(),
         kernel: held(kernel),
         rows: 0,
         scored: 0,
         sums: no_sums(),
     }
-}
-
-// Begin, of either sample width.
-pub fn begin(size: Size, kernel: &[u16], scratch: &mut [i64]) -> Result<State, Refusal>
-    ensures value { result ≡ begin_of size kernel.now scratch.old }
-    ensures scratch_after { scratch.new ≡ scratch_begun size kernel.now scratch.old }
-{
-    check(size, kernel, scratch.len())?;
-    let need = ssim::scratch_places(size.width, kernel.len());
-    walk::clear(&mut scratch[..need]);
-    Ok(new_state(size, kernel))
 }

@@ -1,5 +1,6 @@
 -- A place that both tests find inside is weighed; another adds nothing.
-use Rattle.std.proofs.Common.{arith}
+use Rattle.std.proofs.Common.{◌+◌, ◌-◌, ◌/◌, length, arith}
+use Rattle.std.proofs.lemmas.List.{length-map}
 use Rattle.plane.specs.Inner.Seen.{planes}
 use Rattle.plane.proofs.Rows.{inside}
 use Rattle.plain.proofs.Parts.{found, reaches, weighed_fits}
@@ -10,14 +11,20 @@ sample-requires g c =
     let a = c.args in
     let in_both = found a.kernel.now a.p.format.width a.p.format.height a.x a.y a.i a.j c.inside.ensures c.inside-2.ensures c.if-not-inside.false in
     let reached = reaches a.kernel.now a.p.format.width a.p.format.height a.x a.y a.i a.j in_both in
-    inside a.p.a.stride c.requires.accepted_pair.each.0.bounded.long (omega (arith, reached)) (omega (arith, reached))
+    let off = length a.kernel.now / 2 in
+    rw length-map at (
+    inside {x = a.x + a.j - off} {y = a.y + a.i - off} a.p.a.stride c.requires.accepted_pair.each.0.bounded.long (omega (arith, reached)) (omega (arith, reached))
+    )
 
 pub sample-requires-2 : goal.sample-requires-2
 sample-requires-2 g c =
     let a = c.args in
     let in_both = found a.kernel.now a.p.format.width a.p.format.height a.x a.y a.i a.j c.inside.ensures c.inside-2.ensures c.if-not-inside.false in
     let reached = reaches a.kernel.now a.p.format.width a.p.format.height a.x a.y a.i a.j in_both in
-    inside a.p.b.stride c.requires.accepted_pair.each.1.0.bounded.long (omega (arith, reached)) (omega (arith, reached))
+    let off = length a.kernel.now / 2 in
+    rw length-map at (
+    inside {x = a.x + a.j - off} {y = a.y + a.i - off} a.p.b.stride c.requires.accepted_pair.each.1.0.bounded.long (omega (arith, reached)) (omega (arith, reached))
+    )
 
 pub weighed-requires : goal.weighed-requires
 weighed-requires g c =

@@ -8,7 +8,7 @@ use Rattle.rowfed.proofs.Tidied.{tidy, tidy_clean}
 use Rattle.rowfed.proofs.taken.take.Goals as goal
 
 pub take_rows-requires : goal.take_rows-requires
-take_rows-requires c =
+take_rows-requires g c =
     let n : ℕ = ring_places c.args.ring in
     let left : ℕ = length c.args.used.now - n in
     let fits : n ≤ length c.args.used.now = omega (arith, c.requires.roomy.1) in
@@ -22,6 +22,6 @@ take_rows-requires c =
     }
 
 pub returns : goal.returns
-returns c =
+returns g c =
     let fits : ring_places c.args.ring ≤ length c.args.used.now = omega (arith, c.requires.roomy.1) in
     rw (tidy (ring_places c.args.ring) c.args.used.now c.clear.new.s fits c.clear.ensures) at c.take_rows.ensures
