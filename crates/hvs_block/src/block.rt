@@ -6,6 +6,7 @@ ghost use Rattle.lifting.specs.Inner.Within.{Within, AllWithin};
 ghost use Rattle.hvs_block.specs.Block as Block;
 ghost use Rattle.hvs_block.specs.Inner.Levels.{Samples};
 
+use crate::tables::Tables;
 use crate::variance;
 use dct::{BLOCK_SIDE, BLOCK_SIZE};
 
@@ -112,18 +113,11 @@ fn term(dc: bool, err: f64, csf: f64, mask: f64, m: f64) -> f64
 }
 
 // The squared errors of every place, added to `so_far`.
-fn errors(
-    d1: &[i32],
-    d2: &[i32],
-    csf: &[[f64; BLOCK_SIDE]; BLOCK_SIDE],
-    mask: &[[f64; BLOCK_SIDE]; BLOCK_SIDE],
-    m: f64,
-    so_far: f64,
-) -> f64
+fn errors(d1: &[i32], d2: &[i32], tables: &Tables, m: f64, so_far: f64) -> f64
     requires d1_len { (length d1.now ≡ block_size) × (length d2.now ≡ block_size) }
     requires all_within { AllWithin coefficient_limit d1.now }
     requires all_within_2 { AllWithin coefficient_limit d2.now }
-    ensures { result ≡ Block.errors d1.now d2.now csf.now mask.now m so_far }
+    ensures { result ≡ Block.errors d1.now d2.now tables.now.csf tables.now.mask m so_far }
 {
     let mut s = so_far;
     // by index: two blocks and two tables of rows are read at one place
@@ -133,8 +127,8 @@ fn errors(
             + term(
                 k == 0,
                 err,
-                csf[k / BLOCK_SIDE][k % BLOCK_SIDE],
-                mask[k / BLOCK_SIDE][k % BLOCK_SIDE],
+                tables.csf[k / BLOCK_SIDE][k % BLOCK_SIDE],
+                tables.mask[k / BLOCK_SIDE][k % BLOCK_SIDE],
                 m,
             );
     }
@@ -142,20 +136,14 @@ fn errors(
 }
 
 // One block of each plane, added to `so_far`.
-pub fn with_block(
-    p1: &[i32],
-    p2: &[i32],
-    csf: &[[f64; BLOCK_SIDE]; BLOCK_SIDE],
-    mask: &[[f64; BLOCK_SIDE]; BLOCK_SIDE],
-    so_far: f64,
-) -> f64
+pub fn with_block(p1: &[i32], p2: &[i32], tables: &Tables, so_far: f64) -> f64
     requires p1_len { (length p1.now ≡ block_size) × (length p2.now ≡ block_size) }
     requires samples { Samples p1.now }
     requires samples_2 { Samples p2.now }
-    ensures { result ≡ Block.with_block p1.now p2.now csf.now mask.now so_far }
+    ensures { result ≡ Block.with_block p1.now p2.now tables.now.csf tables.now.mask so_far }
 {
     let d1 = dct::fdct8x8(p1);
     let d2 = dct::fdct8x8(p2);
-    let m = mask_of_both(p1, p2, &d1, &d2, mask);
-    errors(&d1, &d2, csf, mask, m, so_far)
+    let m = mask_of_both(p1, p2, &d1, &d2, &tables.mask);
+    errors(&d1, &d2, tables, m, so_far)
 }

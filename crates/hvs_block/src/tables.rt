@@ -258,7 +258,7 @@ const CSF_MULTIPLIER: f64 = 0.3885746225901003;
 
 // The table of a kind.
 #[tactic(auto, unfolding(crate::specs::Tables::csf_of, crate::specs::Tables::csf_y, crate::specs::Tables::csf_cb420, crate::specs::Tables::csf_cr420))]
-pub fn csf_of(kind: Kind) -> [[f64; BLOCK_SIDE]; BLOCK_SIDE]
+fn csf_of(kind: Kind) -> [[f64; BLOCK_SIDE]; BLOCK_SIDE]
     ensures { result ≡ csf_of kind }
 {
     match kind {
@@ -284,8 +284,27 @@ fn mask_row(row: [f64; BLOCK_SIDE]) -> [f64; BLOCK_SIDE]
 }
 
 // The masks of a table.
-pub fn masks(csf: [[f64; BLOCK_SIDE]; BLOCK_SIDE]) -> [[f64; BLOCK_SIDE]; BLOCK_SIDE]
+fn masks(csf: [[f64; BLOCK_SIDE]; BLOCK_SIDE]) -> [[f64; BLOCK_SIDE]; BLOCK_SIDE]
     ensures { result ≡ masks_of csf }
 {
     csf.map(mask_row)
+}
+
+// What an error counts for at each place of a block, and the masks worked out from that.
+#[derive(Clone, Copy, Debug, PartialEq)]
+pub struct Tables {
+    pub csf: [[f64; BLOCK_SIDE]; BLOCK_SIDE],
+    pub mask: [[f64; BLOCK_SIDE]; BLOCK_SIDE],
+}
+
+// Those of a kind.
+pub fn tables_of(kind: Kind) -> Tables
+    ensures csf_value { result.csf ≡ csf_of kind }
+    ensures mask_value { result.mask ≡ masks_of (csf_of kind) }
+{
+    let csf = csf_of(kind);
+    Tables {
+        csf,
+        mask: masks(csf),
+    }
 }

@@ -7,11 +7,12 @@ ghost use Rattle.locate.specs.Where.{located_of};
 ghost use Rattle.locate.specs.Map.{mapped_of, map_after};
 
 use plane::{Pair, Stored};
-use psnr::walk::Compared;
 use refusal::Refusal;
 
 mod first;
 pub mod map;
+
+use map::Tiled;
 
 // A place of a plane.
 #[derive(Clone, Copy, Debug, PartialEq, Eq)]
@@ -37,7 +38,7 @@ pub fn first_difference<S: Stored>(p: Pair<'_, S>) -> Result<Option<Place>, Refu
 }
 
 // The squared error of each tile of two planes, row by row, to the first places of `map`.
-pub fn error_map<S: Compared>(p: Pair<'_, S>, map: &mut [u64]) -> Result<Tiles, Refusal>
+pub fn error_map<S: Tiled>(p: Pair<'_, S>, map: &mut [u64]) -> Result<Tiles, Refusal>
     ensures value { result ≡ mapped_of (planes S.Sample.value S.WIDE p.entry) map.old }
     ensures map_after { map.new ≡ map_after (planes S.Sample.value S.WIDE p.entry) map.old }
 {

@@ -42,22 +42,56 @@ fn tile_length(side: usize, k: usize) -> usize
     TILE_SIDE.min(side - k * TILE_SIDE)
 }
 
-// The sum over two pieces of rows.
-#[tactic(auto, using(crate::proofs::Sums::piece_steps, plane::proofs::All::at_value), unfolding(crate::specs::Map::tile_side))]
-fn piece<S: Compared>(a: &[S], b: &[S]) -> u64
+// Samples of which tiles are summed. Bytes and words have each their own way: so few squares of bytes fit 32 bits, which is faster.
+pub trait Tiled: Compared {
+    // The sum over two pieces of rows.
+    fn piece(a: &[Self], b: &[Self]) -> u64
+        requires { (length a.now ≡ length b.now) × (length a.now ≤ tile_side) }
+        ensures { (result ≡ squares_in (map Self.value a.now) (map Self.value b.now) (length a.now)) × (result ≤ piece_most) };
+}
+
+impl Tiled for u8 {
+    #[tactic(auto, unfolding(crate::specs::Map::tile_side))]
+    fn piece(a: &[u8], b: &[u8]) -> u64 {
+        u64::from(piece8(a, b))
+    }
+}
+
+impl Tiled for u16 {
+    fn piece(a: &[u16], b: &[u16]) -> u64 {
+        piece16(a, b)
+    }
+}
+
+// The sum over two pieces of bytes.
+#[tactic(auto, using(crate::proofs::Sums::piece_steps), unfolding(crate::specs::Map::tile_side))]
+fn piece8(a: &[u8], b: &[u8]) -> u32
     requires { (length a.now ≡ length b.now) × (length a.now ≤ tile_side) }
-    ensures { (result ≡ squares_in (map S.Sample.value a.now) (map S.Sample.value b.now) (length a.now)) × (result ≤ piece_most) }
+    ensures { result ≡ squares_in a.now b.now (length a.now) }
+{
+    let mut sum = 0u32;
+    for (p, q) in a.iter().zip(b) {
+        sum += p.square(*q);
+    }
+    sum
+}
+
+// The same of words.
+#[tactic(auto, using(crate::proofs::Sums::piece_steps), unfolding(crate::specs::Map::tile_side))]
+fn piece16(a: &[u16], b: &[u16]) -> u64
+    requires { (length a.now ≡ length b.now) × (length a.now ≤ tile_side) }
+    ensures { (result ≡ squares_in a.now b.now (length a.now)) × (result ≤ piece_most) }
 {
     let mut sum = 0u64;
-    for (&p, &q) in a.iter().zip(b) {
-        sum += u64::from(p.square(q));
+    for (p, q) in a.iter().zip(b) {
+        sum += u64::from(p.square(*q));
     }
     sum
 }
 
 // The sum over the n samples of row y from column x on. Of a full tile the count is one that the compiler knows: that loop becomes
 // straight code.
-fn piece_at<S: Compared>(p: Pair<'_, S>, y: usize, x: usize, n: usize) -> u64
+fn piece_at<S: Tiled>(p: Pair<'_, S>, y: usize, x: usize, n: usize) -> u64
     requires walkable { Walkable (planes S.Sample.value S.WIDE p) }
     requires y_lt_height { (y < p.format.height) × (x + n ≤ p.format.width) × (n ≤ tile_side) }
     ensures { (result ≡ piece_error (planes S.Sample.value S.WIDE p.entry) x n y) × (result ≤ piece_most) }
@@ -65,15 +99,15 @@ fn piece_at<S: Compared>(p: Pair<'_, S>, y: usize, x: usize, n: usize) -> u64
     let row_a = plane::row(p.a, p.format.width, y);
     let row_b = plane::row(p.b, p.format.width, y);
     if n == TILE_SIDE {
-        piece(&row_a[x..x + TILE_SIDE], &row_b[x..x + TILE_SIDE])
+        S::piece(&row_a[x..x + TILE_SIDE], &row_b[x..x + TILE_SIDE])
     } else {
-        piece(&row_a[x..x + n], &row_b[x..x + n])
+        S::piece(&row_a[x..x + n], &row_b[x..x + n])
     }
 }
 
 // The squared error of the tile in row j and column i of tiles.
 #[tactic(auto, using(crate::proofs::Sums::tile_rules), unfolding(crate::specs::Map::tile_side))]
-fn tile<S: Compared>(p: Pair<'_, S>, j: usize, i: usize) -> u64
+fn tile<S: Tiled>(p: Pair<'_, S>, j: usize, i: usize) -> u64
     requires walkable { Walkable (planes S.Sample.value S.WIDE p) }
     requires j_bound { (j < tiles_along p.format.height) × (i < tiles_along p.format.width) }
     ensures { result ≡ tile_error (planes S.Sample.value S.WIDE p.entry) j i }
@@ -89,7 +123,7 @@ fn tile<S: Compared>(p: Pair<'_, S>, j: usize, i: usize) -> u64
 
 // Row j of tiles, into as many places.
 #[tactic(auto, using(number::proofs::Lists::filled_none, number::proofs::Lists::filled_more, number::proofs::Lists::filled_all))]
-fn tile_row<S: Compared>(p: Pair<'_, S>, j: usize, row: &mut [u64])
+fn tile_row<S: Tiled>(p: Pair<'_, S>, j: usize, row: &mut [u64])
     requires walkable { Walkable (planes S.Sample.value S.WIDE p) }
     requires j_bound { (j < tiles_along p.format.height) × (length row.old ≡ tiles_along p.format.width) }
     ensures { row.new ≡ list_to (tile_error (planes S.Sample.value S.WIDE p.entry) j) (tiles_along p.entry.format.width) }
@@ -101,7 +135,7 @@ fn tile_row<S: Compared>(p: Pair<'_, S>, j: usize, row: &mut [u64])
 
 // All rows of tiles, one after another, into as many places as there are tiles.
 #[tactic(auto, using(crate::proofs::Rows::map_none, crate::proofs::Rows::map_more))]
-pub fn fill<S: Compared>(p: Pair<'_, S>, map: &mut [u64])
+pub fn fill<S: Tiled>(p: Pair<'_, S>, map: &mut [u64])
     requires walkable { Walkable (planes S.Sample.value S.WIDE p) }
     requires map_len { length map.old ≡ map_places (planes S.Sample.value S.WIDE p) }
     ensures { map.new ≡ map_of (planes S.Sample.value S.WIDE p.entry) }

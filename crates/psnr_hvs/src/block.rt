@@ -8,6 +8,7 @@ ghost use Rattle.psnr_hvs.specs.Score.{block_at, with_blocks};
 ghost use Rattle.psnr_hvs.specs.Inner.Blocks.{BlockFits};
 
 use dct::{BLOCK_SIDE, BLOCK_SIZE};
+use hvs_block::tables::Tables;
 use plane::{Pair, Plane, Sample, Stored};
 
 // The block whose first sample is (x, y), of a plane that reaches to its last.
@@ -26,19 +27,12 @@ fn loaded<S: Sample>(p: Plane<'_, S>, x: usize, y: usize) -> [i32; BLOCK_SIZE]
 }
 
 // The blocks of both planes whose first sample is (x, y), added to `so_far`.
-pub fn block_at<S: Stored>(
-    p: Pair<'_, S>,
-    x: usize,
-    y: usize,
-    csf: &[[f64; BLOCK_SIDE]; BLOCK_SIDE],
-    mask: &[[f64; BLOCK_SIDE]; BLOCK_SIDE],
-    so_far: f64,
-) -> f64
+pub fn block_at<S: Stored>(p: Pair<'_, S>, x: usize, y: usize, tables: &Tables, so_far: f64) -> f64
     requires block_fits { BlockFits (sized S.WIDE p.format) x y }
     requires bounded_pair { BoundedPair sample_limit (planes S.Sample.value S.WIDE p) }
-    ensures { result ≡ with_blocks (planes S.Sample.value S.WIDE p.entry) x y csf.now mask.now so_far }
+    ensures { result ≡ with_blocks (planes S.Sample.value S.WIDE p.entry) x y tables.now.csf tables.now.mask so_far }
 {
     let p1 = loaded(p.a, x, y);
     let p2 = loaded(p.b, x, y);
-    hvs_block::block::with_block(&p1, &p2, csf, mask, so_far)
+    hvs_block::block::with_block(&p1, &p2, tables, so_far)
 }

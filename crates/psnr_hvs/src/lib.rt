@@ -14,6 +14,7 @@ ghost use Rattle.psnr_hvs.specs.Score.{hvs_score, hvs_of};
 
 use dct::{BLOCK_SIDE, BLOCK_SIZE};
 pub use hvs_block::Kind;
+use hvs_block::tables::Tables;
 use plane::{Pair, Stored};
 use refusal::Refusal;
 
@@ -29,41 +30,31 @@ fn blocks_per_side(side: usize) -> usize
 }
 
 // One row of blocks, which begins at row y of the planes, added to `so_far`.
-fn along_row<S: Stored>(
-    p: Pair<'_, S>,
-    y: usize,
-    csf: &[[f64; BLOCK_SIDE]; BLOCK_SIDE],
-    mask: &[[f64; BLOCK_SIDE]; BLOCK_SIDE],
-    so_far: f64,
-) -> f64
+fn along_row<S: Stored>(p: Pair<'_, S>, y: usize, tables: &Tables, so_far: f64) -> f64
     requires block_side_le_width { (block_side ≤ p.format.width) × (y + block_side ≤ p.format.height) }
     requires bounded_pair { BoundedPair sample_limit (planes S.Sample.value S.WIDE p) }
     ensures { result ≡ along_row (planes S.Sample.value S.WIDE p.entry) y
-        csf.now mask.now so_far (blocks_per_side p.entry.format.width) }
+        tables.now.csf tables.now.mask so_far (blocks_per_side p.entry.format.width) }
 {
     let n = blocks_per_side(p.format.width);
     let mut s = so_far;
     for x in 0..n {
-        s = block::block_at(p, STEP * x, y, csf, mask, s);
+        s = block::block_at(p, STEP * x, y, tables, s);
     }
     s
 }
 
 // Every row of blocks.
-fn down_rows<S: Stored>(
-    p: Pair<'_, S>,
-    csf: &[[f64; BLOCK_SIDE]; BLOCK_SIDE],
-    mask: &[[f64; BLOCK_SIDE]; BLOCK_SIDE],
-) -> f64
+fn down_rows<S: Stored>(p: Pair<'_, S>, tables: &Tables) -> f64
     requires block_side_le_width { (block_side ≤ p.format.width) × (block_side ≤ p.format.height) }
     requires bounded_pair { BoundedPair sample_limit (planes S.Sample.value S.WIDE p) }
     ensures { result ≡ down_rows (planes S.Sample.value S.WIDE p.entry)
-        csf.now mask.now (blocks_per_side p.entry.format.height) }
+        tables.now.csf tables.now.mask (blocks_per_side p.entry.format.height) }
 {
     let n = blocks_per_side(p.format.height);
     let mut s = 0.0;
     for y in 0..n {
-        s = along_row(p, STEP * y, csf, mask, s);
+        s = along_row(p, STEP * y, tables, s);
     }
     s
 }
@@ -73,9 +64,8 @@ fn score<S: Stored>(p: Pair<'_, S>, kind: Kind) -> f64
     requires { AcceptedPair (planes S.Sample.value S.WIDE p) block_side }
     ensures { result ≡ hvs_score (planes S.Sample.value S.WIDE p.entry) kind }
 {
-    let csf = hvs_block::tables::csf_of(kind);
-    let mask = hvs_block::tables::masks(csf);
-    let sum = down_rows(p, &csf, &mask);
+    let tables = hvs_block::tables::tables_of(kind);
+    let sum = down_rows(p, &tables);
     let blocks = (blocks_per_side(p.format.width) * blocks_per_side(p.format.height)) as u64;
     let max = plane::sample_max(p.format.depth) as u64;
     sum / number::exact(BLOCK_SIZE as u64 * blocks) / number::exact(max * max)

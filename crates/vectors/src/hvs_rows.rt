@@ -1,6 +1,6 @@
 // PSNR-HVS of two planes: told are the kind and two zeros.
 use crate::rows::Row;
-use crate::{table, tell};
+use crate::table;
 use psnr_hvs::Kind;
 use refusal::Refusal;
 
@@ -14,39 +14,11 @@ fn kind_of(n: usize) -> Option<Kind> {
     }
 }
 
-fn ask8(r: Row, kind: Kind) -> Result<f64, Refusal> {
-    let list = table::BYTES;
-    psnr_hvs::psnr_hvs8(
-        tell::part_of(&list, r.a.from..r.a.end),
-        tell::part_of(&list, r.b.from..r.b.end),
-        r.size.width,
-        r.size.height,
-        r.a.stride,
-        r.b.stride,
-        r.size.depth,
-        kind,
-    )
-}
-
-fn ask16(r: Row, kind: Kind) -> Result<f64, Refusal> {
-    let list = table::WORDS;
-    psnr_hvs::psnr_hvs16(
-        tell::part_of(&list, r.a.from..r.a.end),
-        tell::part_of(&list, r.b.from..r.b.end),
-        r.size.width,
-        r.size.height,
-        r.a.stride,
-        r.b.stride,
-        r.size.depth,
-        kind,
-    )
-}
-
 fn ask(r: Row, kind: Kind) -> Result<f64, Refusal> {
-    if r.size.wide {
-        ask16(r, kind)
+    if r.wide {
+        psnr_hvs::psnr_hvs(r.parts(&table::WORDS), kind)
     } else {
-        ask8(r, kind)
+        psnr_hvs::psnr_hvs(r.parts(&table::BYTES), kind)
     }
 }
 

@@ -1,8 +1,8 @@
 // MS-SSIM of two planes that are made by a rule: of each plane `from` is its seed, and `end` how many samples there are; told are how far
 // below the largest its samples reach, and two zeros. The places lent are those that 17 by 33 need, and no row asks for more.
 use crate::rows::Row;
-use crate::tell;
 use msssim::Pairs;
+use plane::{Pair, Stored};
 use refusal::Refusal;
 use std::array;
 
@@ -38,48 +38,11 @@ fn words(seed: usize, reach: usize) -> [u16; SAMPLES] {
     array::from_fn(|i| (WORD_MAX - below(i, seed, reach) % WORD_VALUES) as u16)
 }
 
-fn ask8(r: Row) -> Result<Pairs, Refusal> {
-    let a = bytes(r.a.from, r.told[0]);
-    let b = bytes(r.b.from, r.told[0]);
+fn ask<S: Stored>(p: Pair<'_, S>) -> Result<Pairs, Refusal> {
     let mut scratch = [0i64; PLACES];
     let mut room_a = [0u32; ROOM];
     let mut room_b = [0u32; ROOM];
-    msssim::msssim8(
-        tell::part_of(&a, 0..r.a.end),
-        tell::part_of(&b, 0..r.b.end),
-        r.size.width,
-        r.size.height,
-        r.a.stride,
-        r.b.stride,
-        r.size.depth,
-        &mut scratch,
-        &mut room_a,
-        &mut room_b,
-    )
-}
-
-fn ask16(r: Row) -> Result<Pairs, Refusal> {
-    let a = words(r.a.from, r.told[0]);
-    let b = words(r.b.from, r.told[0]);
-    let mut scratch = [0i64; PLACES];
-    let mut room_a = [0u32; ROOM];
-    let mut room_b = [0u32; ROOM];
-    msssim::msssim16(
-        tell::part_of(&a, 0..r.a.end),
-        tell::part_of(&b, 0..r.b.end),
-        r.size.width,
-        r.size.height,
-        r.a.stride,
-        r.b.stride,
-        r.size.depth,
-        &mut scratch,
-        &mut room_a,
-        &mut room_b,
-    )
-}
-
-fn ask(r: Row) -> Result<Pairs, Refusal> {
-    if r.size.wide { ask16(r) } else { ask8(r) }
+    msssim::msssim(p, &mut scratch, &mut room_a, &mut room_b)
 }
 
 // The ten numbers, as they stand in the list.
@@ -90,5 +53,11 @@ fn numbers(p: Pairs) -> [f64; 10] {
 }
 
 pub fn five_are(r: Row) -> bool {
-    r.has(ask(r).map(numbers))
+    let reach = r.told[0];
+    let five = if r.wide {
+        ask(r.fronts(&words(r.a.from, reach), &words(r.b.from, reach)))
+    } else {
+        ask(r.fronts(&bytes(r.a.from, reach), &bytes(r.b.from, reach)))
+    };
+    r.has(five.map(numbers))
 }

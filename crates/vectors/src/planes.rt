@@ -2,55 +2,40 @@
 // those samples, and the least side.
 use crate::rows::Row;
 use crate::tell;
+use plane::Stored;
 use refusal::Refusal;
 
 // The samples of a plane, as many as the table's places reach: at this place no sample is set.
 const ROOM: usize = plane::SIDE_LIMIT;
 
-// Samples that are 0 but for one.
-fn set<T: Copy>(samples: &mut [T], at: usize, value: T) {
+fn set<S: Copy>(samples: &mut [S], at: usize, value: S) {
     if let Some(sample) = samples.get_mut(at) {
         *sample = value;
     }
 }
 
-fn ask8(r: Row) -> Option<Result<(), Refusal>> {
-    let [x, y, least] = r.told;
-    let mut a = [0u8; ROOM];
-    let mut b = [0u8; ROOM];
-    set(&mut a, r.a.from, u8::try_from(x).ok()?);
-    set(&mut b, r.b.from, u8::try_from(y).ok()?);
-    Some(plane::check8(
-        tell::part_of(&a, 0..r.a.end),
-        tell::part_of(&b, 0..r.b.end),
-        r.size.width,
-        r.size.height,
-        r.a.stride,
-        r.b.stride,
-        r.size.depth,
-        least,
-    ))
+// The check of two planes that are `a` and `b` but for a sample of each, x and y.
+fn ask<S: Stored>(r: Row, a: &mut [S], x: S, b: &mut [S], y: S) -> Result<(), Refusal> {
+    set(a, r.a.from, x);
+    set(b, r.b.from, y);
+    plane::check(r.fronts(a, b), r.told[2])
 }
 
-fn ask16(r: Row) -> Option<Result<(), Refusal>> {
-    let [x, y, least] = r.told;
-    let mut a = [0u16; ROOM];
-    let mut b = [0u16; ROOM];
-    set(&mut a, r.a.from, u16::try_from(x).ok()?);
-    set(&mut b, r.b.from, u16::try_from(y).ok()?);
-    Some(plane::check16(
-        tell::part_of(&a, 0..r.a.end),
-        tell::part_of(&b, 0..r.b.end),
-        r.size.width,
-        r.size.height,
-        r.a.stride,
-        r.b.stride,
-        r.size.depth,
-        least,
-    ))
+fn ask_bytes(r: Row) -> Option<Result<(), Refusal>> {
+    let [x, y, _] = r.told;
+    let x = u8::try_from(x).ok()?;
+    let y = u8::try_from(y).ok()?;
+    Some(ask(r, &mut [0; ROOM], x, &mut [0; ROOM], y))
+}
+
+fn ask_words(r: Row) -> Option<Result<(), Refusal>> {
+    let [x, y, _] = r.told;
+    let x = u16::try_from(x).ok()?;
+    let y = u16::try_from(y).ok()?;
+    Some(ask(r, &mut [0; ROOM], x, &mut [0; ROOM], y))
 }
 
 pub fn check_is(r: Row) -> bool {
-    let answer = if r.size.wide { ask16(r) } else { ask8(r) };
+    let answer = if r.wide { ask_words(r) } else { ask_bytes(r) };
     answer.map(tell::number_of) == Some(r.no)
 }

@@ -9,34 +9,12 @@ use refusal::Refusal;
 // The last frame.
 const FRAME: u32 = 4294967295;
 
-fn ask8(r: Row, plane: u32) -> Result<SquaredError, Refusal> {
-    let list = table::BYTES;
-    psnr::squared_error8(
-        tell::part_of(&list, r.a.from..r.a.end),
-        tell::part_of(&list, r.b.from..r.b.end),
-        r.size.width,
-        r.size.height,
-        r.a.stride,
-        r.b.stride,
-        r.size.depth,
-        FRAME,
-        plane,
-    )
-}
-
-fn ask16(r: Row, plane: u32) -> Result<SquaredError, Refusal> {
-    let list = table::WORDS;
-    psnr::squared_error16(
-        tell::part_of(&list, r.a.from..r.a.end),
-        tell::part_of(&list, r.b.from..r.b.end),
-        r.size.width,
-        r.size.height,
-        r.a.stride,
-        r.b.stride,
-        r.size.depth,
-        FRAME,
-        plane,
-    )
+fn ask(r: Row, plane: u32) -> Result<SquaredError, Refusal> {
+    if r.wide {
+        psnr::squared_error(r.parts(&table::WORDS), FRAME, plane)
+    } else {
+        psnr::squared_error(r.parts(&table::BYTES), FRAME, plane)
+    }
 }
 
 fn record_is(s: Record, r: Row) -> bool {
@@ -47,14 +25,6 @@ fn record_is(s: Record, r: Row) -> bool {
         && s.sample_max as usize == sample_max
         && s.frame == FRAME
         && s.plane == MOST_PLANE
-}
-
-fn ask(r: Row, plane: u32) -> Result<SquaredError, Refusal> {
-    if r.size.wide {
-        ask16(r, plane)
-    } else {
-        ask8(r, plane)
-    }
 }
 
 // "Identical" belongs to an error of 0 and to no other.

@@ -1,6 +1,6 @@
 // The largest table. A row asks for a call on two planes, and has the answer.
 use crate::{hvs_rows, msssim_rows, planes, psnr_rows, ssim_rows, table, tell};
-use plane::Size;
+use plane::{Format, Pair, Plane};
 use refusal::Refusal;
 use std::io;
 use std::num::TryFromIntError;
@@ -17,10 +17,11 @@ pub struct Lent {
     pub end: usize,
 }
 
-// Two planes; three numbers more, which are the family's too; the answer; and where in the list its scores begin.
-#[derive(Clone, Copy)]
+// Words or bytes; two planes; three numbers more, which are the family's too; the answer; and where in the list its scores begin.
+#[derive(Clone, Copy, Debug, PartialEq, Eq)]
 pub struct Row {
-    pub size: Size,
+    pub wide: bool,
+    pub format: Format,
     pub a: Lent,
     pub b: Lent,
     pub told: [usize; 3],
@@ -29,6 +30,36 @@ pub struct Row {
 }
 
 impl Row {
+    fn of<'a, S>(self, a: &'a [S], b: &'a [S]) -> Pair<'a, S> {
+        Pair {
+            format: self.format,
+            a: Plane {
+                samples: a,
+                stride: self.a.stride,
+            },
+            b: Plane {
+                samples: b,
+                stride: self.b.stride,
+            },
+        }
+    }
+
+    // The planes that are parts of a list, from `from` up to `end`.
+    pub fn parts<S>(self, list: &[S]) -> Pair<'_, S> {
+        self.of(
+            tell::part_of(list, self.a.from..self.a.end),
+            tell::part_of(list, self.b.from..self.b.end),
+        )
+    }
+
+    // The planes that two lists begin with, up to `end`.
+    pub fn fronts<'a, S>(self, a: &'a [S], b: &'a [S]) -> Pair<'a, S> {
+        self.of(
+            tell::part_of(a, 0..self.a.end),
+            tell::part_of(b, 0..self.b.end),
+        )
+    }
+
     // Whether an answer is the row's: a refusal by its number, or scores as they stand in the list.
     pub fn has<const N: usize>(self, answer: Result<[f64; N], Refusal>) -> bool {
         match answer {
@@ -60,8 +91,8 @@ impl TryFrom<[usize; ROW]> for Row {
             at,
         ] = row;
         Ok(Row {
-            size: Size {
-                wide: wide != 0,
+            wide: wide != 0,
+            format: Format {
                 width,
                 height,
                 depth: u32::try_from(depth)?,

@@ -1,6 +1,7 @@
 -- What the leaves of the two walks promise each other. Definitions only.
-use Rattle.std.specs.Prelude.{◌≡◌, ◌≢◌, Bool, List, ℕ, ◌*◌, ◌^◌, ◌<◌, eqb, length}
+use Rattle.std.specs.Prelude.{◌≡◌, ◌≢◌, Bool, List, ℕ, ◌*◌, ◌<◌, eqb, length}
 use Rattle.plane.specs.Plane.{at, all_to}
+use Rattle.psnr.specs.Inner.Walk.{word_most}
 use Rattle.locate.specs.Map.{tile_side}
 
 -- the first n samples of two rows agree
@@ -15,6 +16,6 @@ AlikeBelow a b n = (k : ℕ) → k < n → at a k ≡ at b k
 abbrev pub FirstApart : List ℕ → List ℕ → ℕ → Type 0
 FirstApart a b x = (x < length a) × (at a x ≢ at b x) × AlikeBelow a b x
 
--- more than the squared error of one row of a tile can be
+-- the largest squared error of one row of a tile
 abbrev pub piece_most : ℕ
-piece_most = tile_side * 2 ^ 32
+piece_most = tile_side * (word_most * word_most)

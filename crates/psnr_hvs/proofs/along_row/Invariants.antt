@@ -6,4 +6,4 @@ use Rattle.plane.specs.Inner.Seen.{planes}
 use Rattle.psnr_hvs.proofs.along_row.Given as goal
 
 abbrev pub invariant-loop-x : goal.invariant-loop-x
-invariant-loop-x g l = (l.x ≤ l.n) × (l.s ≡ along_row (planes g.S.Sample.value g.S.Stored.WIDE l.p) l.y l.csf l.mask l.so_far l.x)
+invariant-loop-x g l = (l.x ≤ l.n) × (l.s ≡ along_row (planes g.S.Sample.value g.S.Stored.WIDE l.p) l.y l.tables.csf l.tables.mask l.so_far l.x)

@@ -52,6 +52,6 @@ returns g c = rw (
   c.blocks_per_side-2.ensures,
   c.blocks_per_side.ensures,
   c.down_rows-sum.ensures,
-  c.masks-mask.ensures,
-  c.csf_of-csf.ensures,
+  c.tables_of-tables.ensures.mask_value,
+  c.tables_of-tables.ensures.csf_value,
 )
