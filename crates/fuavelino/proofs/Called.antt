@@ -22,7 +22,7 @@ called_is wide a b width height stride_a stride_b depth = rw (map-id, map-id) re
 pub contest_is : (wide : Bool) (o a b : Bor (List ℕ)) (width height stride_o stride_a stride_b depth : ℕ)
     → contested wide o a b width height stride_o stride_a stride_b depth
     ≡ contest_of (λ (x : ℕ). x) wide (record { width = width; height = height; depth = depth }) (record { samples = o; stride = stride_o })
-      (record { samples = a; stride = stride_a }) (record { samples = b; stride = stride_b })
+    (record { samples = a; stride = stride_a }) (record { samples = b; stride = stride_b })
 unfolding contested
 contest_is wide o a b width height stride_o stride_a stride_b depth = rw (map-id, map-id, map-id) refl
 

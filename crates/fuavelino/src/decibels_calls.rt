@@ -9,11 +9,7 @@ use refusal::Refusal;
 
 // Writes the hundredths, and whether they stand for "identical", where there are any.
 #[tactic(auto, unfolding(decibels::specs::Said::identical_hundredths, psnr::specs::Said::identical_decibels))]
-fn put_decibels(
-    answer: Result<Decibels, Refusal>,
-    hundredths: &mut u32,
-    identical: &mut u8,
-) -> u8
+fn put_decibels(answer: Result<Decibels, Refusal>, hundredths: &mut u32, identical: &mut u8) -> u8
     ensures { (result ≡ decibels_number answer)
         × (hundredths.new ≡ hundredths_written answer hundredths.old)
         × (identical.new ≡ identical_written answer identical.old) }

@@ -62,9 +62,10 @@ fn pair<'a, S>(
     depth: u32,
 ) -> Pair<'a, S>
     ensures { result ≡ (record {
-        format = record { width = width; height = height; depth = depth };
-        a = record { samples = a.entry; stride = stride_a };
-        b = record { samples = b.entry; stride = stride_b } }) }
+      format = record { width = width; height = height; depth = depth };
+      a = record { samples = a.entry; stride = stride_a };
+      b = record { samples = b.entry; stride = stride_b };
+    }) }
 {
     let format = Format {
         width,
@@ -126,10 +127,7 @@ pub extern "C" fn fuavelino_check8(
 ) -> u8
     ensures { result ≡ answer_number (pair_refusal (called false a.entry b.entry width height stride_a stride_b depth) least) }
 {
-    number_of(plane::check(
-        pair(a, b, width, height, stride_a, stride_b, depth),
-        least,
-    ))
+    number_of(plane::check(pair(a, b, width, height, stride_a, stride_b, depth), least))
 }
 
 // The same of words.
@@ -147,8 +145,5 @@ pub extern "C" fn fuavelino_check16(
 ) -> u8
     ensures { result ≡ answer_number (pair_refusal (called true a.entry b.entry width height stride_a stride_b depth) least) }
 {
-    number_of(plane::check(
-        pair(a, b, width, height, stride_a, stride_b, depth),
-        least,
-    ))
+    number_of(plane::check(pair(a, b, width, height, stride_a, stride_b, depth), least))
 }

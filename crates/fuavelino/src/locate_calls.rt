@@ -9,9 +9,9 @@ ghost use Rattle.fuavelino.specs.Locate.{differs_written, row_written, column_wr
 ghost use Rattle.fuavelino.specs.Locate.{across_written, down_written};
 
 use crate::pair;
-use plane::Pair;
-use psnr::walk::Compared;
+use locate::map::Tiled;
 use locate::{Place, Tiles};
+use plane::Pair;
 use refusal::Refusal;
 
 // Writes the place where there is one, and whether there is one.
@@ -112,12 +112,7 @@ fn put_tiles(answer: Result<Tiles, Refusal>, across: &mut usize, down: &mut usiz
 }
 
 // The squared error of each tile of two planes, to the first places of `map`: 0 and what is written, or the number of the refusal.
-fn error_map<S: Compared>(
-    p: Pair<'_, S>,
-    map: &mut [u64],
-    across: &mut usize,
-    down: &mut usize,
-) -> u8
+fn error_map<S: Tiled>(p: Pair<'_, S>, map: &mut [u64], across: &mut usize, down: &mut usize) -> u8
     ensures value { result ≡ answer_number (mapped_of (planes S.Sample.value S.WIDE p.entry) map.old) }
     ensures map_after { map.new ≡ map_after (planes S.Sample.value S.WIDE p.entry) map.old }
     ensures across_after { (across.new ≡ across_written (mapped_of (planes S.Sample.value S.WIDE p.entry) map.old) across.old)

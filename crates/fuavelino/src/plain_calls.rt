@@ -30,10 +30,7 @@ pub extern "C" fn fuavelino_plain_ssim8(
         × (cs.new ≡ cs_written
         (plain_of (called false a.entry b.entry width height stride_a stride_b depth) kernel.now) cs.old) }
 {
-    let answer = plain::score(
-        pair(a, b, width, height, stride_a, stride_b, depth),
-        kernel,
-    );
+    let answer = plain::score(pair(a, b, width, height, stride_a, stride_b, depth), kernel);
     put_pair(answer, ssim, cs)
 }
 
@@ -59,9 +56,6 @@ pub extern "C" fn fuavelino_plain_ssim16(
         × (cs.new ≡ cs_written
         (plain_of (called true a.entry b.entry width height stride_a stride_b depth) kernel.now) cs.old) }
 {
-    let answer = plain::score(
-        pair(a, b, width, height, stride_a, stride_b, depth),
-        kernel,
-    );
+    let answer = plain::score(pair(a, b, width, height, stride_a, stride_b, depth), kernel);
     put_pair(answer, ssim, cs)
 }
