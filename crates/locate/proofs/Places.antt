@@ -22,14 +22,6 @@ use Rattle.locate.specs.Inner.Walk.{alike_to, AlikeBelow, FirstApart}
 
 -- ---- counted up, one column and one row more
 module _ (f : ℕ → ℕ → Bool) where
-  pub along_none : (y : ℕ) → along_to f y 0 ≡ None
-  unfolding along_to
-  along_none y = refl
-
-  pub along_more : (y x : ℕ) → along_to f y x ≡ None → f y x ≡ false → along_to f y (x + 1) ≡ None
-  unfolding along_to
-  along_more y x e g = rw (add-one, e, g)
-
   pub down_none : (width : ℕ) → down_to f width 0 ≡ None
   unfolding down_to
   down_none width = refl
@@ -71,7 +63,7 @@ unlike m n h = rw (ne_eqb m n h)
 
 -- ---- two rows
 module _ (a b : List ℕ) where
-  pub alike_none : alike_to a b 0 ≡ true
+  alike_none : alike_to a b 0 ≡ true
   unfolding alike_to
   alike_none = all_none _
 
@@ -80,7 +72,7 @@ module _ (a b : List ℕ) where
   alike_more x = all_more _ x
 
   -- one place more
-  pub alike_next : (x : ℕ) {ok : Bool} {m n : ℕ} → ok ≡ alike_to a b x → m ≡ at a x → n ≡ at b x → (ok && eqb m n) ≡ alike_to a b (x + 1)
+  alike_next : (x : ℕ) {ok : Bool} {m n : ℕ} → ok ≡ alike_to a b x → m ≡ at a x → n ≡ at b x → (ok && eqb m n) ≡ alike_to a b (x + 1)
   alike_next x e f g = rw (alike_more x, e, f, g)
 
 pub ruleset alike_steps = (alike_none, alike_next)

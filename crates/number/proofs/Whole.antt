@@ -83,7 +83,7 @@ whole_le n s t a b = go (dec_le s t)
         let p : (t + 1) * (t + 1) ≤ s * s = mul-le-mul h h in
         omega (arith, a.within, b.beyond)
 
-pub whole_only : (n s t : ℕ) → Whole n s → Whole n t → s ≡ t
+whole_only : (n s t : ℕ) → Whole n s → Whole n t → s ≡ t
 whole_only n s t a b = le_antisymm (whole_le n s t a b) (whole_le n t s b a)
 
 -- from n / 4's root q, 2q or the next number up
@@ -134,11 +134,11 @@ nearest_is d n s p h c = near_only n s _ c (rounded_near n _ p (whole_says d n h
 
 -- ---- how the search ends
 
-pub round_up : (n s : ℕ) → s * (s + 1) < n → rounded n s ≡ s + 1
+round_up : (n s : ℕ) → s * (s + 1) < n → rounded n s ≡ s + 1
 unfolding rounded
 round_up n s l = rw (le-ltb (4 * n) ((2 * s + 1) * (2 * s + 1)) (omega (arith, above_square s)))
 
-pub round_stay : (n s : ℕ) → n ≤ s * (s + 1) → rounded n s ≡ s
+round_stay : (n s : ℕ) → n ≤ s * (s + 1) → rounded n s ≡ s
 unfolding rounded
 round_stay n s l = rw (lt-ltb (4 * n) ((2 * s + 1) * (2 * s + 1)) (omega (arith, above_square s)))
 
@@ -154,13 +154,6 @@ module _ (n s : ℕ) (h : n < 4 ^ 53) (within : s * s ≤ n) (beyond : n < (s + 
   pub nearest_stay : n ≤ s * (s + 1) → s ≡ nearest_root 53 n
   unfolding nearest_root
   nearest_stay l = sym (round_stay n s l) ∙ ap (rounded n) is_whole
-
-pub whole_lt : (n s b : ℕ) → Whole n s → n < b * b → s < b
-whole_lt n s b c h = go (dec_lt s b)
-  where
-    go : Dec (s < b) → s < b
-    go (yes l) = l
-    go (no l) = let k : b ≤ s = omega arith in omega (arith, mul-le-mul k k, c.within)
 
 -- ---- the root of m * 2 ^ (52 + odd), for an m of 53 digits, has 53 digits
 

@@ -88,12 +88,6 @@ ltb_same a b c d f g = go (dec_lt a b)
 
 -- what a call that compares says of the numbers that its words are
 module _ {r : Bool} {a b c d : ℕ} (e : r ≡ ltb a b) (p : a ≡ c) (q : b ≡ d) where
-  pub said_less : r ≡ true → c < d
-  said_less t = ltb-true c d (rw (← p, ← q) (sym e ∙ t))
-
-  pub said_not : r ≡ false → d ≤ c
-  said_not t = ltb-false c d (rw (← p, ← q) (sym e ∙ t))
-
 module _ (P a b c d : ℕ) where
   pub same_high : a ≡ c → ltb b d ≡ ltb (a * P + b) (c * P + d)
   same_high e = rw e (ltb_same b d (c * P + b) (c * P + d) (λ l. omega arith) (λ l. omega arith))

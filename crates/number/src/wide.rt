@@ -1,4 +1,4 @@
-// Whole numbers of up to 128 bits, in two words.
+// Whole numbers of up to 128 bits, in two words. The library counts in `u128` now; this stays for the promise that one of its must-fail edits tests.
 ghost use Rattle.std.specs.Prelude.{◌≡◌, ◌*◌, ◌^◌, ◌<◌, nat_lt};
 ghost use Rattle.number.specs.Inner.Wide.{value_of};
 

@@ -1,4 +1,4 @@
-pub mod Parts
+mod Parts
 pub mod Rows
 pub mod Accept
 pub mod Laws

@@ -41,7 +41,7 @@ pair true false true false = refl
 pair true false true true = refl
 pair true true true k = refl
 
-pub lent_both : (size : Size) (p q : Plane) (more : List Plane) → first_broken (lent_tests size (p ∷ q ∷ more))
+lent_both : (size : Size) (p q : Plane) (more : List Plane) → first_broken (lent_tests size (p ∷ q ∷ more))
     ≡ lower_of (first_broken (lent_tests size (p ∷ []))) (first_broken (lent_tests size (q ∷ more)))
 unfolding lent_tests
 lent_both size p q more = simp and-true (pair (stride_suits size.width p.stride) (long_enough size p) _ _)

@@ -27,11 +27,6 @@ module _ (plane : ℕ) where
   refusal_in_parts : (p : Planes) → squared_error_refusal p plane ≡ unless_refused (pair_refusal p 0) (first_broken own)
   refusal_in_parts p = together (pair_tests p 0) own
 
-  -- and the planes' is that of 1 to 5, and then that of 6
-  pub refusal_by : (p : Planes) → squared_error_refusal p plane ≡ unless_refused
-      (unless_refused (unread_refusal p 0) (unless (samples_suit p.size p.a && samples_suit p.size p.b) no.Sample (Ok tt))) (first_broken own)
-  refusal_by p = refusal_in_parts p ∙ ap (λ (v : Verdict). unless_refused v (first_broken own)) (pair_by p 0)
-
   module _ (p : Planes) where
     pub planes_refuse : {r : Refusal} → pair_refusal p 0 ≡ Err r → squared_error_refusal p plane ≡ Err r
     planes_refuse e = stop (pair_tests p 0) own e

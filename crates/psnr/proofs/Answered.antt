@@ -21,7 +21,7 @@ module _ (p : Planes) where
 
   module _ (e : unread_refusal p 0 ≡ Ok tt) where
     -- 6 does
-    pub on_walk : {r : Refusal} → Err r ≡ walked_of p → pair_refusal p 0 ≡ Err r
+    on_walk : {r : Refusal} → Err r ≡ walked_of p → pair_refusal p 0 ≡ Err r
     on_walk w = let found = whole_breaks p w in pair_by p 0 ∙ rw (e, found.0, found.1) refl
 
     -- none does

@@ -196,7 +196,7 @@ next_square m =
     let l : m ≤ m + 1 = omega arith in
     lt_of_le_of_lt (mul-le-mul (le_refl m) l) (mul-lt-mul_of_pos_right {m = m} {n = m + 1} {k = m + 1} (omega arith) (omega arith))
 
-pub depth_half : {depth : ℕ} → depth ≤ most_depth true → 2 * depth ≤ 32
+depth_half : {depth : ℕ} → depth ≤ most_depth true → 2 * depth ≤ 32
 unfolding most_depth
 depth_half l = omega arith
 

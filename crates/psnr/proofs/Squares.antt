@@ -12,14 +12,6 @@ use Rattle.psnr.specs.Inner.Walk.{Walkable, squares_from}
 
 -- ---- a sum counted up
 module _ (a b : List ℕ) (i j : ℕ) where
-  pub squares_none : squares_from a b i j 0 ≡ 0
-  unfolding squares_from
-  squares_none = sum_none _
-
-  pub squares_more : (x : ℕ) → squares_from a b i j (x + 1) ≡ squares_from a b i j x + square_of (at a (i + x)) (at b (j + x))
-  unfolding squares_from
-  squares_more x = sum_more _ x
-
 module _ (p : Planes) where
   pub error_none : error_to p 0 ≡ 0
   unfolding error_to

@@ -70,7 +70,7 @@ module _ {S : Type 0} (value : S → ℕ) (wide : Bool) (p : two.Pair S) (y : �
         (one ∙ sym other, rw one r.width_most, (depth_says wide p.format.depth r.depth_suits_lem).1)
 
     -- and what is found in them is what is found in row y
-    pub row_walked_lem : row_walked p.format.depth (map value first) (map value second) (length first) ≡ walked_at (planes value wide p) y
+    row_walked_lem : row_walked p.format.depth (map value first) (map value second) (length first) ≡ walked_at (planes value wide p) y
     unfolding row_walked walked_at row_suits row_error squares_in
     row_walked_lem =
         let top = max_of p.format.depth in

@@ -1,5 +1,5 @@
 pub mod Powers
-pub mod Same
+mod Same
 pub mod Accept
 pub mod Asked
 pub mod Idle

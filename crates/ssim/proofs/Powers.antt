@@ -14,11 +14,11 @@ use Rattle.kernel.proofs.Says.{taps_room}
 use Rattle.number.specs.Steps.{fold_to}
 use Rattle.ssim.specs.Scratch.{doubled_below, next_power}
 
-pub doubled_below_lem : (n p : ℕ) → p < n → doubled_below n p ≡ 2 * p
+doubled_below_lem : (n p : ℕ) → p < n → doubled_below n p ≡ 2 * p
 unfolding doubled_below
 doubled_below_lem n p l = rw (lt-ltb p n l)
 
-pub doubled_there : (n p : ℕ) → n ≤ p → doubled_below n p ≡ p
+doubled_there : (n p : ℕ) → n ≤ p → doubled_below n p ≡ p
 unfolding doubled_below
 doubled_there n p l = rw (le-ltb p n l)
 

@@ -9,10 +9,6 @@ use Rattle.plane.specs.Inner.Seen.{planes}
 use Rattle.plane.specs.Inner.Lawful.{Bounded}
 use Rattle.window.specs.Inner.Columns.{on_grid, gridded}
 
--- the planes of a call are read as they are
-pub grid_same : {S : Type 0} (value : S → ℕ) (wide : Bool) (p : two.Pair S) → on_grid value p ≡ gridded (planes value wide p)
-grid_same value wide p = refl
-
 -- what is below one bound is below a larger one
 pub bounded_most : {most more width height : ℕ} {p : Plane} → Bounded most width height p → most ≤ more → Bounded more width height p
 bounded_most h l = record { long = h.long; small = λ r c k m. le_trans (h.small r c k m) l }

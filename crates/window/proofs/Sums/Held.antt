@@ -147,9 +147,6 @@ zero_at s n e j = go (dec_lt j n)
     go (yes l) = rw e (get_or-replicate n j (pos 0) (pos 0) l)
     go (no l) = rw e (get_or-eq_default (replicate n (pos 0)) (pos 0) (omega (arith, length-replicate n (pos 0))))
 
-pub margins_zero : (s : List ℤ) (n : ℕ) (ker : List ℕ) (width : ℕ) → s ≡ replicate n (pos 0) → Margins s ker width
-margins_zero s n ker width e = record { left = λ j l. zero_at s n e j; right = λ j l. zero_at s n e j }
-
 -- ---- one column more, after those before it
 module _ (ker : List ℕ) (height : ℕ) (a b : ℕ → ℕ → ℕ) (y x : ℕ) where
   pub holds_more : (s s' : List ℤ) (t : FiveSums)
