@@ -31,6 +31,14 @@ pub struct Ring {
     pub lines: usize,
 }
 
+// What the centres are scored by: the ring, the kernel, and the square of sample_max.
+#[derive(Clone, Copy)]
+pub struct Scoring<'a> {
+    pub ring: Ring,
+    pub kernel: &'a [u16],
+    pub max2: f64,
+}
+
 // The pairs of two rows of samples, to the places from `to` on.
 #[tactic(auto, using(window::proofs::Sums::Stores::put_none))]
 fn store_pairs<S: Sample>(first: &[S], second: &[S], to: usize, s: &mut [i64])
@@ -97,8 +105,8 @@ fn turn(from: usize, upto: usize, lines: usize) -> usize
     from + lines.min(upto - from)
 }
 
-// The five sums down column x of the ring, the middle in row y: the taps up to the ring's last line, then the others from its first, so that
-// the walk itself neither divides nor looks where it is.
+// The five sums down column x of the ring, the middle in row y: the taps up to the ring's last line, then the others from its first, so
+// that the walk itself neither divides nor looks where it is.
 fn column(s: &[i64], ring: Ring, kernel: &[u16], x: usize, y: usize) -> FiveSums
     requires x_lt_width { (x < ring.width) × (y < ring.height) × (ring.height ≤ side_limit) }
     requires kernel_len_bound { (length kernel.now ≤ ring.lines) × (ring_places ring ≤ length s.now) }
@@ -125,8 +133,8 @@ fn column(s: &[i64], ring: Ring, kernel: &[u16], x: usize, y: usize) -> FiveSums
 
 // The sums of every column of the ring, the middle in row y, to the places from `to` on, past the ring.
 fn fill(ring: Ring, kernel: &[u16], y: usize, to: usize, s: &mut [i64])
-    requires y_lt_height { (y < ring.height) × (ring.height ≤ side_limit) × (length kernel.now ≤ ring.lines) × (ring_places ring ≤ to)
-        × (to + 5 * ring.width ≤ length s.old) }
+    requires y_lt_height { (y < ring.height) × (ring.height ≤ side_limit) × (length kernel.now ≤ ring.lines)
+        × (ring_places ring ≤ to) × (to + 5 * ring.width ≤ length s.old) }
     requires kernel { Kernel kernel.now }
     ensures { Put s.old s.new to (5 * ring.width) (column_at kernel.now ring.height
         (ring_a s.old ring.width ring.lines) (ring_b s.old ring.width ring.lines) y) }
@@ -139,16 +147,19 @@ fn fill(ring: Ring, kernel: &[u16], y: usize, to: usize, s: &mut [i64])
 }
 
 // The centres of row y, scored from the ring. The places past it are zero again afterwards.
-fn score_row(ring: Ring, kernel: &[u16], y: usize, max2: f64, t: Totals, s: &mut [i64]) -> Totals
-    requires y_lt_height { (y < ring.height) × (ring.width ≤ side_limit) × (ring.height ≤ side_limit) }
-    requires roomy { Roomy ring kernel.now (length s.old) }
-    requires clean { Clean ring s.old }
-    requires kernel { Kernel kernel.now }
-    requires lent_total_value { lent_total ≡ sum_to (tap kernel.now) (length kernel.now) }
-    ensures value { result ≡ row_of max2 (λ (x : ℕ). moments_at kernel.now ring.width ring.height
-        (ring_a s.old ring.width ring.lines) (ring_b s.old ring.width ring.lines) x y) t ring.width }
+fn score_row(by: Scoring<'_>, y: usize, t: Totals, s: &mut [i64]) -> Totals
+    requires y_lt_height { (y < by.ring.height) × (by.ring.width ≤ side_limit) × (by.ring.height ≤ side_limit) }
+    requires roomy { Roomy by.ring by.kernel.now (length s.old) }
+    requires clean { Clean by.ring s.old }
+    requires kernel { Kernel by.kernel.now }
+    requires lent_total_value { lent_total ≡ sum_to (tap by.kernel.now) (length by.kernel.now) }
+    ensures value { result ≡ row_of by.entry.max2 (λ (x : ℕ). moments_at by.entry.kernel.now by.entry.ring.width by.entry.ring.height
+        (ring_a s.old by.entry.ring.width by.entry.ring.lines) (ring_b s.old by.entry.ring.width by.entry.ring.lines) x y)
+        t by.entry.ring.width }
     ensures s_unchanged { s.new ≡ s.old }
 {
+    let ring = by.ring;
+    let kernel = by.kernel;
     let past = ring.lines * ring.width;
     let to = past + 5 * (kernel.len() / 2);
     let end = to + 5 * ring.width;
@@ -160,7 +171,7 @@ fn score_row(ring: Ring, kernel: &[u16], y: usize, max2: f64, t: Totals, s: &mut
         kernel,
         kernel::LENT_TOTAL,
         down,
-        max2,
+        by.max2,
         t,
     );
     walk::clear(&mut s[to..end]);
@@ -168,27 +179,20 @@ fn score_row(ring: Ring, kernel: &[u16], y: usize, max2: f64, t: Totals, s: &mut
 }
 
 // The centres of the rows from `from` up to `upto`.
-fn score_rows(
-    ring: Ring,
-    kernel: &[u16],
-    from: usize,
-    upto: usize,
-    max2: f64,
-    t: Totals,
-    s: &mut [i64],
-) -> Totals
-    requires from_le_upto { (from ≤ upto) × (upto ≤ ring.height) × (ring.width ≤ side_limit) × (ring.height ≤ side_limit) }
-    requires roomy { Roomy ring kernel.now (length s.old) }
-    requires clean { Clean ring s.old }
-    requires kernel { Kernel kernel.now }
-    requires lent_total_value { lent_total ≡ sum_to (tap kernel.now) (length kernel.now) }
-    ensures value { result ≡ rows_from max2 kernel.now ring.width ring.height
-        (ring_a s.old ring.width ring.lines) (ring_b s.old ring.width ring.lines) t from (upto - from) }
+fn score_rows(by: Scoring<'_>, from: usize, upto: usize, t: Totals, s: &mut [i64]) -> Totals
+    requires from_le_upto { (from ≤ upto) × (upto ≤ by.ring.height)
+        × (by.ring.width ≤ side_limit) × (by.ring.height ≤ side_limit) }
+    requires roomy { Roomy by.ring by.kernel.now (length s.old) }
+    requires clean { Clean by.ring s.old }
+    requires kernel { Kernel by.kernel.now }
+    requires lent_total_value { lent_total ≡ sum_to (tap by.kernel.now) (length by.kernel.now) }
+    ensures value { result ≡ rows_from by.entry.max2 by.entry.kernel.now by.entry.ring.width by.entry.ring.height
+        (ring_a s.old by.entry.ring.width by.entry.ring.lines) (ring_b s.old by.entry.ring.width by.entry.ring.lines) t from (upto - from) }
     ensures s_unchanged { s.new ≡ s.old }
 {
     let mut t = t;
     for y in from..upto {
-        t = score_row(ring, kernel, y, max2, t, s);
+        t = score_row(by, y, t, s);
     }
     t
 }
@@ -208,64 +212,60 @@ pub fn scored_after(r: usize, height: usize, off: usize) -> usize
 fn take_row<S: Stored>(
     p: Pair<'_, S>,
     i: usize,
-    ring: Ring,
-    kernel: &[u16],
+    by: Scoring<'_>,
     row: usize,
     from: usize,
     upto: usize,
-    max2: f64,
     t: Totals,
     s: &mut [i64],
 ) -> Totals
-    requires i_lt_height { (i < p.format.height) × (p.format.width ≡ ring.width) × (from ≤ upto) × (upto ≤ ring.height)
-        × (ring.width ≤ side_limit) × (ring.height ≤ side_limit) }
+    requires i_lt_height { (i < p.format.height) × (p.format.width ≡ by.ring.width) × (from ≤ upto) × (upto ≤ by.ring.height)
+        × (by.ring.width ≤ side_limit) × (by.ring.height ≤ side_limit) }
     requires long { Long (sized S.WIDE p.format) (seen S.Sample.value p.a) }
     requires long_2 { Long (sized S.WIDE p.format) (seen S.Sample.value p.b) }
-    requires roomy { Roomy ring kernel.now (length s.old) }
-    requires clean { Clean ring s.old }
-    requires kernel { Kernel kernel.now }
-    requires lent_total_value { lent_total ≡ sum_to (tap kernel.now) (length kernel.now) }
-    ensures value { result ≡ rows_from max2 kernel.now ring.width ring.height
-        (ring_a s.new ring.width ring.lines) (ring_b s.new ring.width ring.lines) t from (upto - from) }
-    ensures put { Put s.old s.new (row % ring.lines * ring.width) ring.width
+    requires roomy { Roomy by.ring by.kernel.now (length s.old) }
+    requires clean { Clean by.ring s.old }
+    requires kernel { Kernel by.kernel.now }
+    requires lent_total_value { lent_total ≡ sum_to (tap by.kernel.now) (length by.kernel.now) }
+    ensures value { result ≡ rows_from by.entry.max2 by.entry.kernel.now by.entry.ring.width by.entry.ring.height
+        (ring_a s.new by.entry.ring.width by.entry.ring.lines) (ring_b s.new by.entry.ring.width by.entry.ring.lines) t from (upto - from) }
+    ensures put { Put s.old s.new (row % by.entry.ring.lines * by.entry.ring.width) by.entry.ring.width
         (λ (x : ℕ). packed_of (sample_at (seen S.Sample.value p.entry.a) i x)
         (sample_at (seen S.Sample.value p.entry.b) i x)) }
 {
-    let to = row % ring.lines * ring.width;
+    let to = row % by.ring.lines * by.ring.width;
     store_row(p, i, to, s);
-    score_rows(ring, kernel, from, upto, max2, t, s)
+    score_rows(by, from, upto, t, s)
 }
 
 // Every row of a group, of which the first is row `received` of the whole.
 pub fn take_rows<S: Stored>(
     p: Pair<'_, S>,
-    ring: Ring,
-    kernel: &[u16],
+    by: Scoring<'_>,
     received: usize,
-    max2: f64,
     t: Totals,
     s: &mut [i64],
 ) -> Totals
-    requires height_bound { (received + p.format.height ≤ ring.height) × (p.format.width ≡ ring.width)
-        × (ring.width ≤ side_limit) × (ring.height ≤ side_limit) }
+    requires height_bound { (received + p.format.height ≤ by.ring.height) × (p.format.width ≡ by.ring.width)
+        × (by.ring.width ≤ side_limit) × (by.ring.height ≤ side_limit) }
     requires long { 0 < p.format.height → Long (sized S.WIDE p.format) (seen S.Sample.value p.a)
         × Long (sized S.WIDE p.format) (seen S.Sample.value p.b) }
-    requires roomy { Roomy ring kernel.now (length s.old) }
-    requires clean { Clean ring s.old }
-    requires kernel { Kernel kernel.now }
-    requires lent_total_value { lent_total ≡ sum_to (tap kernel.now) (length kernel.now) }
-    ensures { record { places = s.new; totals = result } ≡ taken_of max2 kernel.now ring
+    requires roomy { Roomy by.ring by.kernel.now (length s.old) }
+    requires clean { Clean by.ring s.old }
+    requires kernel { Kernel by.kernel.now }
+    requires lent_total_value { lent_total ≡ sum_to (tap by.kernel.now) (length by.kernel.now) }
+    ensures { record { places = s.new; totals = result } ≡ taken_of by.entry.max2 by.entry.kernel.now by.entry.ring
         (planes S.Sample.value S.WIDE p.entry) received
         (record { places = s.old; totals = t }) p.entry.format.height }
 {
-    let off = kernel.len() / 2;
-    let height = ring.height;
+    let off = by.kernel.len() / 2;
+    let height = by.ring.height;
     let mut t = t;
     for i in 0..p.format.height {
         let row = received + i;
         let from = scored_after(row, height, off);
         let upto = scored_after(row + 1, height, off);
-        t = take_row(p, i, ring, kernel, row, from, upto, max2, t, s);
+        t = take_row(p, i, by, row, from, upto, t, s);
     }
     t
 }

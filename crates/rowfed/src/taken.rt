@@ -16,7 +16,7 @@ ghost use Rattle.rowfed.specs.Inner.Sound.{SoundState, SoundFeed};
 use crate::{State, possible};
 use plane::{Pair, Stored};
 use refusal::Refusal;
-use row_ring::Ring;
+use row_ring::{Ring, Scoring};
 use ssim::{Totals, centre, walk};
 
 // The lowest of 4 5 6 that applies to the rows of a feed. No rows need no samples.
@@ -69,31 +69,29 @@ fn check<S: Stored>(p: Pair<'_, S>, state: State, lent: usize) -> Result<(), Ref
 // Rows into the places that are used: the ring as it stands, and zeros past it, whatever the caller left there.
 fn take<S: Stored>(
     p: Pair<'_, S>,
-    ring: Ring,
-    kernel: &[u16],
+    by: Scoring<'_>,
     received: usize,
-    max2: f64,
     t: Totals,
     used: &mut [i64],
 ) -> Totals
-    requires height_bound { (received + p.format.height ≤ ring.height) × (p.format.width ≡ ring.width)
-        × (ring.width ≤ side_limit) × (ring.height ≤ side_limit) }
+    requires height_bound { (received + p.format.height ≤ by.ring.height) × (p.format.width ≡ by.ring.width)
+        × (by.ring.width ≤ side_limit) × (by.ring.height ≤ side_limit) }
     requires long { 0 < p.format.height → Long (sized S.WIDE p.format) (planes S.Sample.value S.WIDE p).a
         × Long (sized S.WIDE p.format) (planes S.Sample.value S.WIDE p).b }
-    requires roomy { Roomy ring kernel.now (length used.old) }
-    requires kernel { Kernel kernel.now }
-    requires lent_total_value { lent_total ≡ sum_to (tap kernel.now) (length kernel.now) }
-    ensures { record { places = used.new; totals = result } ≡ taken_of max2 kernel.now ring
+    requires roomy { Roomy by.ring by.kernel.now (length used.old) }
+    requires kernel { Kernel by.kernel.now }
+    requires lent_total_value { lent_total ≡ sum_to (tap by.kernel.now) (length by.kernel.now) }
+    ensures { record { places = used.new; totals = result } ≡ taken_of by.entry.max2 by.entry.kernel.now by.entry.ring
         (planes S.Sample.value S.WIDE p.entry) received
         (record {
-          places = take (ring_places ring) used.old
-              ++ replicate (length used.old - ring_places ring) (pos 0);
+          places = take (ring_places by.entry.ring) used.old
+              ++ replicate (length used.old - ring_places by.entry.ring) (pos 0);
           totals = t;
         }) p.entry.format.height }
 {
-    let past = ring.lines * ring.width;
+    let past = by.ring.lines * by.ring.width;
     walk::clear(&mut used[past..]);
-    row_ring::take_rows(p, ring, kernel, received, max2, t, used)
+    row_ring::take_rows(p, by, received, t, used)
 }
 
 // The same of a state, whose kernel stands in the first `taps` of these places.
@@ -117,15 +115,12 @@ fn take_under<S: Stored>(
     };
     let used = ring.lines * ring.width + 5 * (state.width + 2 * (taps / 2));
     let max2 = centre::squared(plane::sample_max(state.depth));
-    take(
-        p,
+    let by = Scoring {
         ring,
-        &kernel[..taps],
-        state.rows,
+        kernel: &kernel[..taps],
         max2,
-        state.sums,
-        &mut scratch[..used],
-    )
+    };
+    take(p, by, state.rows, state.sums, &mut scratch[..used])
 }
 
 // The state with so many more rows, and these sums.

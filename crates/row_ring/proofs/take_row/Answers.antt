@@ -9,12 +9,12 @@ use Rattle.row_ring.proofs.take_row.Goals as goal
 
 pub overflow_mul-to : goal.overflow_mul-to
 overflow_mul-to g c =
-    let slot : c.args.row % c.args.ring.lines * c.args.ring.width + c.args.ring.width ≤ ring_places c.args.ring = slot_inside c.args.ring.width c.args.ring.lines c.args.row (ring_places c.args.ring) (omega arith) (le_refl _) in
+    let slot : c.args.row % c.args.by.ring.lines * c.args.by.ring.width + c.args.by.ring.width ≤ ring_places c.args.by.ring = slot_inside c.args.by.ring.width c.args.by.ring.lines c.args.row (ring_places c.args.by.ring) (omega arith) (le_refl _) in
     omega (arith, slot)
 
 pub store_row-requires : goal.store_row-requires
 store_row-requires g c =
-    let slot : c.args.row % c.args.ring.lines * c.args.ring.width + c.args.ring.width ≤ ring_places c.args.ring = slot_inside c.args.ring.width c.args.ring.lines c.args.row (ring_places c.args.ring) (omega arith) (le_refl _) in
+    let slot : c.args.row % c.args.by.ring.lines * c.args.by.ring.width + c.args.by.ring.width ≤ ring_places c.args.by.ring = slot_inside c.args.by.ring.width c.args.by.ring.lines c.args.row (ring_places c.args.by.ring) (omega arith) (le_refl _) in
     record {
       i_lt_height = omega (arith, slot);
       long = c.requires.long;
@@ -23,7 +23,7 @@ store_row-requires g c =
 
 pub score_rows-requires : goal.score_rows-requires
 score_rows-requires g c =
-    let slot : c.args.row % c.args.ring.lines * c.args.ring.width + c.args.ring.width ≤ ring_places c.args.ring = slot_inside c.args.ring.width c.args.ring.lines c.args.row (ring_places c.args.ring) (omega arith) (le_refl _) in
+    let slot : c.args.row % c.args.by.ring.lines * c.args.by.ring.width + c.args.by.ring.width ≤ ring_places c.args.by.ring = slot_inside c.args.by.ring.width c.args.by.ring.lines c.args.row (ring_places c.args.by.ring) (omega arith) (le_refl _) in
     let r = c.store_row in
     record {
       from_le_upto = omega arith;

@@ -24,7 +24,7 @@ overflow_add-row-in-loop-i g c = omega (arith, side_small)
 pub take_row-t-requires : goal.take_row-t-requires
 take_row-t-requires g c =
     let l = c.loop-i in
-    let off = length c.args.kernel.now / 2 in
+    let off = length c.args.by.kernel.now / 2 in
     let row = c.args.received + l.i in
     let long = c.requires.long (omega arith) in
     record {
@@ -32,8 +32,8 @@ take_row-t-requires g c =
         arith,
         c.scored_after-from.ensures,
         c.scored_after-upto.ensures,
-        scored_grows row c.args.ring.height off (omega arith),
-        scored_most (row + 1) c.args.ring.height off (omega arith),
+        scored_grows row c.args.by.ring.height off (omega arith),
+        scored_most (row + 1) c.args.by.ring.height off (omega arith),
       );
       long = long.0;
       long_2 = long.1;
@@ -50,9 +50,9 @@ pub loop-i-preserved : goal.loop-i-preserved
 loop-i-preserved g c =
     let group : Planes = planes g.S.Sample.value g.S.Stored.WIDE c.args.p in
     let before : Kept = record { places = c.args.s.now; totals = c.args.t } in
-    let some-lines : 0 < c.args.ring.lines = omega (arith, c.requires.roomy.0, c.requires.kernel.odd) in
+    let some-lines : 0 < c.args.by.ring.lines = omega (arith, c.requires.roomy.0, c.requires.kernel.odd) in
     let l = c.loop-i in
-    let ring = c.args.ring in
+    let ring = c.args.by.ring in
     let r = c.take_row-t in
     let new = r.new.s in
     let kept = r.auto.s in
@@ -62,7 +62,7 @@ loop-i-preserved g c =
       omega (arith, c.loop-i-test.true),
       kept ∙ l.invariant.1,
       λ j m. r.ensures.put.after j (omega (arith, low)) ∙ l.invariant.2 j m,
-      taken_more c.args.max2 c.args.kernel.now ring group c.args.received before l.i l.s new l.t _ _ _ l.invariant.3
+      taken_more c.args.by.max2 c.args.by.kernel.now ring group c.args.received before l.i l.s new l.t _ _ _ l.invariant.3
           r.ensures.put kept r.ensures.value c.scored_after-from.ensures c.scored_after-upto.ensures
           some (omega (arith, l.invariant.1, c.requires.roomy.1)),
     )

@@ -8,5 +8,5 @@ use Rattle.row_ring.specs.Inner.Places.{Clean}
 use Rattle.row_ring.proofs.take_rows.Given as goal
 
 abbrev pub invariant-loop-i : goal.invariant-loop-i
-invariant-loop-i g l = (l.i ≤ l.p.format.height) × (length l.s ≡ length l.initial.s) × Clean l.ring l.s
-    × (record { places = l.s; totals = l.t } ≡ taken_of l.max2 l.kernel l.ring (planes g.S.Sample.value g.S.Stored.WIDE l.p) l.received (record { places = l.initial.s; totals = l.initial.t }) l.i)
+invariant-loop-i g l = (l.i ≤ l.p.format.height) × (length l.s ≡ length l.initial.s) × Clean l.by.ring l.s
+    × (record { places = l.s; totals = l.t } ≡ taken_of l.by.max2 l.by.kernel.now l.by.ring (planes g.S.Sample.value g.S.Stored.WIDE l.p) l.received (record { places = l.initial.s; totals = l.initial.t }) l.i)

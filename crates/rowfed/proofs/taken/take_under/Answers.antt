@@ -26,8 +26,8 @@ overflow_add-used-2 g c =
     let f = c.requires.sound_feed in
     omega (arith, used_count c.args.state c.next_power.result c.args.state.kernel c.next_power.ensures refl f.state, f.state.used_few, f.lent_enough)
 
-pub slice_bounds-take-end-2 : goal.slice_bounds-take-end-2
-slice_bounds-take-end-2 g c =
+pub slice_bounds-take-end : goal.slice_bounds-take-end
+slice_bounds-take-end g c =
     let f = c.requires.sound_feed in
     omega (arith, used_count c.args.state c.next_power.result c.args.state.kernel c.next_power.ensures refl f.state, f.state.used_few, f.lent_enough)
 
