@@ -50,8 +50,8 @@ fn raise(peak: u128, error: u64) -> Raised
     Raised { error: held, power }
 }
 
-// The last place of the chart whose entry times the error is at most P units. The chart is lent, since a constant is laid out anew wherever it is
-// named: once a call, and not once a step.
+// The last place of the chart whose entry times the error is at most P units. The chart is lent, since a constant is laid out anew
+// wherever it is named: once a call, and not once a step.
 fn place(entries: &[u64; 1000], peak: u128, error: u128) -> usize
     requires entries_value { entries.now ≡ chart }
     requires error_bound { (1 ≤ error) × (error ≤ peak) × (peak < peak_limit) }
