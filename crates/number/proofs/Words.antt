@@ -86,8 +86,6 @@ ltb_same a b c d f g = go (dec_lt a b)
     go (yes l) = lt-ltb a b l ∙ sym (lt-ltb c d (f l))
     go (no l) = let h : b ≤ a = omega arith in le-ltb a b h ∙ sym (le-ltb c d (g h))
 
--- what a call that compares says of the numbers that its words are
-module _ {r : Bool} {a b c d : ℕ} (e : r ≡ ltb a b) (p : a ≡ c) (q : b ≡ d) where
 module _ (P a b c d : ℕ) where
   pub same_high : a ≡ c → ltb b d ≡ ltb (a * P + b) (c * P + d)
   same_high e = rw e (ltb_same b d (c * P + b) (c * P + d) (λ l. omega arith) (λ l. omega arith))
