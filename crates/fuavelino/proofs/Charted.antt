@@ -1,5 +1,5 @@
 -- Who hands on what the chart wrote is never told by SSIM that the kernel is unlawful. Assumes nothing.
-use mathlib.Core.Path.{◌≡◌, refl, sym, ◌∙◌}
+use mathlib.Core.Path.{◌≡◌, refl}
 use mathlib.Core.Bool.{Bool, true, false, ◌&&◌}
 use mathlib.Core.List.{List, [], ◌∷◌}
 use Prim.Native.Nat.{ℕ, ◌*◌}
@@ -8,7 +8,7 @@ use lib.Ieee.{Float}
 use lib.Ieee.Scale as Scale
 use lib.IntN.{ℤ}
 use lib.ListN.{length, take}
-use Rattle.std.specs.Prelude.{Result, Ok, Err}
+use Rattle.std.specs.Prelude.{Ok, Err}
 use Rattle.refusal.specs.declared.Refusal.{Refusal}
 use Rattle.refusal.specs.declared.Refusal.TheVariants as no
 use Rattle.refusal.specs.Numbers.{number_of}
@@ -19,7 +19,6 @@ use Rattle.plane.specs.Tests.{pair_tests}
 use Rattle.kernel.specs.Kernel.{lent_total, lawful}
 use Rattle.kernel_chart.specs.Chart.{kernel_of, chart_refusal, answer_by, charted_of, taps_after}
 use Rattle.kernel_chart.proofs.Lawful.{answered, written_lawful}
-use Rattle.ssim.specs.declared.Ssim.{Ssim}
 use Rattle.ssim.specs.Score.{totals_in}
 use Rattle.ssim.specs.Scratch.{scratch_places}
 use Rattle.ssim.specs.Answer.{lent_tests, pair_or9, ssim_score, ssim_refusal, ssim_of}

@@ -63,7 +63,7 @@ unlike m n h = rw (ne_eqb m n h)
 
 -- ---- two rows
 module _ (a b : List ℕ) where
-  alike_none : alike_to a b 0 ≡ true
+  pub alike_none : alike_to a b 0 ≡ true
   unfolding alike_to
   alike_none = all_none _
 
@@ -72,7 +72,7 @@ module _ (a b : List ℕ) where
   alike_more x = all_more _ x
 
   -- one place more
-  alike_next : (x : ℕ) {ok : Bool} {m n : ℕ} → ok ≡ alike_to a b x → m ≡ at a x → n ≡ at b x → (ok && eqb m n) ≡ alike_to a b (x + 1)
+  pub alike_next : (x : ℕ) {ok : Bool} {m n : ℕ} → ok ≡ alike_to a b x → m ≡ at a x → n ≡ at b x → (ok && eqb m n) ≡ alike_to a b (x + 1)
   alike_next x e f g = rw (alike_more x, e, f, g)
 
 pub ruleset alike_steps = (alike_none, alike_next)

@@ -20,11 +20,11 @@ use Rattle.locate.proofs.Sides.{begins, ends, length_most}
 
 -- a piece, counted up
 module _ (a b : List ℕ) where
-  piece_none : squares_in a b 0 ≡ 0
+  pub piece_none : squares_in a b 0 ≡ 0
   unfolding squares_in
   piece_none = sum_none _
 
-  piece_next : (x : ℕ) {sum square : ℕ} → sum ≡ squares_in a b x → square ≡ square_of (at a x) (at b x)
+  pub piece_next : (x : ℕ) {sum square : ℕ} → sum ≡ squares_in a b x → square ≡ square_of (at a x) (at b x)
       → sum + square ≡ squares_in a b (x + 1)
   unfolding squares_in
   piece_next x e f = rw (sum_more _ x, e, f)

@@ -1,6 +1,6 @@
 -- Numbers in two words: a product by halves, and the order. Assumes nothing.
 use Rattle.std.proofs.Common.{◌≡◌, ℕ, ◌+◌, ◌-◌, ◌*◌, ◌/◌, ◌%◌, ◌^◌, ◌<◌, ◌≤◌, Bool, true, false, ltb, sym, refl, ap, ◌∙◌, mul-le-mul_right}
-use Rattle.std.proofs.Common.{add-mul, mul-le-mul, lt_of_mul-lt-mul_right, div-add-mod', arith, ltb-false, ltb-true, le-ltb, lt-ltb}
+use Rattle.std.proofs.Common.{add-mul, mul-le-mul, lt_of_mul-lt-mul_right, div-add-mod', arith, le-ltb, lt-ltb}
 use Rattle.std.proofs.Common.{lit≤}
 use native.Mathlib.Decide.{dec_lt}
 use mir.Val.{bool_byte}

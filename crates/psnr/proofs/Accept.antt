@@ -1,15 +1,13 @@
 -- What holds where no test of the squared error refuses, and what the answer is where one does. Assumes nothing.
-use Rattle.std.proofs.Common.{◌≡◌, ℕ, Bool, true, false, ◌&&◌, List, [], ◌∷◌, Ok, Err, sym, refl, ap, ◌∙◌}
+use Rattle.std.proofs.Common.{◌≡◌, ℕ, Bool, true, false, List, [], ◌∷◌, Ok, Err, sym, refl, ◌∙◌}
 use Rattle.refusal.specs.declared.Refusal.{Refusal}
 use Rattle.refusal.specs.declared.Refusal.TheVariants as no
-use Rattle.refusal.specs.First.{Verdict, unless, first_broken, unless_refused}
+use Rattle.refusal.specs.First.{Verdict, first_broken, unless_refused}
 use Rattle.refusal.proofs.Chain.{halves, passed, stop, together}
 use Rattle.plane.specs.Plane.{Planes, both}
-use Rattle.plane.specs.Tests.{pair_tests, pair_refusal, samples_suit}
+use Rattle.plane.specs.Tests.{pair_tests, pair_refusal}
 use Rattle.plane.specs.Inner.Lawful.{AcceptedPair}
-use Rattle.plane.specs.Inner.Unread.{unread_refusal}
 use Rattle.plane.proofs.Accept.{accepted}
-use Rattle.plane.proofs.Unread.{pair_by}
 use Rattle.psnr.specs.Record.{plane_suits}
 use Rattle.psnr.specs.Squared.{squared_error_refusal}
 

@@ -1,13 +1,8 @@
 -- Planes as the sums read them: those of a call, and samples that are small enough. Assumes nothing.
-use mathlib.Core.Path.{◌≡◌, refl}
-use mathlib.Core.Bool.{Bool}
 use Prim.Native.Nat.{ℕ, ◌≤◌}
 use native.Mathlib.Nat.{le_trans}
-use Rattle.plane.specs.declared.Pair as two
 use Rattle.plane.specs.Plane.{Plane}
-use Rattle.plane.specs.Inner.Seen.{planes}
 use Rattle.plane.specs.Inner.Lawful.{Bounded}
-use Rattle.window.specs.Inner.Columns.{on_grid, gridded}
 
 -- what is below one bound is below a larger one
 pub bounded_most : {most more width height : ℕ} {p : Plane} → Bounded most width height p → most ≤ more → Bounded more width height p

@@ -1,5 +1,5 @@
 -- `probe::check` meets its contract: each way out is taken by the first test that fails. Assumes nothing.
-use mathlib.Core.Path.{◌≡◌, ◌∙◌}
+use mathlib.Core.Path.{◌≡◌}
 use mathlib.Core.Bool.{true, false}
 use Prim.Native.Nat.{◌*◌}
 use borrow.Author.Tests.{le-leb}

@@ -1,5 +1,5 @@
 -- `probe::probe_downscale` meets its contract: what the downscale asks is what the tests say. Assumes nothing.
-use Rattle.std.proofs.Common.{sym, ◌∙◌}
+use Rattle.std.proofs.Common.{sym}
 use Rattle.probe.proofs.Accept.{sound}
 use Rattle.probe.proofs.probe_downscale.Goals as goal
 

@@ -1,7 +1,6 @@
 -- `probe::probe_winner16` meets its contract: what is handed back is the winner. Assumes nothing.
-use Rattle.std.proofs.Common.{◌≡◌, true, length, refl, sym, ◌∙◌}
+use Rattle.std.proofs.Common.{true, refl, sym, ◌∙◌}
 use Rattle.std.proofs.lemmas.List.{map-id, get_or_default, get_or_past}
-use Rattle.probe.specs.Winner.{winning}
 use Rattle.probe.proofs.Winner.{winner_is}
 use Rattle.probe.proofs.probe_winner16.Goals as goal
 

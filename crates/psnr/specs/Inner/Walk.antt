@@ -1,5 +1,5 @@
 -- What the walk over two planes may count on, what it adds up in a row and in a part of one, and what it finds. Definitions only.
-use Rattle.std.specs.Prelude.{◌≡◌, ℕ, zero, suc, ◌+◌, ◌-◌, ◌*◌, ◌^◌, ◌≤◌, Bool, true, false, ◌&&◌, List, bit_or, Result, Ok, Err}
+use Rattle.std.specs.Prelude.{◌≡◌, ℕ, zero, suc, ◌-◌, ◌*◌, ◌^◌, ◌≤◌, Bool, true, false, ◌&&◌, List, bit_or, Result, Ok, Err}
 use Rattle.refusal.specs.declared.Refusal.{Refusal}
 use Rattle.refusal.specs.declared.Refusal.TheVariants as no
 use Rattle.plane.specs.Limits.{side_limit}
@@ -30,11 +30,7 @@ abbrev pub word_most : ℕ
 word_most = 65535
 
 -- ---- sums
--- the sum of (a - b)² over n samples, from place i of one plane on and from place j of the other
-unfoldable pub squares_from : List ℕ → List ℕ → ℕ → ℕ → ℕ → ℕ
-squares_from a b i j n = sum_to (λ (x : ℕ). square_of (at a (i + x)) (at b (j + x))) n
-
--- the same over the first n samples of two rows
+-- the sum of (a - b)² over the first n samples of two rows
 unfoldable pub squares_in : List ℕ → List ℕ → ℕ → ℕ
 squares_in a b n = sum_to (λ (x : ℕ). square_of (at a x) (at b x)) n
 

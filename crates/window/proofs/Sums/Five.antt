@@ -5,11 +5,10 @@ use Prim.Native.Nat.{ℕ, zero, suc, ◌+◌, ◌-◌, ◌*◌, ◌/◌, ◌≤�
 use native.Mathlib.Nat.{mul-le-mul, lt_of_le_of_lt, le_trans, le_refl}
 use native.Mathlib.Omega.{arith}
 use lib.Dec.{lit<, lit≤}
-use lib.IntN.{ℤ}
 use lib.ListN.{length}
 use Rattle.kernel.specs.Kernel.{tap, fixed_total}
 use Rattle.window.specs.Inner.Parts.{part_of, Kernel, quant_of, five_sums_of, nth, tapped_of, Room, parts_of}
-use Rattle.window.specs.Inner.Columns.{Fits, cell_of, ColumnSums}
+use Rattle.window.specs.Inner.Columns.{Fits}
 use Rattle.window.specs.Moments.{most_sample}
 use Rattle.window.specs.declared.FiveSums.{FiveSums}
 use Rattle.window.proofs.Sums.Windows.{part_more, part_first, part_last, part_room, part_le}
