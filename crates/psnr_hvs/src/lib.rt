@@ -38,6 +38,7 @@ fn along_row<S: Stored>(p: Pair<'_, S>, y: usize, tables: &Tables, so_far: f64) 
 {
     let n = blocks_per_side(p.format.width);
     let mut s = so_far;
+    // by number: a block stands seven samples after the one before, and no list holds them
     for x in 0..n {
         s = block::block_at(p, STEP * x, y, tables, s);
     }
@@ -53,6 +54,7 @@ fn down_rows<S: Stored>(p: Pair<'_, S>, tables: &Tables) -> f64
 {
     let n = blocks_per_side(p.format.height);
     let mut s = 0.0;
+    // by number: as in `along_row`
     for y in 0..n {
         s = along_row(p, STEP * y, tables, s);
     }

@@ -191,6 +191,7 @@ fn score_rows(by: Scoring<'_>, from: usize, upto: usize, t: Totals, s: &mut [i64
     ensures s_unchanged { s.new ≡ s.old }
 {
     let mut t = t;
+    // by number: a row of centres reads the lines of the ring around it
     for y in from..upto {
         t = score_row(by, y, t, s);
     }
@@ -261,6 +262,7 @@ pub fn take_rows<S: Stored>(
     let off = by.kernel.len() / 2;
     let height = by.ring.height;
     let mut t = t;
+    // by number: a row begins at i times each plane's own stride, and how many are scored follows from its number
     for i in 0..p.format.height {
         let row = received + i;
         let from = scored_after(row, height, off);
