@@ -8,13 +8,11 @@ use native.Mathlib.Nat.{add-zero, le_trans, le_of_lt}
 use native.Mathlib.Omega.{arith}
 use borrow.Author.Tests.{le-leb, eq-eqb}
 use lib.Dec.{leb}
-use Rattle.std.specs.Prelude.{Result, Ok, Err}
-use Rattle.refusal.specs.declared.Refusal.{Refusal}
+use Rattle.std.specs.Prelude.{Ok, Err}
 use Rattle.refusal.specs.First.{Verdict, unless_refused}
 use Rattle.number.specs.Steps.{double}
 use Rattle.psnr.specs.declared.Record.{Record}
 use Rattle.psnr.specs.declared.Total.{Total}
-use Rattle.psnr.specs.declared.Summed.{Summed}
 use Rattle.psnr.specs.Limits.{count_limit, record_limit, total_limit}
 use Rattle.psnr.specs.Record.{whole_of, is_whole, error_suits, record_suits, joins}
 use Rattle.psnr.specs.Series.{first_max, all_join, rising, run_suits, error_total, count_total, series_refusal, series_total, series_answer, series_of}
@@ -23,7 +21,6 @@ use Rattle.psnr.proofs.Numbers.{numbered, renumbered}
 use Rattle.psnr.proofs.Records.{product_fits, suits_count_suits, suits_max, suits_most}
 use Rattle.psnr.proofs.Totals.{Adds, series_adds}
 use Rattle.psnr.proofs.Whole.{whole_back}
-use Rattle.decibels.specs.declared.Decibels.{Decibels}
 use Rattle.decibels.specs.Hundredths.{peak_of}
 use Rattle.decibels.specs.Answer.{decibels_of, decibels_if, record_decibels, total_suits, total_decibels, summed_decibels, series_decibels}
 
@@ -53,35 +50,25 @@ module _ (rs : List Record) (a : Adds rs) where
   its_decibels = rw (total_suits_lem, its_error.1)
 
 -- what is made of a total error by its own case
-told : (E n max P : ℕ) → total_decibels (series_total E n max) ≡ Ok (decibels_of P E) → summed_decibels (series_answer E n max) ≡ Ok (decibels_of P E)
+told : (E n max P : ℕ) → total_decibels (series_total E n max) ≡ Ok (decibels_of P E) → summed_decibels (Ok (series_answer E n max)) ≡ Ok (decibels_of P E)
 unfolding summed_decibels
 told zero n max P e = rw e
 told (suc E) n max P e = rw e
 
 -- of what a series answered: a refusal is passed on
-abbrev pub passed_on : Result Summed Refusal → Result Decibels Refusal
-passed_on (Ok s) = summed_decibels s
-passed_on (Err r) = Err r
-
-pub series_summed : (rs : List Record) → passed_on (series_of rs) ≡ series_decibels rs
-unfolding series_of series_decibels
+pub series_summed : (rs : List Record) → summed_decibels (series_of rs) ≡ series_decibels rs
+unfolding series_of series_decibels summed_decibels
 series_summed rs = go (series_refusal rs) refl
   where
     go : (k : Verdict) → series_refusal rs ≡ k
-        → passed_on (unless_refused k (Ok (series_answer (error_total rs) (count_total rs) (first_max rs))))
+        → summed_decibels (unless_refused k (Ok (series_answer (error_total rs) (count_total rs) (first_max rs))))
         ≡ unless_refused k (Ok (decibels_of (peak_of (count_total rs) (first_max rs)) (error_total rs)))
     go (Ok _) e = told (error_total rs) (count_total rs) (first_max rs) _ (its_decibels rs (series_adds rs e))
     go (Err r) e = refl
 
-pub series_passed : (rs : List Record) {s : Summed} → Ok s ≡ series_of rs → summed_decibels s ≡ series_decibels rs
-series_passed rs e = ap passed_on e ∙ series_summed rs
-
-pub series_stopped : (rs : List Record) {r : Refusal} → Err r ≡ series_of rs → Err r ≡ series_decibels rs
-series_stopped rs e = ap passed_on e ∙ series_summed rs
-
 -- whose the records are does not count, where their numbers are right
 pub renumbered_decibels : (xs ys : List Record) → map figures_of xs ≡ map figures_of ys → numbered xs ≡ numbered ys → series_decibels xs ≡ series_decibels ys
-renumbered_decibels xs ys figures numbers = sym (series_summed xs) ∙ ap passed_on (renumbered xs ys figures numbers) ∙ series_summed ys
+renumbered_decibels xs ys figures numbers = sym (series_summed xs) ∙ ap summed_decibels (renumbered xs ys figures numbers) ∙ series_summed ys
 
 -- ---- a record is a run of one
 suits_below : (r : Record) → record_suits r ≡ true → whole_of r.sq_err ≤ total_limit

@@ -46,9 +46,10 @@ if_identical (Ok (Hundredths d)) = Err no.Record
 if_identical (Ok Identical) = Ok Identical
 if_identical (Err r) = Err r
 
-unfoldable pub summed_decibels : Summed → Result Decibels Refusal
-summed_decibels (summed.Differs t) = if_differs (total_decibels t)
-summed_decibels (summed.Identical t) = if_identical (total_decibels t)
+unfoldable pub summed_decibels : Result Summed Refusal → Result Decibels Refusal
+summed_decibels (Ok (summed.Differs t)) = if_differs (total_decibels t)
+summed_decibels (Ok (summed.Identical t)) = if_identical (total_decibels t)
+summed_decibels (Err r) = Err r
 
 -- ---- a run of records: 10 and 11 as of the series
 unfoldable pub series_decibels : List Record → Result Decibels Refusal

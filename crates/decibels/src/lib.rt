@@ -116,12 +116,12 @@ pub fn of_total(t: Total) -> Result<Decibels, Refusal>
     Ok(answer(peak_of(t.n, t.sample_max), t.sq_err as u64))
 }
 
-// Of what a series answered.
+// Of what a series answered; its refusal is passed on.
 #[tactic(auto, unfolding(crate::specs::Answer::summed_decibels))]
-pub fn of_summed(s: Summed) -> Result<Decibels, Refusal>
-    ensures { result ≡ summed_decibels s }
+pub fn of_summed(answer: Result<Summed, Refusal>) -> Result<Decibels, Refusal>
+    ensures { result ≡ summed_decibels answer }
 {
-    match s {
+    match answer? {
         Summed::Differs(t) => match of_total(t)? {
             Decibels::Hundredths(d) => Ok(Decibels::Hundredths(d)),
             Decibels::Identical => Err(Refusal::Record),
@@ -134,10 +134,9 @@ pub fn of_summed(s: Summed) -> Result<Decibels, Refusal>
 }
 
 // Of a lent run of records.
-#[tactic(auto, using(crate::proofs::Series::series_passed, crate::proofs::Series::series_stopped))]
+#[tactic(auto, using(crate::proofs::Series::series_summed))]
 pub fn of_series(records: &[Record]) -> Result<Decibels, Refusal>
     ensures { result ≡ series_decibels records.now }
 {
-    let total = psnr::series(records)?;
-    of_summed(total)
+    of_summed(psnr::series(records))
 }
