@@ -16,7 +16,6 @@ use Rattle.kernel.proofs.Computed.{computed}
 use Rattle.kernel.proofs.Says.{kernel_says}
 use Rattle.kernel_chart.specs.Rows.{Row, chart}
 use Rattle.kernel_chart.specs.Chart.{listed_in, taps_in, listed, kernel_of, chart_tests, chart_refusal, charted_of, taps_after}
-use Rattle.kernel_chart.specs.Inner.Flat.{kernels_in}
 use Rattle.kernel_chart.specs.Inner.Room.{room_refusal}
 use Rattle.kernel_chart.proofs.Answer.{unlisted_fourteen, listed_room}
 
@@ -36,6 +35,10 @@ chart_lawful = refl
 abbrev found_by : List Row → List (List ℕ)
 found_by [] = []
 found_by (row ∷ later) = kernel_of row.0 ∷ found_by later
+
+abbrev kernels_in : List Row → List (List ℕ)
+kernels_in [] = []
+kernels_in (row ∷ later) = row.1 ∷ kernels_in later
 
 pub rows_found : found_by chart ≡ kernels_in chart
 unfolding kernel_of chart

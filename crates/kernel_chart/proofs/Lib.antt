@@ -1,5 +1,3 @@
-mod Places
-mod Flat
 mod Row
 pub mod Answer
 pub mod Lawful

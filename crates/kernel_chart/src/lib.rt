@@ -1,64 +1,29 @@
 // The kernels of SSIM that are asked for most, by the height of a plane that is no narrower than high. SCOPE, "The chart of kernels".
 #![tactic(auto)]
 
-ghost use Rattle.std.specs.Prelude.{◌≡◌, ◌<◌, [], length, get_or};
+ghost use Rattle.std.specs.Prelude.{◌≡◌, false, true, length, map, MatchOption};
 ghost use Rattle.kernel_chart.specs.Rows.{chart};
-ghost use Rattle.kernel_chart.specs.Chart.{answer_by, after_by, charted_of, taps_after};
-ghost use Rattle.kernel_chart.specs.Inner.Flat.{heights_in, kernels_in, all_taps, starts_from};
-ghost use Rattle.kernel_chart.specs.Inner.Place.{place_in};
+ghost use Rattle.kernel_chart.specs.Chart.{answer_by, after_by, listed, kernel_of, charted_of, taps_after};
 ghost use Rattle.kernel_chart.specs.Inner.Room.{room_refusal};
 
 mod rows;
 
 use refusal::Refusal;
+use rows::Row;
 
-// The height of each row.
+// The rows, which are the chart's.
 #[tactic(auto, unfolding(crate::specs::Rows::chart))]
-fn heights() -> &'static [usize]
-    ensures { result.now ≡ heights_in chart }
+fn all_rows() -> &'static [Row]
+    ensures { map (λ row. (row.height, row.taps.now)) result.now ≡ chart }
 {
-    &rows::HEIGHTS
+    &rows::ROWS
 }
 
-// Where the taps of each row start among all, and where the last end.
-#[tactic(auto, unfolding(crate::specs::Rows::chart))]
-fn starts() -> &'static [usize]
-    ensures { result.now ≡ starts_from 0 chart }
+// The row that has this height, if one has.
+fn find(height: usize) -> Option<&'static Row>
+    ensures { MatchOption result (listed height ≡ false) (λ row. (listed height ≡ true) × (row.now.taps.now ≡ kernel_of height)) }
 {
-    &rows::STARTS
-}
-
-// The taps of all rows, one row after the other.
-#[tactic(auto, unfolding(crate::specs::Rows::chart))]
-fn all_taps() -> &'static [u16]
-    ensures { result.now ≡ all_taps chart }
-{
-    &rows::TAPS
-}
-
-// Which row has this height, counted from 0; as many as there are where none has.
-#[tactic(auto, using(crate::proofs::Flat::rows_count, crate::proofs::Flat::heights_count, crate::proofs::Places::place_steps))]
-fn find(height: usize) -> usize
-    ensures { result ≡ place_in chart height }
-{
-    for (k, row) in heights().iter().enumerate() {
-        if *row == height {
-            return k;
-        }
-    }
-    rows::COUNT
-}
-
-// The taps of row k.
-#[tactic(auto, using(crate::proofs::Flat::row_pieces))]
-fn kernel_at(k: usize) -> &'static [u16]
-    requires { k < length chart }
-    ensures { result.now ≡ get_or (kernels_in chart) k [] }
-{
-    let starts = starts();
-    let from = starts[k];
-    let end = starts[k + 1];
-    &all_taps()[from..end]
+    all_rows().iter().find(|row| row.height == height)
 }
 
 // Writes these taps to the first places of `taps`, where these are enough, and counts them.
@@ -80,9 +45,6 @@ pub fn kernel_for(height: usize, taps: &mut [u16]) -> Result<usize, Refusal>
     ensures value { result ≡ charted_of height taps.old }
     ensures taps_after { taps.new ≡ taps_after height taps.old }
 {
-    let k = find(height);
-    if k == rows::COUNT {
-        return Err(Refusal::Height);
-    }
-    put(kernel_at(k), taps)
+    let row = find(height).ok_or(Refusal::Height)?;
+    put(row.taps, taps)
 }
