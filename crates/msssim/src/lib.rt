@@ -92,7 +92,8 @@ fn score<S: Stored>(
     )
 }
 
-// MS-SSIM of two planes: ssim and cs of each scale, the first scale first. Refused, scratch is as it was; else, and at 9, its needed part is all zero and the rest as it was.
+// MS-SSIM of two planes: ssim and cs of each scale, the first scale first. Refused, scratch is as it was; else, and at 9, its needed
+// part is all zero and the rest as it was.
 pub fn msssim<S: Stored>(
     p: Pair<'_, S>,
     scratch: &mut [i64],
