@@ -8,18 +8,21 @@ ghost use Rattle.msssim.specs.Answer.{msssim_of, scratch_after};
 ghost use Rattle.fuavelino.specs.Msssim.{pairs_written};
 
 use crate::pair;
-use msssim::Pairs;
+use msssim::SCALES;
 use refusal::Refusal;
+use ssim::Ssim;
 
 // Writes the pairs where there are some.
-fn put_pairs(answer: Result<Pairs, Refusal>, pairs: &mut [f64; 10]) -> u8
+fn put_pairs(answer: Result<[Ssim; SCALES], Refusal>, pairs: &mut [f64; 10]) -> u8
     ensures value { result ≡ answer_number answer }
     ensures pairs_after { pairs.new ≡ pairs_written answer pairs.old }
 {
     match answer {
-        Ok(p) => {
+        Ok(scales) => {
+            let [one, two, three, four, five] = scales;
             *pairs = [
-                p.ssim1, p.cs1, p.ssim2, p.cs2, p.ssim3, p.cs3, p.ssim4, p.cs4, p.ssim5, p.cs5,
+                one.ssim, one.cs, two.ssim, two.cs, three.ssim, three.cs, four.ssim, four.cs,
+                five.ssim, five.cs,
             ];
             0
         }

@@ -1,44 +1,26 @@
-// Ten numbers as five pairs.
-ghost use Rattle.std.specs.Prelude.{◌≡◌, ◌*◌, length};
-ghost use Rattle.msssim.specs.Scale.{scale_count};
+// Five pairs, judged.
+ghost use Rattle.std.specs.Prelude.{◌≡◌};
 ghost use Rattle.msssim.specs.Answer.{all_finite, five_of};
 
-use crate::Pairs;
-use crate::scales::NUMBERS;
+use crate::SCALES;
 use refusal::Refusal;
+use ssim::Ssim;
 
-// None is infinite or not a number.
-#[tactic(auto, using(plane::proofs::All::all_none, plane::proofs::All::all_more), unfolding(crate::specs::Answer::all_finite))]
-fn all_finite(l: &[f64]) -> bool
-    ensures { result ≡ all_finite l.now }
+// None of their numbers is infinite or not a number.
+fn all_finite(pairs: &[Ssim]) -> bool
+    ensures { result ≡ all_finite pairs.now }
 {
-    let mut ok = true;
-    for x in l {
-        ok &= number::finite(*x);
-    }
-    ok
+    pairs
+        .iter()
+        .all(|p| number::finite(p.ssim) & number::finite(p.cs))
 }
 
 // The five pairs, or 9 where one of the ten numbers is not finite.
-#[tactic(auto, unfolding(crate::specs::Scale::scale_count))]
-pub fn five(l: &[f64; NUMBERS]) -> Result<Pairs, Refusal>
-    requires { length l.now ≡ 2 * scale_count }
-    ensures { result ≡ five_of l.now }
+pub fn five(pairs: [Ssim; SCALES]) -> Result<[Ssim; SCALES], Refusal>
+    ensures { result ≡ five_of pairs }
 {
-    if !all_finite(l) {
+    if !all_finite(&pairs) {
         return Err(Refusal::NotFinite);
     }
-    let [ssim1, cs1, ssim2, cs2, ssim3, cs3, ssim4, cs4, ssim5, cs5] = *l;
-    Ok(Pairs {
-        ssim1,
-        cs1,
-        ssim2,
-        cs2,
-        ssim3,
-        cs3,
-        ssim4,
-        cs4,
-        ssim5,
-        cs5,
-    })
+    Ok(pairs)
 }

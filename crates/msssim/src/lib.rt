@@ -11,6 +11,7 @@ ghost use Rattle.msssim.specs.Inner.Sound.{Sound};
 
 use plane::{Format, Pair, Stored};
 use refusal::Refusal;
+use ssim::Ssim;
 
 mod five;
 mod scale;
@@ -18,23 +19,10 @@ mod scales;
 
 // The least side.
 pub const LEAST_SIDE: usize = 16;
+// How many scales there are, the planes themselves the first.
+pub const SCALES: usize = 5;
 // How many taps the fixed kernel has.
 const TAPS: usize = 9;
-
-// ssim and cs of the five scales, the first the planes themselves.
-#[derive(Clone, Copy, Debug, PartialEq)]
-pub struct Pairs {
-    pub ssim1: f64,
-    pub cs1: f64,
-    pub ssim2: f64,
-    pub cs2: f64,
-    pub ssim3: f64,
-    pub cs3: f64,
-    pub ssim4: f64,
-    pub cs4: f64,
-    pub ssim5: f64,
-    pub cs5: f64,
-}
 
 // How many 64-bit places are needed: those of SSIM under a kernel of nine taps.
 #[tactic(auto, unfolding(kernel::specs::Kernel::most_taps))]
@@ -88,7 +76,7 @@ fn score<S: Stored>(
     scratch: &mut [i64],
     a32: &mut [u32],
     b32: &mut [u32],
-) -> Result<Pairs, Refusal>
+) -> Result<[Ssim; SCALES], Refusal>
     requires { Sound (planes S.Sample.value S.WIDE p) (scratch_of scratch.old a32.old b32.old) }
     ensures value { result ≡ msssim_score (planes S.Sample.value S.WIDE p.entry) }
     ensures b32_value { scratch_of scratch.new a32.new b32.new
@@ -104,13 +92,14 @@ fn score<S: Stored>(
     )
 }
 
-// MS-SSIM of two planes. Refused, scratch is as it was; else, and at 9, its needed part is all zero and the rest as it was.
+// MS-SSIM of two planes: ssim and cs of each scale, the first scale first. Refused, scratch is as it was; else, and at 9, its needed
+// part is all zero and the rest as it was.
 pub fn msssim<S: Stored>(
     p: Pair<'_, S>,
     scratch: &mut [i64],
     a32: &mut [u32],
     b32: &mut [u32],
-) -> Result<Pairs, Refusal>
+) -> Result<[Ssim; SCALES], Refusal>
     ensures value { result ≡ msssim_of (planes S.Sample.value S.WIDE p.entry)
         (scratch_of scratch.old a32.old b32.old) }
     ensures b32_value { scratch_of scratch.new a32.new b32.new ≡ scratch_after

@@ -1,9 +1,10 @@
 // MS-SSIM of two planes that are made by a rule: of each plane `from` is its seed, and `end` how many samples there are; told are how far
 // below the largest its samples reach, and two zeros. The places lent are those that 17 by 33 need, and no row asks for more.
 use crate::rows::Row;
-use msssim::Pairs;
+use msssim::SCALES;
 use plane::{Pair, Stored};
 use refusal::Refusal;
+use ssim::Ssim;
 use std::array;
 
 // The samples of a plane, more than any row asks for; and the places lent, of 64 bits and of 32.
@@ -38,7 +39,7 @@ fn words(seed: usize, reach: usize) -> [u16; SAMPLES] {
     array::from_fn(|i| (WORD_MAX - below(i, seed, reach) % WORD_VALUES) as u16)
 }
 
-fn ask<S: Stored>(p: Pair<'_, S>) -> Result<Pairs, Refusal> {
+fn ask<S: Stored>(p: Pair<'_, S>) -> Result<[Ssim; SCALES], Refusal> {
     let mut scratch = [0i64; PLACES];
     let mut room_a = [0u32; ROOM];
     let mut room_b = [0u32; ROOM];
@@ -46,9 +47,11 @@ fn ask<S: Stored>(p: Pair<'_, S>) -> Result<Pairs, Refusal> {
 }
 
 // The ten numbers, as they stand in the list.
-fn numbers(p: Pairs) -> [f64; 10] {
+fn numbers(pairs: [Ssim; SCALES]) -> [f64; 10] {
+    let [one, two, three, four, five] = pairs;
     [
-        p.ssim1, p.cs1, p.ssim2, p.cs2, p.ssim3, p.cs3, p.ssim4, p.cs4, p.ssim5, p.cs5,
+        one.ssim, one.cs, two.ssim, two.cs, three.ssim, three.cs, four.ssim, four.cs, five.ssim,
+        five.cs,
     ]
 }
 

@@ -10,11 +10,11 @@ use Rattle.msssim.proofs.Scratch.{columns_fit}
 use Rattle.msssim.proofs.scales.five_pairs.Goals as goal
 
 pub sample_max-max-requires : goal.sample_max-max-requires
-sample_max-max-requires g c = omega (arith, c.requires.sound.planes.sized.depth_most, depth_small g.S.Stored.WIDE)
+sample_max-max-requires g c = omega (arith, c.requires.planes.sized.depth_most, depth_small g.S.Stored.WIDE)
 
 pub pairs_from-requires-clause-width_le_side_limit : goal.pairs_from-requires-clause-width_le_side_limit
 pairs_from-requires-clause-width_le_side_limit g c =
-    let s = c.requires.sound in
+    let s = c.requires in
     let sized = s.planes.sized in
     (sized.width_most, sized.height_most, omega (arith, columns_fit c.args.p.format.width sized.width_least, s.places))
 
@@ -22,7 +22,7 @@ pub pairs_from-requires-clause-left_bound : goal.pairs_from-requires-clause-left
 unfolding scale_count
 pairs_from-requires-clause-left_bound g c =
     let size = c.args.p.format in
-    (rw c.sample_max-max.ensures (first_fits g.S.Stored.WIDE size.depth c.requires.sound.planes.sized.depth_most), c.requires.pairs_len)
+    rw c.sample_max-max.ensures (first_fits g.S.Stored.WIDE size.depth c.requires.planes.sized.depth_most)
 
 pub returns : goal.returns
 unfolding scale_count
