@@ -7,7 +7,7 @@ import contracts
 WORD = r"[^\s(){}\[\];,.:«»=]+"
 # what is written of the proof of one function, in a folder of its own below proofs/
 OF_A_FUNCTION = ("Invariants.antt", "Answers.antt", "Proof.antt")
-OPEN = re.compile(r"( *)(abbrev |unfoldable )?pub (?!mod |use )(?:record |data )?(\S+)")
+OPEN = re.compile(r"( *)(abbrev |unfoldable )?pub (?!mod |use )(?:record |data |ruleset )?(\S+)")
 
 
 def opened(text):

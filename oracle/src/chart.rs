@@ -46,25 +46,24 @@ fn row(height: usize) -> String {
     format!("(\n      {},\n      {}\n          ∷ {} ∷ [],\n    )", height, left, right)
 }
 
-/// The rows as the code has them: their heights, and their taps in one list.
+/// The rows as the code has them.
 fn code() {
-    let kernels = HEIGHTS.map(kernel);
-    let starts: Vec<usize> = (0..=kernels.len()).map(|row| kernels[..row].concat().len()).collect();
     println!(
         "// SCOPE, \"The chart of kernels\": its rows. \
          A run of the Rust printed the numbers; tools/chart writes this file."
     );
-    println!("\n// How many there are.\npub const COUNT: usize = {};", HEIGHTS.len());
-    println!("\n// The height of each.");
-    list("HEIGHTS", "usize", &HEIGHTS);
-    println!("\n// Where its taps start among all; the last is where they end.");
-    list("STARTS", "usize", &starts);
-    println!("\n// The taps of all, one row after the other.");
-    list("TAPS", "u16", &kernels.concat());
-}
-
-fn list<T: ToString>(name: &str, kind: &str, numbers: &[T]) {
-    println!("pub const {}: [{}; {}] = [{}];", name, kind, numbers.len(), words(numbers).join(", "));
+    println!("\n// A height beside its kernel's taps.");
+    println!("pub struct Row {{\n    pub height: usize,\n    pub taps: &'static [u16],\n}}");
+    println!("\n// In the order of the heights.");
+    println!("pub const ROWS: [Row; {}] = [", HEIGHTS.len());
+    for height in HEIGHTS {
+        println!(
+            "    Row {{\n        height: {},\n        taps: &[{}],\n    }},",
+            height,
+            words(&kernel(height)).join(", ")
+        );
+    }
+    println!("];");
 }
 
 fn words<T: ToString>(numbers: &[T]) -> Vec<String> {

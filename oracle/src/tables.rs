@@ -27,7 +27,6 @@ fn main() {
     println!("// A number, then its root or -1 where it is refused, in turn.");
     let asked = asked(seed);
     list("ROOTS", "f64", numbers(asked.iter().flat_map(|bits| root(*bits))));
-    count("PAIRS", asked.len());
     transforms(seed);
     planes(&Samples::new(seed));
 }
@@ -41,7 +40,6 @@ fn transforms(seed: u64) {
     println!("// 0 where they are refused.");
     let rows = scored::transforms(seed);
     list("TRANSFORMS", "i32", words(&rows));
-    count("BLOCKS", rows.len() / 130);
 }
 
 /// What the program asks of two planes: rows of 15 numbers, and the scores that they lead to.

@@ -1,67 +1,84 @@
 -- Three planes judged two at a time, the original beside each candidate: of the two refusals the lower is that of all three, and so the two
 -- findings make the answer. Assumes nothing.
-use mathlib.Core.Path.{◌≡◌, refl, sym, ◌∙◌}
-use mathlib.Core.List.{[], ◌∷◌}
-use Prim.Native.Nat.{ℕ, zero, suc, min}
-use native.Mathlib.Nat.{suc-min-suc, min_comm, min-le_left, min-le_right, min-eq_left, min-eq_right, le-min, le_refl, le_trans, le_antisymm}
-use native.Mathlib.Omega.{arith}
-use Rattle.refusal.specs.First.{first_broken, by_refusal}
-use Rattle.plane.specs.declared.Size.{Size}
-use Rattle.plane.specs.Plane.{Plane}
-use Rattle.plane.specs.Tests.{size_tests, layout_tests, plane_refusal, pair_refusal}
-use Rattle.plane.specs.Inner.Lent.{lower_of}
-use Rattle.plane.proofs.Several.{one_more, sizes_stop, sizes_pass, lower_least}
-use Rattle.better.specs.declared.Better.TheVariants.{Refused}
-use Rattle.better.specs.declared.Judged.TheVariants as Judged
+use Rattle.std.proofs.Common.{◌≡◌, ℕ, Bool, true, false, ◌&&◌, leb, [], ◌∷◌, Ok, Err, refl, ap, ◌∙◌, arith, le-leb, leb-true}
+use Rattle.std.proofs.lemmas.Bool.{leb-false}
+use mathlib.Core.Bool.{and_comm, and-true}
+use Rattle.refusal.specs.declared.Refusal.{Refusal}
+use Rattle.refusal.specs.declared.Refusal.TheVariants as no
+use Rattle.refusal.specs.Numbers.{number_of}
+use Rattle.refusal.specs.First.{Verdict, unless, first_broken, unless_refused, lower_of}
+use Rattle.refusal.proofs.Chain.{together}
+use Rattle.plane.specs.Plane.{Size, Plane, Planes, every}
+use Rattle.plane.specs.Tests.{size_tests, layout_tests, plane_refusal, pair_refusal, stride_suits, long_enough, samples_suit}
+use Rattle.plane.specs.Inner.Unread.{unread_refusal}
+use Rattle.plane.proofs.Several.{one_more}
+use Rattle.plane.proofs.Unread.{pair_by}
+use Rattle.psnr.specs.Inner.Walk.{walked_if, walked_of}
+use Rattle.psnr.specs.Squared.{squared_error_score}
 use Rattle.better.specs.Better.{Contest, first_pair, second_pair, first_error, second_error, smaller_of, better_of}
-use Rattle.better.specs.Inner.Judged.{judged_of, decided}
+use Rattle.better.specs.Inner.Judged.{judged_of, least_of, decided}
 
 -- ---- the lower of two refusals that share one
 
-lower_self : (n : ℕ) → n ≡ lower_of n n
-lower_self zero = refl
-lower_self (suc n) = sym (min-eq_left (le_refl (suc n)))
+least_self : (x : Refusal) → x ≡ least_of x x
+least_self x = go (leb (number_of x) (number_of x)) refl
+  where
+    go : (s : Bool) → leb (number_of x) (number_of x) ≡ s → x ≡ least_of x x
+    go true p = rw p
+    go false p = rw p
 
--- the least of two numbers that are not 0 is none
-some : (a b : ℕ) → min (suc a) (suc b) ≡ 0 → ⊥
-some a b z = omega (arith, sym (suc-min-suc a b) ∙ z)
+least_again : (o b : Refusal) → least_of o b ≡ least_of o (least_of o b)
+least_again o b = go (leb (number_of o) (number_of b)) refl
+  where
+    go : (s : Bool) → leb (number_of o) (number_of b) ≡ s → least_of o b ≡ least_of o (least_of o b)
+    go true p = simp p (least_self o)
+    go false p = simp p
 
-least_shared : (o a b : ℕ) → min o (min a b) ≡ min (min o a) (min o b)
-least_shared o a b =
-    let l = min-le_left in
-    let r = min-le_right in
-    le_antisymm
-    (le-min (le-min (l o (min a b)) (le_trans (r o (min a b)) (l a b))) (le-min (l o (min a b)) (le_trans (r o (min a b)) (r a b))))
-    (le-min (le_trans (l (min o a) (min o b)) (l o a))
-    (le-min (le_trans (l (min o a) (min o b)) (r o a)) (le_trans (r (min o a) (min o b)) (r o b))))
+least_first : (o a : Refusal) → least_of o a ≡ least_of (least_of o a) o
+least_first o a = go (leb (number_of o) (number_of a)) refl
+  where
+    go : (s : Bool) → leb (number_of o) (number_of a) ≡ s → least_of o a ≡ least_of (least_of o a) o
+    go true p = simp p (least_self o)
+    go false p =
+        let q : leb (number_of a) (number_of o) ≡ true = le-leb _ _ (omega (arith, leb-false (number_of o) (number_of a) p)) in
+        simp (p, q)
 
-lower_shared : (o a b : ℕ) → lower_of o (lower_of a b) ≡ lower_of (lower_of o a) (lower_of o b)
-lower_shared zero a b = refl
-lower_shared (suc o) zero zero = lower_self (suc o)
-lower_shared (suc o) zero (suc b) =
-    sym (min-eq_right (min-le_left (suc o) (suc b))) ∙ lower_least (suc o) (min (suc o) (suc b)) (λ z. omega (arith, z)) (some o b)
-lower_shared (suc o) (suc a) zero =
-    sym (min-eq_left (min-le_left (suc o) (suc a))) ∙ lower_least (min (suc o) (suc a)) (suc o) (some o a) (λ z. omega (arith, z))
-lower_shared (suc o) (suc a) (suc b) =
-    sym (lower_least (suc o) (min (suc a) (suc b)) (λ z. omega (arith, z)) (some a b))
-    ∙ least_shared (suc o) (suc a) (suc b)
-    ∙ lower_least (min (suc o) (suc a)) (min (suc o) (suc b)) (some o a) (some o b)
+least_shared : (o a b : Refusal) → least_of o (least_of a b) ≡ least_of (least_of o a) (least_of o b)
+least_shared o a b = go (leb (number_of o) (number_of a)) refl (leb (number_of o) (number_of b)) refl (leb (number_of a) (number_of b)) refl
+  where
+    go : (s : Bool) → leb (number_of o) (number_of a) ≡ s → (t : Bool) → leb (number_of o) (number_of b) ≡ t
+        → (u : Bool) → leb (number_of a) (number_of b) ≡ u → least_of o (least_of a b) ≡ least_of (least_of o a) (least_of o b)
+    go true p true q true r = simp (p, q, r) (least_self o)
+    go true p true q false r = simp (p, q, r) (least_self o)
+    go true p false q true r = absurd (omega (arith, leb-true _ _ p, leb-false _ _ q, leb-true _ _ r))
+    go true p false q false r = simp (p, q, r)
+    go false p true q true r =
+        let l : leb (number_of a) (number_of o) ≡ true = le-leb _ _ (omega (arith, leb-false (number_of o) (number_of a) p)) in
+        simp (p, q, r, l)
+    go false p true q false r = absurd (omega (arith, leb-false _ _ p, leb-true _ _ q, leb-false _ _ r))
+    go false p false q true r = simp (p, q, r)
+    go false p false q false r = simp (p, q, r)
 
-lower_swap : (a b : ℕ) → lower_of a b ≡ lower_of b a
-lower_swap zero zero = refl
-lower_swap zero (suc b) = refl
-lower_swap (suc a) zero = refl
-lower_swap (suc a) (suc b) = min_comm (suc a) (suc b)
+lower_self : (v : Verdict) → v ≡ lower_of v v
+lower_self (Ok _) = refl
+lower_self (Err x) = ap Err (least_self x)
 
--- it is none where both are
-pub lower_none : (a b : ℕ) → lower_of a b ≡ 0 → (a ≡ 0) × (b ≡ 0)
-lower_none zero b z = (refl, z)
-lower_none (suc a) zero z = absurd (omega (arith, z))
-lower_none (suc a) (suc b) z = absurd (some a b z)
+lower_shared : (o a b : Verdict) → lower_of o (lower_of a b) ≡ lower_of (lower_of o a) (lower_of o b)
+lower_shared (Ok _) a b = refl
+lower_shared (Err o) (Ok _) (Ok _) = ap Err (least_self o)
+lower_shared (Err o) (Ok _) (Err b) = ap Err (least_again o b)
+lower_shared (Err o) (Err a) (Ok _) = ap Err (least_first o a)
+lower_shared (Err o) (Err a) (Err b) = ap Err (least_shared o a b)
+
+-- there is none where neither refuses
+pub lower_none : (a b : Verdict) → lower_of a b ≡ Ok tt → (a ≡ Ok tt) × (b ≡ Ok tt)
+lower_none (Ok _) b z = (refl, z)
+lower_none (Err x) (Ok _) z = cc
+lower_none (Err x) (Err y) z = cc
 
 -- ---- three planes, two at a time
 module _ (size : Size) (o a b : Plane) where
-  abbrev alone : Plane → ℕ
+  abbrev alone : Plane → Verdict
   alone p = first_broken (layout_tests size (p ∷ []))
 
   layout_shared : first_broken (layout_tests size (o ∷ a ∷ b ∷ []))
@@ -72,37 +89,49 @@ module _ (size : Size) (o a b : Plane) where
 
   pub planes_shared : (least : ℕ) → plane_refusal size (o ∷ a ∷ b ∷ []) least
       ≡ lower_of (plane_refusal size (o ∷ a ∷ []) least) (plane_refusal size (o ∷ b ∷ []) least)
-  planes_shared least = go (first_broken (size_tests size least)) refl
+  planes_shared least =
+      let sizes = size_tests size least in
+      together sizes (layout_tests size (o ∷ a ∷ b ∷ []))
+      ∙ rw (together sizes (layout_tests size (o ∷ a ∷ [])), together sizes (layout_tests size (o ∷ b ∷ [])), layout_shared)
+      (go (first_broken sizes) (first_broken (layout_tests size (o ∷ a ∷ []))) (first_broken (layout_tests size (o ∷ b ∷ []))))
     where
-      go : (n : ℕ) → n ≡ first_broken (size_tests size least) → plane_refusal size (o ∷ a ∷ b ∷ []) least
-          ≡ lower_of (plane_refusal size (o ∷ a ∷ []) least) (plane_refusal size (o ∷ b ∷ []) least)
-      go zero e =
-          let all = sizes_pass size least e (layout_tests size (o ∷ a ∷ b ∷ [])) refl refl in
-          let one = sizes_pass size least e (layout_tests size (o ∷ a ∷ [])) refl refl in
-          let two = sizes_pass size least e (layout_tests size (o ∷ b ∷ [])) refl refl in
-          rw (← all, ← one, ← two) layout_shared
-      go (suc n) e =
-          let no : suc n ≡ 0 → ⊥ = λ z. omega (arith, z) in
-          let all = sizes_stop size least e (layout_tests size (o ∷ a ∷ b ∷ [])) no in
-          let one = sizes_stop size least e (layout_tests size (o ∷ a ∷ [])) no in
-          let two = sizes_stop size least e (layout_tests size (o ∷ b ∷ [])) no in
-          rw (← all, ← one, ← two) (lower_self (suc n))
+      go : (v x y : Verdict) → unless_refused v (lower_of x y) ≡ lower_of (unless_refused v x) (unless_refused v y)
+      go (Ok _) x y = refl
+      go (Err r) x y = lower_self (Err r)
 
 -- the candidates may be exchanged
+every_swap : (f : Plane → Bool) (o a b : Plane) → every f (o ∷ b ∷ a ∷ []) ≡ every f (o ∷ a ∷ b ∷ [])
+every_swap f o a b = simp and-true (ap (λ (t : Bool). f o && t) (and_comm (f b) (f a)))
+
 pub planes_swap : (size : Size) (o a b : Plane) (least : ℕ) → plane_refusal size (o ∷ b ∷ a ∷ []) least ≡ plane_refusal size (o ∷ a ∷ b ∷ []) least
+unfolding layout_tests
 planes_swap size o a b least =
-    planes_shared size o b a least
-    ∙ lower_swap (plane_refusal size (o ∷ b ∷ []) least) (plane_refusal size (o ∷ a ∷ []) least)
-    ∙ sym (planes_shared size o a b least)
+    rw (
+      every_swap (λ (p : Plane). stride_suits size.width p.stride) o a b,
+      every_swap (long_enough size) o a b,
+      every_swap (samples_suit size) o a b,
+    )
+
+-- ---- a finding: after 1 to 5 the walk decides
+pub judged_by : (p : Planes) → unread_refusal p 0 ≡ Ok tt → walked_of p ≡ judged_of p
+unfolding walked_of
+judged_by p e = rw (pair_by p 0, e) (go (samples_suit p.size p.a && samples_suit p.size p.b) (squared_error_score p))
+  where
+    go : (suit : Bool) (sum : ℕ) → walked_if suit sum ≡ unless_refused (unless suit no.Sample (Ok tt)) (Ok sum)
+    go true sum = refl
+    go false sum = refl
+
+pub judged_early : (p : Planes) {r : Refusal} → Err r ≡ unread_refusal p 0 → Err r ≡ judged_of p
+judged_early p e = rw (pair_by p 0, ← e) refl
 
 -- ---- the answer from two findings
 -- two refusals and two errors
-findings : (n m first second : ℕ) → decided (by_refusal n (Judged.Apart first) (Judged.Refused n)) (by_refusal m (Judged.Apart second) (Judged.Refused m))
-    ≡ by_refusal (lower_of n m) (smaller_of first second) (Refused (lower_of n m))
-findings zero zero first second = refl
-findings zero (suc m) first second = refl
-findings (suc n) zero first second = refl
-findings (suc n) (suc m) first second = rw suc-min-suc
+findings : (n m : Verdict) (first second : ℕ) → decided (unless_refused n (Ok first)) (unless_refused m (Ok second))
+    ≡ unless_refused (lower_of n m) (Ok (smaller_of first second))
+findings (Ok _) (Ok _) first second = refl
+findings (Ok _) (Err y) first second = refl
+findings (Err x) (Ok _) first second = refl
+findings (Err x) (Err y) first second = refl
 
 pub decided_better : (c : Contest) → decided (judged_of (first_pair c)) (judged_of (second_pair c)) ≡ better_of c
 unfolding better_of

@@ -10,11 +10,11 @@ use borrow.Author.Tests.{lt-ltb, le-ltb, ltb-true, ltb-false}
 use lib.Dec.{ltb}
 use lib.Ieee.{Float}
 use lib.ListN.{length}
-use Rattle.refusal.specs.First.{by_refusal}
+use Rattle.std.specs.Prelude.{Result, Ok, Err}
+use Rattle.refusal.specs.declared.Refusal.{Refusal}
+use Rattle.refusal.specs.First.{Verdict, unless_refused, lower_of}
 use Rattle.number.specs.Steps.{double}
-use Rattle.plane.specs.declared.Size.{Size}
-use Rattle.plane.specs.Plane.{Plane}
-use Rattle.plane.specs.Inner.Lent.{lower_of}
+use Rattle.plane.specs.Plane.{Size, Plane}
 use Rattle.plane.specs.Inner.Lawful.{Lawful, Sized, Equivalent}
 use Rattle.plane.proofs.Accept.{accepted}
 use Rattle.plane.proofs.Exchange.{refusal_equivalent}
@@ -23,7 +23,7 @@ use Rattle.psnr.specs.Squared.{record_of, error_answer, squared_error_refusal, s
 use Rattle.psnr.proofs.Accept.{planes_alone}
 use Rattle.psnr.proofs.Laws.{score_visible}
 use Rattle.better.specs.declared.Better.{Better}
-use Rattle.better.specs.declared.Better.TheVariants.{First, Second, Refused}
+use Rattle.better.specs.declared.Better.TheVariants.{First, Second}
 use Rattle.better.specs.Better.{Contest, first_pair, second_pair, first_error, second_error, smaller_of, better_refusal, better_of, handed, winner_of}
 use Rattle.better.proofs.Judging.{lower_none, planes_shared, planes_swap}
 
@@ -43,48 +43,48 @@ second_smaller a b e h = go (ltb b a) refl h
     go false t s = let z : suc zero ≡ zero = cc in (cc, omega (arith, z))
 
 -- ---- the answer, from a refusal n and the errors a and b
-abbrev answer : ℕ → ℕ → ℕ → Better
-answer n a b = by_refusal n (smaller_of a b) (Refused n)
+abbrev answer : Verdict → ℕ → ℕ → Result Better Refusal
+answer v a b = unless_refused v (Ok (smaller_of a b))
 
-first_answer : (n a b : ℕ) (e : Float) → answer n a b ≡ First e → (e ≡ double a) × (a ≤ b)
-first_answer zero a b e h = first_smaller a b e h
-first_answer (suc n) a b e h = let z : suc zero ≡ zero = cc in (cc, omega (arith, z))
+first_answer : (v : Verdict) (a b : ℕ) (e : Float) → answer v a b ≡ Ok (First e) → (e ≡ double a) × (a ≤ b)
+first_answer (Ok _) a b e h = first_smaller a b e cc
+first_answer (Err r) a b e h = let z : suc zero ≡ zero = cc in (cc, omega (arith, z))
 
-second_answer : (n a b : ℕ) (e : Float) → answer n a b ≡ Second e → (e ≡ double b) × (b < a)
-second_answer zero a b e h = second_smaller a b e h
-second_answer (suc n) a b e h = let z : suc zero ≡ zero = cc in (cc, omega (arith, z))
+second_answer : (v : Verdict) (a b : ℕ) (e : Float) → answer v a b ≡ Ok (Second e) → (e ≡ double b) × (b < a)
+second_answer (Ok _) a b e h = second_smaller a b e cc
+second_answer (Err r) a b e h = let z : suc zero ≡ zero = cc in (cc, omega (arith, z))
 
 -- with the errors exchanged
-abbrev pub other : Better → Better
-other (First e) = Second e
-other (Second e) = First e
-other (Refused n) = Refused n
+abbrev pub other : Result Better Refusal → Result Better Refusal
+other (Ok (First e)) = Ok (Second e)
+other (Ok (Second e)) = Ok (First e)
+other (Err r) = Err r
 
-unlike_smaller : (a b : ℕ) → (a ≡ b → ⊥) → smaller_of b a ≡ other (smaller_of a b)
+unlike_smaller : (a b : ℕ) → (a ≡ b → ⊥) → Ok (smaller_of b a) ≡ other (Ok (smaller_of a b))
 unlike_smaller a b unlike = go (ltb b a) refl
   where
-    go : (t : Bool) → ltb b a ≡ t → smaller_of b a ≡ other (smaller_of a b)
+    go : (t : Bool) → ltb b a ≡ t → Ok (smaller_of b a) ≡ other (Ok (smaller_of a b))
     go true t = rw (t, le-ltb a b (le_of_lt (ltb-true b a t)))
     go false t =
         let below : a < b = omega (arith, ltb-false b a t, unlike) in
         rw (t, lt-ltb a b below)
 
-unlike_answer : (n a b : ℕ) → (a ≡ b → ⊥) → answer n b a ≡ other (answer n a b)
-unlike_answer zero a b unlike = unlike_smaller a b unlike
-unlike_answer (suc n) a b unlike = refl
+unlike_answer : (v : Verdict) (a b : ℕ) → (a ≡ b → ⊥) → answer v b a ≡ other (answer v a b)
+unlike_answer (Ok _) a b unlike = unlike_smaller a b unlike
+unlike_answer (Err r) a b unlike = refl
 
 -- what is handed back is empty only where the call refuses
-some_handed : (a b : ℕ) (f s : List ℕ) → 1 ≤ length f → 1 ≤ length s → handed (smaller_of a b) f s ≡ [] → ⊥
+some_handed : (a b : ℕ) (f s : List ℕ) → 1 ≤ length f → 1 ≤ length s → handed (Ok (smaller_of a b)) f s ≡ [] → ⊥
 some_handed a b f s lf ls e = go (ltb b a) e
   where
-    go : (t : Bool) → handed (cond t (Second (double b)) (First (double a))) f s ≡ [] → ⊥
+    go : (t : Bool) → handed (Ok (cond t (Second (double b)) (First (double a)))) f s ≡ [] → ⊥
     go true z = omega (arith, ap length z, ls)
     go false z = omega (arith, ap length z, lf)
 
-empty_answer : (n a b : ℕ) (f s : List ℕ) → (n ≡ 0 → (1 ≤ length f) × (1 ≤ length s)) → handed (answer n a b) f s ≡ []
-    → answer n a b ≡ Refused n
-empty_answer zero a b f s some e = absurd (some_handed a b f s (some refl).0 (some refl).1 e)
-empty_answer (suc n) a b f s some e = refl
+empty_answer : (v : Verdict) (a b : ℕ) (f s : List ℕ) → (v ≡ Ok tt → (1 ≤ length f) × (1 ≤ length s)) → handed (answer v a b) f s ≡ []
+    → (r : Refusal) × (v ≡ Err r) × (answer v a b ≡ Err r)
+empty_answer (Ok _) a b f s some e = absurd (some_handed a b f s (some refl).0 (some refl).1 e)
+empty_answer (Err r) a b f s some e = (r, refl, refl)
 
 -- ---- of three planes
 -- with the candidates exchanged
@@ -93,8 +93,8 @@ swapped c = record { size = c.size; original = c.original; first = c.second; sec
 
 module _ (c : Contest) where
   -- the winner's error is at most the other's, and on a tie the first wins
-  pub winner_least : (e : Float) → (better_of c ≡ First e → (e ≡ double (first_error c)) × (first_error c ≤ second_error c))
-      × (better_of c ≡ Second e → (e ≡ double (second_error c)) × (second_error c < first_error c))
+  pub winner_least : (e : Float) → (better_of c ≡ Ok (First e) → (e ≡ double (first_error c)) × (first_error c ≤ second_error c))
+      × (better_of c ≡ Ok (Second e) → (e ≡ double (second_error c)) × (second_error c < first_error c))
   unfolding better_of
   winner_least e = (
     first_answer (better_refusal c) (first_error c) (second_error c) e,
@@ -120,13 +120,13 @@ module _ (c : Contest) where
   some_sample : (p : Plane) → Sized c.size 0 → Lawful c.size p → 1 ≤ length p.samples
   some_sample p s l = omega (arith, s.width_least, l.bounded.long)
 
-  pub empty_where_refused : (n : ℕ) → better_of c ≡ Refused n → winner_of c ≡ []
-  empty_where_refused n e = rw e
+  pub empty_where_refused : (r : Refusal) → better_of c ≡ Err r → winner_of c ≡ []
+  empty_where_refused r e = rw e
 
-  pub refused_where_empty : winner_of c ≡ [] → better_of c ≡ Refused (better_refusal c)
+  pub refused_where_empty : winner_of c ≡ [] → (r : Refusal) × (better_refusal c ≡ Err r) × (better_of c ≡ Err r)
   unfolding better_of
   refused_where_empty e =
-      let some : better_refusal c ≡ 0 → (1 ≤ length c.first.samples) × (1 ≤ length c.second.samples) = λ z.
+      let some : better_refusal c ≡ Ok tt → (1 ≤ length c.first.samples) × (1 ≤ length c.second.samples) = λ z.
       let t = accepted c.size (c.original ∷ c.first ∷ c.second ∷ []) 0 z in
       (some_sample c.first t.sized t.each.1.0, some_sample c.second t.sized t.each.1.1.0) in
       empty_answer (better_refusal c) (first_error c) (second_error c) c.first.samples c.second.samples some e
@@ -140,9 +140,9 @@ module _ (c : Contest) where
         (planes_shared c.size c.original c.first c.second 0)
 
     -- where there is none, both are recorded, and their errors are those that are compared
-    pub as_recorded : better_refusal c ≡ 0
-        → (squared_error_of (first_pair c) frame plane ≡ error_answer (first_error c) (record_of (first_pair c) frame plane))
-        × (squared_error_of (second_pair c) frame plane ≡ error_answer (second_error c) (record_of (second_pair c) frame plane))
+    pub as_recorded : better_refusal c ≡ Ok tt
+        → (squared_error_of (first_pair c) frame plane ≡ Ok (error_answer (first_error c) (record_of (first_pair c) frame plane)))
+        × (squared_error_of (second_pair c) frame plane ≡ Ok (error_answer (second_error c) (record_of (second_pair c) frame plane)))
     unfolding squared_error_of
     as_recorded z =
         let both = lower_none (squared_error_refusal (first_pair c) plane) (squared_error_refusal (second_pair c) plane) (sym lower_refusal ∙ z) in

@@ -1,14 +1,14 @@
 -- SCOPE, "Which build is better": of two candidates the one with the smaller squared error against the original. Definitions only.
-use Rattle.std.specs.Prelude.{Bool, cond, List, [], ◌∷◌, ℕ, ltb}
+use Rattle.std.specs.Prelude.{Bool, cond, List, [], ◌∷◌, ℕ, ltb, Result, Ok, Err}
 use Rattle.std.specs.Borrow.{Bor}
-use Rattle.refusal.specs.First.{by_refusal}
+use Rattle.refusal.specs.declared.Refusal.{Refusal}
+use Rattle.refusal.specs.First.{Verdict, unless_refused}
 use Rattle.number.specs.Steps.{double}
-use Rattle.plane.specs.declared.Size.{Size}
-use Rattle.plane.specs.Plane.{Plane, plane_of, size_of, Planes, planes_of}
+use Rattle.plane.specs.Plane.{Size, Plane, plane_of, size_of, Planes, planes_of}
 use Rattle.plane.specs.Tests.{plane_refusal}
 use Rattle.psnr.specs.Squared.{squared_error_score}
 use Rattle.better.specs.declared.Better.{Better}
-use Rattle.better.specs.declared.Better.TheVariants.{First, Second, Refused}
+use Rattle.better.specs.declared.Better.TheVariants.{First, Second}
 
 -- ---- what is asked
 
@@ -49,20 +49,20 @@ second_error c = squared_error_score (second_pair c)
 abbrev pub smaller_of : ℕ → ℕ → Better
 smaller_of first second = cond (ltb second first) (Second (double second)) (First (double first))
 
--- the lowest of 1 2 4 5 6 that applies to any of the three planes, and 0 where none does
-abbrev pub better_refusal : Contest → ℕ
+-- the lowest of 1 2 4 5 6 that applies to any of the three planes
+abbrev pub better_refusal : Contest → Verdict
 better_refusal c = plane_refusal c.size (c.original ∷ c.first ∷ c.second ∷ []) 0
 
-unfoldable pub better_of : Contest → Better
-better_of c = let n = better_refusal c in by_refusal n (smaller_of (first_error c) (second_error c)) (Refused n)
+unfoldable pub better_of : Contest → Result Better Refusal
+better_of c = unless_refused (better_refusal c) (Ok (smaller_of (first_error c) (second_error c)))
 
 -- ---- what is handed back
 
 -- the samples of the candidate that is better, all that were lent; none where the call refuses
-abbrev pub handed : Better → List ℕ → List ℕ → List ℕ
-handed (First e) first second = first
-handed (Second e) first second = second
-handed (Refused n) first second = []
+abbrev pub handed : Result Better Refusal → List ℕ → List ℕ → List ℕ
+handed (Ok (First e)) first second = first
+handed (Ok (Second e)) first second = second
+handed (Err r) first second = []
 
 abbrev pub winner_of : Contest → List ℕ
 winner_of c = handed (better_of c) c.first.samples c.second.samples

@@ -1,41 +1,28 @@
 // Which of two candidates is nearer an original, by squared error. SCOPE, "Which build is better".
 #![tactic(auto)]
 
-ghost use Rattle.std.specs.Prelude.{◌≡◌, true, false};
-ghost use Rattle.plane.specs.Inner.Lent.{planes};
-ghost use Rattle.better.specs.Better.{contest, smaller_of, better_of, winner_of};
-ghost use Rattle.better.specs.Inner.Judged.{judged_of, decided, lent_contest};
+ghost use Rattle.std.specs.Prelude.{◌≡◌, map};
+ghost use Rattle.plane.specs.Inner.Seen.{planes};
+ghost use Rattle.better.specs.Better.{smaller_of, better_of, winner_of};
+ghost use Rattle.better.specs.Inner.Judged.{judged_of, decided, contest_of};
 
-use plane::{Layout, Size};
-use psnr::walk::Walked;
+use plane::{Format, Pair, Plane};
+use psnr::walk::{self, Compared};
+use refusal::Refusal;
 
 // The smaller squared error, as a record has it, and whose it is; on a tie the first's.
-#[derive(Clone, Copy)]
+#[derive(Clone, Copy, Debug, PartialEq)]
 pub enum Better {
     First(f64),
     Second(f64),
-    Refused(u8),
 }
 
-// What one pair of planes is found to be: so far apart, or refused.
-#[derive(Clone, Copy)]
-pub enum Judged {
-    Apart(u64),
-    Refused(u8),
-}
-
-// The squared error of two planes of either width. 6 is judged on the walk.
-fn judge(a8: &[u8], a16: &[u16], b8: &[u8], b16: &[u16], layout: Layout) -> Judged
-    ensures { result ≡ judged_of (planes layout a8.entry a16.entry b8.entry b16.entry) }
+// The squared error of two planes. 6 is judged on the walk.
+fn judge<S: Compared>(p: Pair<'_, S>) -> Result<u64, Refusal>
+    ensures { result ≡ judged_of (planes S.Sample.value S.WIDE p.entry) }
 {
-    let no = plane::check_unread(a8, a16, b8, b16, layout, 0);
-    if no != 0 {
-        return Judged::Refused(no);
-    }
-    match psnr::walk::rows(a8, a16, b8, b16, layout) {
-        Walked::Sum(error) => Judged::Apart(error),
-        Walked::Above => Judged::Refused(refusal::SAMPLE),
-    }
+    plane::check_unread(p, 0)?;
+    walk::rows(p)
 }
 
 // Of two errors the smaller.
@@ -43,151 +30,55 @@ fn smaller(first: u64, second: u64) -> Better
     ensures { result ≡ smaller_of first second }
 {
     if second < first {
-        return Better::Second(number::double(second));
+        Better::Second(number::double(second))
+    } else {
+        Better::First(number::double(first))
     }
-    Better::First(number::double(first))
 }
 
-// Of two findings the answer: where both refuse, the lower number.
-fn decide(first: Judged, second: Judged) -> Better
+// Of two findings the answer: where both refuse, the lower refusal; what is left where neither does are two errors.
+fn decide(first: Result<u64, Refusal>, second: Result<u64, Refusal>) -> Result<Better, Refusal>
     ensures { result ≡ decided first second }
 {
-    match first {
-        Judged::Apart(a) => match second {
-            Judged::Apart(b) => smaller(a, b),
-            Judged::Refused(m) => Better::Refused(m),
-        },
-        Judged::Refused(n) => match second {
-            Judged::Apart(b) => Better::Refused(n),
-            Judged::Refused(m) => Better::Refused(plane::lower(n, m)),
-        },
-    }
+    refusal::lower(first.map(|_| ()), second.map(|_| ()))?;
+    Ok(smaller(first?, second?))
 }
 
-// Which of two planes of either width is nearer the original.
-fn answer(
-    o8: &[u8],
-    o16: &[u16],
-    a8: &[u8],
-    a16: &[u16],
-    b8: &[u8],
-    b16: &[u16],
-    size: Size,
-    stride_o: usize,
-    stride_a: usize,
-    stride_b: usize,
-) -> Better
-    ensures { result ≡ better_of (lent_contest size o8.entry o16.entry a8.entry a16.entry b8.entry b16.entry
-        stride_o stride_a stride_b) }
+// Which of two planes is nearer the original.
+pub fn nearer<S: Compared>(
+    format: Format,
+    original: Plane<'_, S>,
+    first: Plane<'_, S>,
+    second: Plane<'_, S>,
+) -> Result<Better, Refusal>
+    ensures { result ≡ better_of (contest_of S.Sample.value S.WIDE format original.entry first.entry second.entry) }
 {
-    let beside_a = Layout {
-        size,
-        stride_a: stride_o,
-        stride_b: stride_a,
+    let beside_first = Pair {
+        format,
+        a: original,
+        b: first,
     };
-    let beside_b = Layout {
-        size,
-        stride_a: stride_o,
-        stride_b,
+    let beside_second = Pair {
+        format,
+        a: original,
+        b: second,
     };
-    decide(
-        judge(o8, o16, a8, a16, beside_a),
-        judge(o8, o16, b8, b16, beside_b),
-    )
+    decide(judge(beside_first), judge(beside_second))
 }
 
-// Which of two planes of bytes is nearer the original.
-pub fn better8(
-    o: &[u8],
-    a: &[u8],
-    b: &[u8],
-    width: usize,
-    height: usize,
-    stride_o: usize,
-    stride_a: usize,
-    stride_b: usize,
-    depth: u32,
-) -> Better
-    ensures { result ≡ better_of
-        (contest false o.entry a.entry b.entry width height stride_o stride_a stride_b depth) }
+// The samples of the better plane, all that were lent, padding too; an empty part where `nearer` refuses.
+pub fn winner<'c, S: Compared>(
+    format: Format,
+    original: Plane<'_, S>,
+    first: Plane<'c, S>,
+    second: Plane<'c, S>,
+) -> &'c [S]
+    ensures { map S.Sample.value result.now
+        ≡ winner_of (contest_of S.Sample.value S.WIDE format original.entry first.entry second.entry) }
 {
-    let size = Size {
-        wide: false,
-        width,
-        height,
-        depth,
-    };
-    answer(
-        o, &[0u16; 0], a, &[0u16; 0], b, &[0u16; 0], size, stride_o, stride_a, stride_b,
-    )
-}
-
-// The same of words.
-pub fn better16(
-    o: &[u16],
-    a: &[u16],
-    b: &[u16],
-    width: usize,
-    height: usize,
-    stride_o: usize,
-    stride_a: usize,
-    stride_b: usize,
-    depth: u32,
-) -> Better
-    ensures { result ≡ better_of
-        (contest true o.entry a.entry b.entry width height stride_o stride_a stride_b depth) }
-{
-    let size = Size {
-        wide: true,
-        width,
-        height,
-        depth,
-    };
-    answer(
-        &[0u8; 0], o, &[0u8; 0], a, &[0u8; 0], b, size, stride_o, stride_a, stride_b,
-    )
-}
-
-// The better plane of bytes itself, as it was lent, padding and all; an empty part where `better8` refuses.
-pub fn winner8<'o, 'c>(
-    o: &'o [u8],
-    a: &'c [u8],
-    b: &'c [u8],
-    width: usize,
-    height: usize,
-    stride_o: usize,
-    stride_a: usize,
-    stride_b: usize,
-    depth: u32,
-) -> &'c [u8]
-    ensures { result.now ≡ winner_of
-        (contest false o.entry a.entry b.entry width height stride_o stride_a stride_b depth) }
-{
-    match better8(o, a, b, width, height, stride_o, stride_a, stride_b, depth) {
-        Better::First(e) => a,
-        Better::Second(e) => b,
-        Better::Refused(n) => &a[0..0],
-    }
-}
-
-// The same of words.
-pub fn winner16<'o, 'c>(
-    o: &'o [u16],
-    a: &'c [u16],
-    b: &'c [u16],
-    width: usize,
-    height: usize,
-    stride_o: usize,
-    stride_a: usize,
-    stride_b: usize,
-    depth: u32,
-) -> &'c [u16]
-    ensures { result.now ≡ winner_of
-        (contest true o.entry a.entry b.entry width height stride_o stride_a stride_b depth) }
-{
-    match better16(o, a, b, width, height, stride_o, stride_a, stride_b, depth) {
-        Better::First(e) => a,
-        Better::Second(e) => b,
-        Better::Refused(n) => &a[0..0],
+    match nearer(format, original, first, second) {
+        Ok(Better::First(_)) => first.samples,
+        Ok(Better::Second(_)) => second.samples,
+        Err(_) => &first.samples[0..0],
     }
 }

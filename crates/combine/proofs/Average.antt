@@ -12,11 +12,9 @@ use lib.IntN.{ℤ, pos, negsuc, neg_ℤ, ◌+ℤ◌, ◌*ℤ◌, pos-+ℤ-pos, n
 use lib.Ieee.{Float, nan, inf, fin, binary64, fits, le}
 use lib.Ieee.Positive.{num, den, den_pos}
 use lib.Ieee.Scale.{finite}
-use Rattle.number.proofs.Overflow.{never}
 use Rattle.number.proofs.Parts.{part, le_parts}
 use Rattle.combine.specs.declared.Planar.{Planar}
-use Rattle.combine.specs.declared.CombinedHvs.{CombinedHvs}
-use Rattle.combine.specs.declared.CombinedHvs.TheVariants as visual
+use Rattle.std.specs.Prelude.{Ok}
 use Rattle.combine.specs.Combine.{visual_score, combinable, combined_refusal, score_for, combined_hvs_of}
 use Rattle.combine.proofs.Joined.{total_most, total_least, out_most, out_least}
 use Rattle.combine.proofs.Rounded.{Doubles, Answered, heft, parts, score_most, no_score, score_least}
@@ -105,18 +103,10 @@ module _ (c : Float) (s : Planar) (t : Answered c s) where
 
 -- ---- the laws, of what the call answers
 
-abbrev scored : CombinedHvs → Float
-scored (visual.Score x) = x
-scored (visual.Refused n) = nan
-
-abbrev taken : CombinedHvs → Bool
-taken (visual.Score x) = true
-taken (visual.Refused n) = false
-
-says : (a b : Bool) (x r : Float) → score_for (combined_refusal a b) x ≡ visual.Score r → (a ≡ true) × ((b ≡ true) × (x ≡ r))
-says true true x r e = (refl, (refl, ap scored e))
-says true false x r e = absurd (never (ap taken e))
-says false b x r e = absurd (never (ap taken e))
+says : (a b : Bool) (x r : Float) → score_for (combined_refusal a b) x ≡ Ok r → (a ≡ true) × ((b ≡ true) × (x ≡ r))
+says true true x r e = (refl, (refl, cc))
+says true false x r e = cc
+says false b x r e = cc
 
 -- a finite double, and one between two others
 pub record Double (x : Float) : Type 0 where
@@ -126,7 +116,7 @@ pub record Double (x : Float) : Type 0 where
 abbrev pub Held : Float → Float → Float → Type 0
 Held lo x hi = T (le lo x) × T (le x hi)
 
-module _ (c : Float) (s : Planar) (doubles : Doubles c s) (r : Float) (answer : combined_hvs_of c s ≡ visual.Score r) where
+module _ (c : Float) (s : Planar) (doubles : Doubles c s) (r : Float) (answer : combined_hvs_of c s ≡ Ok r) where
   said : (combinable c s ≡ true) × ((finite (visual_score c s) ≡ true) × (visual_score c s ≡ r))
   said = says (combinable c s) (finite (visual_score c s)) (visual_score c s) r answer
 

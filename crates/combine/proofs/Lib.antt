@@ -1,5 +1,4 @@
--- What combining answers case by case, and the laws of its figures.
-mod Answers
+-- The laws of what combining answers, and of its figures.
 pub mod Average
 mod Joined
 mod Rounded

@@ -1,13 +1,13 @@
 -- Blocks of 64 as rows and columns. Assumes nothing.
 use mathlib.Core.Path.{◌≡◌, refl, sym, ap, ap₂, ◌∙◌}
 use mathlib.Core.List.{List, [], ◌∷◌, ◌++◌, append_assoc, append-nil}
-use Prim.Native.Nat.{ℕ, zero, suc, ◌+◌, ◌-◌, ◌*◌, ◌≤◌, ◌<◌, zero-le}
+use Prim.Native.Nat.{ℕ, zero, suc, ◌+◌, ◌-◌, ◌*◌, ◌≤◌, zero-le}
 use native.Mathlib.Omega.{arith}
 use native.Mathlib.Numerals.{add-one}
 use lib.IntN.{ℤ, pos}
-use lib.ListN.{length, get_or, set, take, drop, length-append, drop_of_length-le}
-use lib.Seq.{take-suc, take-suc-set, take_at, drop_at, take-length, drop-length, drop-drop}
-use borrow.Rule.Slice.PartMut.{put_mid}
+use lib.ListN.{length, get_or, take, drop, length-append, drop_of_length-le}
+use lib.Seq.{take_at, drop_at, take-length, drop-length, drop-drop}
+use borrow.Rule.Slice.PartMut.{put_mid, same_len_mid}
 use Rattle.lifting.specs.Inner.Within.{AllWithin, Within}
 use Rattle.dct.specs.Block.{rows, spaced, column, row, fdct8, input_order}
 use Rattle.lifting.specs.Steps.{steps}
@@ -52,25 +52,24 @@ mid a r d out y e l =
     let len : length (r ++ d) - a ≡ length d = omega (arith, length-append r d) in
     rw (e, take_at r d a l, drop_at r d a l, len, take-length d, drop-length d, append-nil (y ++ drop 8 d))
 
-pub rows_more : (f : ℕ → List ℤ) (i : ℕ) (out out₀ : List ℤ) → ((k : ℕ) → length (f k) ≡ 8) → out ≡ rows f i ++ drop (8 * i) out₀
-    → put_mid (8 * i) (length out - 8 * i) out (f i ++ drop 8 (take (length out - 8 * i) (drop (8 * i) out))) ≡ rows f (i + 1) ++ drop (8 * (i + 1)) out₀
-rows_more f i out out₀ h e =
+pub rows_more : (f : ℕ → List ℤ) (i : ℕ) (out out₀ part : List ℤ) → ((k : ℕ) → length (f k) ≡ 8) → out ≡ rows f i ++ drop (8 * i) out₀
+    → part ≡ f i ++ drop 8 (take (length out - 8 * i) (drop (8 * i) out))
+    → put_mid (8 * i) (length out - 8 * i) out part ≡ rows f (i + 1) ++ drop (8 * (i + 1)) out₀
+rows_more f i out out₀ part h e p =
     let q : 8 * i + 8 ≡ 8 * (i + 1) = omega arith in
-    mid (8 * i) (rows f i) (drop (8 * i) out₀) out (f i) e (length_rows f h i)
+    rw p (mid (8 * i) (rows f i) (drop (8 * i) out₀) out (f i) e (length_rows f h i)
     ∙ sym (append_assoc (rows f i) (f i) (drop 8 (drop (8 * i) out₀)))
     ∙ ap₂ (λ (x y : List ℤ). x ++ y) (ap (rows f) (sym (add-one i)))
-    (drop-drop 8 (8 * i) out₀ ∙ ap (λ (k : ℕ). drop k out₀) q)
+    (drop-drop 8 (8 * i) out₀ ∙ ap (λ (k : ℕ). drop k out₀) q))
 
-pub rows_all : (f : ℕ → List ℤ) (i : ℕ) (out out₀ : List ℤ) → i ≤ 8 → 8 ≤ i → length out₀ ≡ 64 → out ≡ rows f i ++ drop (8 * i) out₀ → out ≡ rows f 8
-rows_all f i out out₀ l k h e =
+pub rows_all : (f : ℕ → List ℤ) (i : ℕ) (out out₀ : List ℤ) → out ≡ rows f i ++ drop (8 * i) out₀ → i ≤ 8 → 8 ≤ i → length out₀ ≡ 64 → out ≡ rows f 8
+rows_all f i out out₀ e l k h =
     let q : i ≡ 8 = omega arith in
     e ∙ ap (λ (n : ℕ). rows f n ++ drop (8 * n) out₀) q
     ∙ ap (λ (y : List ℤ). rows f 8 ++ y) (drop_of_length-le out₀ {i = 64} (omega arith)) ∙ append-nil (rows f 8)
 
--- ---- a copy, one more at a time
+pub column_eight : (x : List ℤ) (k : ℕ) → length (column k x) ≡ 8
+column_eight x k = refl
 
-pub copied_more : (x out : List ℤ) (i : ℕ) (w : ℤ) → i < length x → length out ≡ length x → w ≡ get_or x i (pos 0) → take i out ≡ take i x
-    → take (i + 1) (set out i w) ≡ take (i + 1) x
-copied_more x out i w l e p h =
-    let q : i < length out = omega arith in
-    rw (add-one, take-suc-set out i w q, take-suc x i (pos 0) l, h, p)
+-- what a loop over the rows learns in a turn
+pub ruleset row_steps = (rows_more, same_len_mid, column_eight, length_fdct8, small_column, small_row)

@@ -2,7 +2,7 @@
 use mathlib.Core.List.{List, [], ◌∷◌, ◌++◌}
 use Prim.Native.Nat.{ℕ, zero, suc, ◌≤◌}
 use native.Mathlib.Nat.{le_refl, le_trans}
-use lib.Dec.{T, leb, leb→le}
+use lib.Dec.{T, leb, leb→le, lit≤}
 use lib.IntN.{ℤ}
 use Rattle.dct.specs.Limits.{forward_limit, inverse_limit}
 use Rattle.dct.specs.Inner.Coefficients.{coefficient_limit}
@@ -71,6 +71,15 @@ middle_small = fdct8_columns_small forward_limit run_limit (leb→le _ run_limit
 
 pub middle_back_small : (z : List ℤ) → AllWithin inverse_limit z → AllWithin undo_limit (idct8_rows z)
 middle_back_small = idct8_rows_small inverse_limit undo_limit (leb→le _ undo_limit computed.middle_back)
+
+-- and what the calls take is small enough for the first
+pub first_small : (b : List ℤ) → AllWithin forward_limit b → AllWithin run_limit b
+first_small = small_mono (lit≤ tt)
+
+pub first_back_small : (z : List ℤ) → AllWithin inverse_limit z → AllWithin undo_limit z
+first_back_small = small_mono (lit≤ tt)
+
+pub ruleset two_rounds = (first_small, middle_small, first_back_small, middle_back_small)
 
 -- every coefficient of a block that forward takes
 pub coefficient_bound : (b : List ℤ) → AllWithin forward_limit b → AllWithin coefficient_limit (fdct8x8 b)

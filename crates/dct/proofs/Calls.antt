@@ -8,7 +8,8 @@ use lib.Dec.{eqb}
 use lib.IntN.{ℤ}
 use lib.ListN.{length}
 use borrow.Author.Tests.{eq-eqb, eqb-true}
-use Rattle.refusal.specs.Numbers.{value_no}
+use Rattle.std.specs.Prelude.{Ok, Err}
+use Rattle.refusal.specs.declared.Refusal.TheVariants.{Value}
 use Rattle.dct.specs.Limits.{block_size, forward_limit, inverse_limit}
 use Rattle.lifting.specs.Inner.Within.{AllWithin}
 use Rattle.dct.specs.Call.{all_within, block_suits, transform_refusal, out_after}
@@ -37,21 +38,36 @@ module _ (n : ℕ) (given : List ℤ) (p : ℕ) where
 
 -- ---- the answer, and what is in out
 
-module _ (n : ℕ) (f : List ℤ → List ℤ) (given out : List ℤ) where
-  pub accepted : block_suits n given (length out) ≡ true → (transform_refusal n given out ≡ 0) × (out_after n f given out ≡ f given)
-  unfolding transform_refusal out_after
-  accepted h = (rw h, rw h)
+module _ (n : ℕ) (given out : List ℤ) where
+  pub told_taken : block_suits n given (length out) ≡ true → transform_refusal n given out ≡ Ok tt
+  unfolding transform_refusal
+  told_taken h = rw h
 
-  pub refused : block_suits n given (length out) ≡ false → (transform_refusal n given out ≡ value_no) × (out_after n f given out ≡ out)
-  unfolding transform_refusal out_after
-  refused h = (rw h, rw h)
+  pub told_refused : block_suits n given (length out) ≡ false → transform_refusal n given out ≡ Err Value
+  unfolding transform_refusal
+  told_refused h = rw h
+
+module _ (n : ℕ) (f : List ℤ → List ℤ) (given out : List ℤ) where
+  pub taken_after : block_suits n given (length out) ≡ true → out_after n f given out ≡ f given
+  unfolding out_after
+  taken_after h = rw h
+
+  pub refused_after : block_suits n given (length out) ≡ false → out_after n f given out ≡ out
+  unfolding out_after
+  refused_after h = rw h
+
+  accepted : block_suits n given (length out) ≡ true → (transform_refusal n given out ≡ Ok tt) × (out_after n f given out ≡ f given)
+  accepted h = (told_taken n given out h, taken_after h)
+
+-- what a call learns of the test of what it is given
+pub ruleset call_steps = (taken, told_taken, told_refused, taken_after, refused_after, length_fdct8x8, transform_undo)
 
 -- ---- the calls one after the other
 
--- forward, then inverse: a block of 64 values in range returns, both calls answering 0
+-- forward, then inverse: a block of 64 values in range returns, neither call refusing
 pub forward_then_inverse : (b out out₂ : List ℤ) → length b ≡ block_size → length out ≡ block_size → length out₂ ≡ block_size → AllWithin forward_limit b
     → (let z = out_after forward_limit fdct8x8 b out in
-    (transform_refusal forward_limit b out ≡ 0) × (transform_refusal inverse_limit z out₂ ≡ 0) × (out_after inverse_limit idct8x8 z out₂ ≡ b))
+    (transform_refusal forward_limit b out ≡ Ok tt) × (transform_refusal inverse_limit z out₂ ≡ Ok tt) × (out_after inverse_limit idct8x8 z out₂ ≡ b))
 forward_then_inverse b out out₂ e o o₂ h =
     let p = accepted forward_limit fdct8x8 b out (is_taken forward_limit b (length out) (record { in_places = e; out_places = o; sizes = h })) in
     let q = accepted inverse_limit idct8x8 (fdct8x8 b) out₂
@@ -62,7 +78,7 @@ forward_then_inverse b out out₂ e o o₂ h =
 pub inverse_then_forward : (z out out₂ : List ℤ) → length z ≡ block_size → length out ≡ block_size → length out₂ ≡ block_size → AllWithin inverse_limit z
     → AllWithin forward_limit (idct8x8 z)
     → (let b = out_after inverse_limit idct8x8 z out in
-    (transform_refusal inverse_limit z out ≡ 0) × (transform_refusal forward_limit b out₂ ≡ 0) × (out_after forward_limit fdct8x8 b out₂ ≡ z))
+    (transform_refusal inverse_limit z out ≡ Ok tt) × (transform_refusal forward_limit b out₂ ≡ Ok tt) × (out_after forward_limit fdct8x8 b out₂ ≡ z))
 inverse_then_forward z out out₂ e o o₂ h k =
     let p = accepted inverse_limit idct8x8 z out (is_taken inverse_limit z (length out) (record { in_places = e; out_places = o; sizes = h })) in
     let q = accepted forward_limit fdct8x8 (idct8x8 z) out₂

@@ -10,6 +10,7 @@ use lib.ListN.{length}
 use Rattle.lifting.specs.Inner.Within.{AllWithin}
 use Rattle.lifting.proofs.Size.{cond_ind, size_diff}
 use Rattle.dct.specs.Limits.{block_size, forward_limit, inverse_limit}
+use Rattle.std.specs.Prelude.{Ok}
 use Rattle.dct.specs.Call.{transform_refusal, out_after}
 use Rattle.dct.specs.Block.{fdct8x8, idct8x8}
 use Rattle.dct.proofs.Bound.{small_mono}
@@ -80,7 +81,7 @@ minus_small n m (x ∷ a) (y ∷ b) h k = (record { le = omega (arith, size_diff
 abbrev pub Returns : List ℤ → List ℤ → List ℤ → Type 0
 Returns b out out₂ =
     let z = out_after forward_limit fdct8x8 b out in
-    (transform_refusal forward_limit b out ≡ 0) × (transform_refusal inverse_limit z out₂ ≡ 0) × (out_after inverse_limit idct8x8 z out₂ ≡ b)
+    (transform_refusal forward_limit b out ≡ Ok tt) × (transform_refusal inverse_limit z out₂ ≡ Ok tt) × (out_after inverse_limit idct8x8 z out₂ ≡ b)
 
 module _ (n : ℕ) (out out₂ : List ℤ) (o : length out ≡ block_size) (o₂ : length out₂ ≡ block_size) where
   pub residue_returns : n ≤ forward_limit → (p q : List ℕ) → Samples n p → Samples n q → Returns (residue p q) out out₂

@@ -1,7 +1,7 @@
 -- SCOPE, "When the desk says no", 12 of the transform. Definitions only.
 use Rattle.std.specs.Prelude.{Bool, true, ◌&&◌, cond, List, [], ◌∷◌, ℕ, eqb, leb, ℤ, nat_abs, length}
-use Rattle.refusal.specs.First.{first_broken}
-use Rattle.refusal.specs.Numbers.{value_no}
+use Rattle.refusal.specs.First.{Verdict, first_broken}
+use Rattle.refusal.specs.declared.Refusal.TheVariants as no
 use Rattle.dct.specs.Limits.{block_size}
 
 -- every number lies from -n to n: the test of what `AllWithin` (of `lifting`) states
@@ -13,9 +13,9 @@ all_within n (a ∷ v) = leb (nat_abs a) n && all_within n v
 unfoldable pub block_suits : ℕ → List ℤ → ℕ → Bool
 block_suits n given places = eqb (length given) block_size && (eqb places block_size && all_within n given)
 
--- the answer of a call that takes -n to n: 0, or 12
-unfoldable pub transform_refusal : ℕ → List ℤ → List ℤ → ℕ
-transform_refusal n given out = first_broken ((value_no, block_suits n given (length out)) ∷ [])
+-- the answer of a call that takes -n to n: nothing, or 12
+unfoldable pub transform_refusal : ℕ → List ℤ → List ℤ → Verdict
+transform_refusal n given out = first_broken ((no.Value, block_suits n given (length out)) ∷ [])
 
 -- what is in out afterwards: f of what was given, or, refused, what was there
 unfoldable pub out_after : ℕ → (List ℤ → List ℤ) → List ℤ → List ℤ → List ℤ

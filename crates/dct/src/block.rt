@@ -13,22 +13,7 @@ pub fn store(r: T8, out: &mut [i32])
     requires { 8 ≤ length out.old }
     ensures { out.new ≡ vals r ++ drop 8 out.old }
 {
-    let y0 = r.t0;
-    let y1 = r.t1;
-    let y2 = r.t2;
-    let y3 = r.t3;
-    let y4 = r.t4;
-    let y5 = r.t5;
-    let y6 = r.t6;
-    let y7 = r.t7;
-    out[0] = y0;
-    out[1] = y1;
-    out[2] = y2;
-    out[3] = y3;
-    out[4] = y4;
-    out[5] = y5;
-    out[6] = y6;
-    out[7] = y7;
+    out[..8].copy_from_slice(&[r.t0, r.t1, r.t2, r.t3, r.t4, r.t5, r.t6, r.t7]);
 }
 
 // Eight numbers of a block, each `by` places after the one before: a column by 8, a row by 1.
@@ -62,12 +47,14 @@ pub fn fdct8(x: &[i32], i: usize, out: &mut [i32])
 }
 
 // Column i goes to row i, for each of the eight.
+#[tactic(auto, using(crate::proofs::Blocks::row_steps))]
 pub fn fdct8_columns_into(x: &[i32], out: &mut [i32])
     requires x_len { length x.now ≡ block_size }
     requires out_len { length out.old ≡ block_size }
     requires all_within { AllWithin run_limit x.now }
     ensures { out.new ≡ Block.fdct8_columns x.now }
 {
+    // by index: column i of one block and row i of the other are taken together
     for i in 0..BLOCK_SIDE {
         let at = BLOCK_SIDE * i;
         fdct8(x, i, &mut out[at..]);
@@ -83,17 +70,6 @@ pub fn fdct8_columns(x: &[i32]) -> [i32; BLOCK_SIZE]
     let mut y = [0i32; BLOCK_SIZE];
     fdct8_columns_into(x, &mut y);
     y
-}
-
-pub fn copy(x: &[i32], out: &mut [i32])
-    requires { length out.old ≡ length x.now }
-    ensures { out.new ≡ x.now }
-{
-    let mut i = 0;
-    while i < x.len() {
-        out[i] = x[i];
-        i += 1;
-    }
 }
 
 // Row i of x goes through the inverse pass to the front of out.
@@ -121,12 +97,14 @@ pub fn idct8(x: &[i32], i: usize, out: &mut [i32])
 }
 
 // Each row through the inverse pass.
+#[tactic(auto, using(crate::proofs::Blocks::row_steps, crate::proofs::Round::length_idct8))]
 pub fn idct8_each_row(x: &[i32], out: &mut [i32])
     requires x_len { length x.now ≡ block_size }
     requires out_len { length out.old ≡ block_size }
     requires all_within { AllWithin undo_limit x.now }
     ensures { out.new ≡ Block.rows (λ i. Block.idct8 (Block.row i x.now)) block_side }
 {
+    // by index: row i of both blocks is taken together
     for i in 0..BLOCK_SIDE {
         let at = BLOCK_SIDE * i;
         idct8(x, i, &mut out[at..]);
@@ -144,11 +122,13 @@ pub fn transpose_row(x: &[i32], i: usize, out: &mut [i32])
     store(c, out);
 }
 
+#[tactic(auto, using(crate::proofs::Blocks::row_steps))]
 pub fn transpose(x: &[i32], out: &mut [i32])
     requires x_len { length x.now ≡ block_size }
     requires out_len { length out.old ≡ block_size }
     ensures { out.new ≡ Block.transposed x.now }
 {
+    // by index: column i of one block and row i of the other are taken together
     for i in 0..BLOCK_SIDE {
         let at = BLOCK_SIDE * i;
         transpose_row(x, i, &mut out[at..]);
@@ -156,6 +136,7 @@ pub fn transpose(x: &[i32], out: &mut [i32])
 }
 
 // Row i goes back to column i, for each of the eight.
+#[tactic(auto, unfolding(crate::specs::Block::idct8_rows))]
 pub fn idct8_rows(x: &[i32], out: &mut [i32])
     requires x_len { length x.now ≡ block_size }
     requires out_len { length out.old ≡ block_size }

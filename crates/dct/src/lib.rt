@@ -3,14 +3,15 @@
 
 mod block;
 
-ghost use Rattle.std.specs.Prelude.{◌≡◌, T, leb, nat_abs, length};
+ghost use Rattle.std.specs.Prelude.{◌≡◌, T, leb, nat_abs, length, Ok};
 ghost use Rattle.std.specs.Int.Signed.{non_neg};
 ghost use Rattle.dct.specs.Limits.{block_size, forward_limit, inverse_limit};
 ghost use Rattle.lifting.specs.Inner.Within.{AllWithin};
 ghost use Rattle.dct.specs.Block as Block;
 ghost use Rattle.dct.specs.Call.{all_within, block_suits, transform_refusal, out_after};
 
-use crate::block::{copy, fdct8_columns, idct8_rows};
+use crate::block::{fdct8_columns, idct8_rows};
+use refusal::Refusal;
 
 // The side of a block, its places, and the largest sizes that the two calls take. specs/Limits.antt has the same for definitions.
 pub const BLOCK_SIDE: usize = 8;
@@ -25,24 +26,15 @@ fn within(v: i32, limit: i32) -> bool
     requires { T (non_neg limit) }
     ensures { result ≡ leb (nat_abs v) (nat_abs limit) }
 {
-    if v < -limit {
-        return false;
-    }
-    if limit < v {
-        return false;
-    }
-    true
+    -limit <= v && v <= limit
 }
 
 fn all_within(x: &[i32], limit: i32) -> bool
     requires { T (non_neg limit) }
     ensures { result ≡ all_within (nat_abs limit) x.now }
 {
-    let mut i = 0;
-    while i < x.len() {
-        if within(x[i], limit) {
-            i += 1;
-        } else {
+    for v in x {
+        if !within(*v, limit) {
             return false;
         }
     }
@@ -54,16 +46,11 @@ fn block_suits(given: &[i32], places: usize, limit: i32) -> bool
     requires { T (non_neg limit) }
     ensures { result ≡ block_suits (nat_abs limit) given.now places }
 {
-    if given.len() != BLOCK_SIZE {
-        return false;
-    }
-    if places != BLOCK_SIZE {
-        return false;
-    }
-    all_within(given, limit)
+    given.len() == BLOCK_SIZE && places == BLOCK_SIZE && all_within(given, limit)
 }
 
 // The transform, for a caller who knows that the block is in range.
+#[tactic(auto, using(crate::proofs::Bound::two_rounds, crate::proofs::Round::length_fdct8_columns), unfolding(crate::specs::Block::fdct8x8))]
 pub fn fdct8x8(block: &[i32]) -> [i32; BLOCK_SIZE]
     requires block_len { length block.now ≡ block_size }
     requires all_within { AllWithin forward_limit block.now }
@@ -73,6 +60,7 @@ pub fn fdct8x8(block: &[i32]) -> [i32; BLOCK_SIZE]
     fdct8_columns(&z)
 }
 
+#[tactic(auto, using(crate::proofs::Bound::two_rounds), unfolding(crate::specs::Block::idct8x8))]
 fn idct8x8(coefs: &[i32], out: &mut [i32])
     requires coefs_len { length coefs.now ≡ block_size }
     requires out_len { length out.old ≡ block_size }
@@ -84,28 +72,29 @@ fn idct8x8(coefs: &[i32], out: &mut [i32])
     idct8_rows(&z, out);
 }
 
-// The transform of a block into `out`: 0, or 12 and nothing altered.
-pub fn forward(block: &[i32], out: &mut [i32]) -> u8
+// The transform of a block into `out`, or 12 and nothing altered.
+#[tactic(auto, using(crate::proofs::Calls::call_steps))]
+pub fn forward(block: &[i32], out: &mut [i32]) -> Result<(), Refusal>
     ensures answer { result ≡ transform_refusal forward_limit block.now out.old }
     ensures content { out.new ≡ out_after forward_limit Block.fdct8x8 block.now out.old }
 {
-    if block_suits(block, out.len(), FORWARD_LIMIT) {
-        let y = fdct8x8(block);
-        copy(&y, out);
-        return 0;
+    if !block_suits(block, out.len(), FORWARD_LIMIT) {
+        return Err(Refusal::Value);
     }
-    refusal::VALUE
+    out.copy_from_slice(&fdct8x8(block));
+    Ok(())
 }
 
-// The one block that the transform carries to the coefficients, into `out`: 0, or 12 and nothing altered.
-pub fn inverse(coefs: &[i32], out: &mut [i32]) -> u8
+// The one block that the transform carries to the coefficients, into `out`, or 12 and nothing altered.
+#[tactic(auto, using(crate::proofs::Calls::call_steps))]
+pub fn inverse(coefs: &[i32], out: &mut [i32]) -> Result<(), Refusal>
     ensures answer { result ≡ transform_refusal inverse_limit coefs.now out.old }
     ensures content { out.new ≡ out_after inverse_limit Block.idct8x8 coefs.now out.old }
-    ensures carried { result ≡ 0 → Block.fdct8x8 out.new ≡ coefs.now }
+    ensures carried { result ≡ Ok tt → Block.fdct8x8 out.new ≡ coefs.now }
 {
-    if block_suits(coefs, out.len(), INVERSE_LIMIT) {
-        idct8x8(coefs, out);
-        return 0;
+    if !block_suits(coefs, out.len(), INVERSE_LIMIT) {
+        return Err(Refusal::Value);
     }
-    refusal::VALUE
+    idct8x8(coefs, out);
+    Ok(())
 }

@@ -1,17 +1,17 @@
 -- What is known of a D that is answered, whoever was asked: a record, a total or a run of records. Assumes nothing.
-use mathlib.Core.Path.{◌≡◌, refl, sym, ap}
-use mathlib.Core.Bool.{Bool, true, false, true≢false}
+use mathlib.Core.Path.{◌≡◌, refl}
+use mathlib.Core.Bool.{Bool, true, false}
 use mathlib.Core.List.{List}
 use Prim.Native.Nat.{ℕ, zero, suc, ◌+◌, ◌-◌, ◌*◌, ◌^◌, ◌≤◌, ◌<◌}
 use native.Mathlib.Omega.{arith}
-use Rattle.refusal.specs.First.{by_refusal}
+use Rattle.std.specs.Prelude.{Ok, Err}
+use Rattle.refusal.specs.First.{Verdict, unless_refused}
 use Rattle.psnr.specs.declared.Record.{Record}
 use Rattle.psnr.specs.declared.Total.{Total}
 use Rattle.psnr.specs.Record.{whole_of, record_suits}
 use Rattle.psnr.specs.Series.{first_max, error_total, count_total, series_refusal}
 use Rattle.psnr.proofs.Totals.{series_adds}
-use Rattle.decibels.specs.declared.Decibels.{Decibels}
-use Rattle.decibels.specs.declared.Decibels.TheVariants.{Hundredths, Identical, Refused}
+use Rattle.decibels.specs.declared.Decibels.TheVariants.{Hundredths}
 use Rattle.decibels.specs.Hundredths.{place_count, peak_of, hundredths_of}
 use Rattle.decibels.specs.Answer.{decibels_of, decibels_if, record_decibels, total_suits, total_decibels, series_decibels}
 use Rattle.decibels.proofs.Suits.{record_suits_lem, total_suits_lem}
@@ -41,44 +41,35 @@ of_rule P E d some below e =
       kept = rw e at (limit_kept P E some below);
     }
 
--- ---- a case is told from the others, and its number read
-abbrev is_hundredths : Decibels → Bool
-is_hundredths (Hundredths d) = true
-is_hundredths Identical = false
-is_hundredths (Refused k) = false
-
-abbrev read : Decibels → ℕ
-read (Hundredths d) = d
-read Identical = 0
-read (Refused k) = 0
-
 of_error : (P E d : ℕ) → E ≤ P → decibels_of P E ≡ Hundredths d → Answered P E d
-of_error P zero d below e = absurd (true≢false (sym (ap is_hundredths e)))
-of_error P (suc E) d below e = of_rule P (suc E) d (omega arith) below (ap read e)
+of_error P zero d below e = cc
+of_error P (suc E) d below e = of_rule P (suc E) d (omega arith) below (cc e)
 
 -- whoever judges by one test
-of_test : (b : Bool) (n max E d : ℕ) → (b ≡ true → E ≤ peak_of n max) → decibels_if b n max E ≡ Hundredths d → Answered (peak_of n max) E d
-of_test true n max E d below e = of_error (peak_of n max) E d (below refl) e
-of_test false n max E d below e = absurd (true≢false (sym (ap is_hundredths e)))
+of_test : (b : Bool) (n max E d : ℕ) → (b ≡ true → E ≤ peak_of n max) → decibels_if b n max E ≡ Ok (Hundredths d) → Answered (peak_of n max) E d
+of_test true n max E d below e = of_error (peak_of n max) E d (below refl) (cc e)
+of_test false n max E d below e = cc
 
 -- ---- the three
-series_below : (rs : List Record) → series_refusal rs ≡ 0 → error_total rs ≤ peak_of (count_total rs) (first_max rs)
+series_below : (rs : List Record) → series_refusal rs ≡ Ok tt → error_total rs ≤ peak_of (count_total rs) (first_max rs)
 unfolding peak_of
 series_below rs z = (series_adds rs z).most
 
-pub record_answered : (r : Record) (d : ℕ) → record_decibels r ≡ Hundredths d → Answered (peak_of r.n r.sample_max) (whole_of r.sq_err) d
+pub record_answered : (r : Record) (d : ℕ) → record_decibels r ≡ Ok (Hundredths d) → Answered (peak_of r.n r.sample_max) (whole_of r.sq_err) d
 unfolding record_decibels
 record_answered r d e = of_test (record_suits r) r.n r.sample_max (whole_of r.sq_err) d (λ s. (record_suits_lem r s).below) e
 
-pub total_answered : (t : Total) (d : ℕ) → total_decibels t ≡ Hundredths d → Answered (peak_of t.n t.sample_max) (whole_of t.sq_err) d
+pub total_answered : (t : Total) (d : ℕ) → total_decibels t ≡ Ok (Hundredths d) → Answered (peak_of t.n t.sample_max) (whole_of t.sq_err) d
 unfolding total_decibels
 total_answered t d e = of_test (total_suits t) t.n t.sample_max (whole_of t.sq_err) d (λ s. (total_suits_lem t s).below) e
 
-pub series_answered : (rs : List Record) (d : ℕ) → series_decibels rs ≡ Hundredths d → Answered (peak_of (count_total rs) (first_max rs)) (error_total rs) d
+pub series_answered : (rs : List Record) (d : ℕ) → series_decibels rs ≡ Ok (Hundredths d)
+    → Answered (peak_of (count_total rs) (first_max rs)) (error_total rs) d
 unfolding series_decibels
 series_answered rs d e = go (series_refusal rs) refl e
   where
-    go : (k : ℕ) → series_refusal rs ≡ k → by_refusal k (decibels_of (peak_of (count_total rs) (first_max rs)) (error_total rs)) (Refused k) ≡ Hundredths d
+    go : (k : Verdict) → series_refusal rs ≡ k
+        → unless_refused k (Ok (decibels_of (peak_of (count_total rs) (first_max rs)) (error_total rs))) ≡ Ok (Hundredths d)
         → Answered (peak_of (count_total rs) (first_max rs)) (error_total rs) d
-    go zero z e = of_error _ _ d (series_below rs z) e
-    go (suc k) z e = absurd (true≢false (sym (ap is_hundredths e)))
+    go (Ok _) z e = of_error _ _ d (series_below rs z) (cc e)
+    go (Err r) z e = cc

@@ -105,7 +105,7 @@ pub record Right (k e : ℕ) : Type 0 where
   pub next : entry_power k < (e + 1) ^ place_count
   pub near : 999999 * entry_power k ≤ 1000000 * e ^ place_count
 
-all_places : length chart ≡ place_count
+pub all_places : length chart ≡ place_count
 unfolding chart part0 part1 part2 part3 part4 part5 part6 part7 part8 part9 place_count
 all_places = refl
 

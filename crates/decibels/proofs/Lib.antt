@@ -7,6 +7,7 @@ mod Suits
 mod Table
 pub mod Charted
 pub mod Places
+mod Search
 pub mod Bounds
 pub mod Ratio
 pub mod Worked

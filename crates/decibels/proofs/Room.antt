@@ -6,7 +6,6 @@ use native.Mathlib.Nat.{le_of_lt, lt_of_le_of_lt, mul-le-mul, mul-le-mul_left, p
 use native.Mathlib.Decide.{dec_lt}
 use native.Mathlib.Omega.{arith}
 use lib.Dec.{lit≤, lit<}
-use Rattle.number.specs.Inner.Wide.{value_of}
 use Rattle.plane.specs.Limits.{most_depth}
 use Rattle.plane.specs.Plane.{max_of, sample_limit}
 use Rattle.psnr.specs.Limits.{count_limit, record_limit}
@@ -26,11 +25,6 @@ power_short P E m some fits most = go (dec_lt m 21)
         let a : 10 ^ 21 ≤ 10 ^ m = pow-le-pow_right (omega arith) {i = 21} {j = m} (omega arith) in
         let b : 10 ^ m * 1 ≤ 10 ^ m * E = mul-le-mul_left (10 ^ m) some in
         absurd (omega arith)
-
--- a word as a number of two
-pub one_word : (m : ℕ) → value_of (record { hi = 0; lo = m }) ≡ m
-unfolding value_of
-one_word m = omega arith
 
 -- the largest P of a record or a total: said of the limits, whatever they are
 peaks_fit : record_limit * count_limit * (sample_limit * sample_limit) < peak_limit

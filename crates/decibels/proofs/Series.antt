@@ -8,7 +8,8 @@ use native.Mathlib.Nat.{add-zero, le_trans, le_of_lt}
 use native.Mathlib.Omega.{arith}
 use borrow.Author.Tests.{le-leb, eq-eqb}
 use lib.Dec.{leb}
-use Rattle.refusal.specs.First.{by_refusal}
+use Rattle.std.specs.Prelude.{Ok, Err}
+use Rattle.refusal.specs.First.{Verdict, unless_refused}
 use Rattle.number.specs.Steps.{double}
 use Rattle.psnr.specs.declared.Record.{Record}
 use Rattle.psnr.specs.declared.Total.{Total}
@@ -20,7 +21,6 @@ use Rattle.psnr.proofs.Numbers.{numbered, renumbered}
 use Rattle.psnr.proofs.Records.{product_fits, suits_count_suits, suits_max, suits_most}
 use Rattle.psnr.proofs.Totals.{Adds, series_adds}
 use Rattle.psnr.proofs.Whole.{whole_back}
-use Rattle.decibels.specs.declared.Decibels.TheVariants.{Refused}
 use Rattle.decibels.specs.Hundredths.{peak_of}
 use Rattle.decibels.specs.Answer.{decibels_of, decibels_if, record_decibels, total_suits, total_decibels, summed_decibels, series_decibels}
 
@@ -45,25 +45,26 @@ module _ (rs : List Record) (a : Adds rs) where
         le-leb (error_total rs) (count_total rs * (first_max rs * first_max rs)) a.most,
       )
 
-  its_decibels : total_decibels its ≡ decibels_of (peak_of (count_total rs) (first_max rs)) (error_total rs)
+  its_decibels : total_decibels its ≡ Ok (decibels_of (peak_of (count_total rs) (first_max rs)) (error_total rs))
   unfolding total_decibels
   its_decibels = rw (total_suits_lem, its_error.1)
 
 -- what is made of a total error by its own case
-told : (E n max P : ℕ) → total_decibels (series_total E n max) ≡ decibels_of P E → summed_decibels (series_answer 0 E n max) ≡ decibels_of P E
+told : (E n max P : ℕ) → total_decibels (series_total E n max) ≡ Ok (decibels_of P E) → summed_decibels (Ok (series_answer E n max)) ≡ Ok (decibels_of P E)
 unfolding summed_decibels
 told zero n max P e = rw e
 told (suc E) n max P e = rw e
 
+-- of what a series answered: a refusal is passed on
 pub series_summed : (rs : List Record) → summed_decibels (series_of rs) ≡ series_decibels rs
 unfolding series_of series_decibels summed_decibels
 series_summed rs = go (series_refusal rs) refl
   where
-    go : (k : ℕ) → series_refusal rs ≡ k
-        → summed_decibels (series_answer k (error_total rs) (count_total rs) (first_max rs))
-        ≡ by_refusal k (decibels_of (peak_of (count_total rs) (first_max rs)) (error_total rs)) (Refused k)
-    go zero e = told (error_total rs) (count_total rs) (first_max rs) _ (its_decibels rs (series_adds rs e))
-    go (suc k) e = refl
+    go : (k : Verdict) → series_refusal rs ≡ k
+        → summed_decibels (unless_refused k (Ok (series_answer (error_total rs) (count_total rs) (first_max rs))))
+        ≡ unless_refused k (Ok (decibels_of (peak_of (count_total rs) (first_max rs)) (error_total rs)))
+    go (Ok _) e = told (error_total rs) (count_total rs) (first_max rs) _ (its_decibels rs (series_adds rs e))
+    go (Err r) e = refl
 
 -- whose the records are does not count, where their numbers are right
 pub renumbered_decibels : (xs ys : List Record) → map figures_of xs ≡ map figures_of ys → numbered xs ≡ numbered ys → series_decibels xs ≡ series_decibels ys

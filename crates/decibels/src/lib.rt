@@ -2,180 +2,141 @@
 #![tactic(auto)]
 
 ghost use Rattle.std.specs.Prelude.{◌≡◌, ◌*◌, ◌^◌, ◌≤◌, ◌<◌};
-ghost use Rattle.number.specs.Inner.Wide.{value_of};
 ghost use Rattle.decibels.specs.Hundredths.{place_count, entry_of, peak_of, power_of, place_of};
 ghost use Rattle.decibels.specs.Answer.{decibels_of, record_decibels, total_suits, total_decibels, summed_decibels, series_decibels};
 ghost use Rattle.decibels.specs.Inner.Chart.{chart};
 ghost use Rattle.decibels.specs.Inner.Room.{power_limit, peak_limit};
 
-use number::wide;
-use number::wide::Wide;
 use psnr::{Record, Summed, Total};
+use refusal::Refusal;
 
 mod chart;
 
 // The places of the chart.
-const PLACES: usize = 1000;
+const PLACES: u32 = 1000;
 
 // What its entries count: 10^9.
-const UNIT: u64 = 1_000_000_000;
+const UNIT: u128 = 1_000_000_000;
 
 // The hundredths of the 100 decibels that stand for "identical".
 pub const IDENTICAL: u32 = 10_000;
 
-// What is answered: D; that no sample differs, for which 100 decibels stand; or the refusal.
-#[derive(Clone, Copy)]
+// What is answered: D, or that no sample differs, for which 100 decibels stand.
+#[derive(Clone, Copy, Debug, PartialEq, Eq)]
 pub enum Decibels {
     Hundredths(u32),
     Identical,
-    Refused(u8),
-}
-
-// Place k of the chart.
-#[tactic(auto, using(crate::proofs::Charted::charted), unfolding(crate::specs::Hundredths::place_count))]
-fn entry(entries: &[u64; 1000], k: usize) -> u64
-    requires { (entries.now ≡ chart) × (k < place_count) }
-    ensures { result ≡ entry_of k }
-{
-    entries[k]
 }
 
 // An error times a power of ten, and which power.
-#[derive(Clone, Copy)]
+#[derive(Clone, Copy, Debug, PartialEq, Eq)]
 struct Raised {
-    error: Wide,
+    error: u128,
     power: u32,
 }
 
-// The error times the largest power of ten with which it is still at most P.
-fn raise(peak: Wide, error: u64) -> Raised
-    requires { (1 ≤ error) × (error ≤ value_of peak) × (value_of peak < peak_limit) }
-    ensures power_value { (result.power ≡ power_of (value_of peak) error) × (value_of result.error ≡ 10 ^ result.power * error) }
-    ensures power_lt_power_limit { (result.power < power_limit) × (value_of result.error ≤ value_of peak) }
+// The error times the largest power of ten with which it is still at most P. A `while`, since what is sought is how often it runs.
+fn raise(peak: u128, error: u64) -> Raised
+    requires { (1 ≤ error) × (error ≤ peak) × (peak < peak_limit) }
+    ensures power_value { (result.power ≡ power_of peak error) × (result.error ≡ 10 ^ result.power * error) }
+    ensures power_lt_power_limit { (result.power < power_limit) × (error ≤ result.error) × (result.error ≤ peak) }
 {
     let mut power: u32 = 0;
-    let mut held = Wide { hi: 0, lo: error };
-    let mut next = wide::times(held, 10);
-    while !wide::less(peak, next) {
+    let mut held = u128::from(error);
+    while held * 10 <= peak {
         power += 1;
-        held = next;
-        next = wide::times(held, 10);
+        held *= 10;
     }
     Raised { error: held, power }
 }
 
-// The last place of the chart whose entry times the error is at most P units: halves the range in which it lies, since the entries rise.
-// The chart is lent, since a constant is laid out anew wherever it is named: once a call, and not once a step.
-#[tactic(auto, using(crate::proofs::Entries::place_rules), unfolding(crate::specs::Hundredths::place_count))]
-fn place(entries: &[u64; 1000], peak: Wide, error: Wide) -> usize
+// The last place of the chart whose entry times the error is at most P units. The chart is lent, since a constant is laid out anew
+// wherever it is named: once a call, and not once a step.
+fn place(entries: &[u64; 1000], peak: u128, error: u128) -> usize
     requires entries_value { entries.now ≡ chart }
-    requires error_bound { (value_of error ≤ value_of peak) × (value_of peak < peak_limit) }
-    ensures { (result ≡ place_of (value_of peak) (value_of error)) × (result < place_count) }
+    requires error_bound { (1 ≤ error) × (error ≤ peak) × (peak < peak_limit) }
+    ensures { (result ≡ place_of peak error) × (result < place_count) }
 {
-    let most = wide::times(peak, UNIT);
-    let mut low: usize = 0;
-    let mut high: usize = PLACES;
-    while low + 1 < high {
-        let mid = (low + high) / 2;
-        if wide::less(most, wide::times(error, entry(entries, mid))) {
-            high = mid;
-        } else {
-            low = mid;
-        }
-    }
-    low
+    let most = peak * UNIT / error;
+    entries.partition_point(|e| u128::from(*e) <= most) - 1
 }
 
 // P: n samples, each as wrong as it can be.
 #[tactic(auto, unfolding(crate::specs::Hundredths::peak_of))]
-fn peak_of(n: u64, max: u32) -> Wide
-    ensures { value_of result ≡ peak_of n max }
+fn peak_of(n: u64, max: u32) -> u128
+    ensures { result ≡ peak_of n max }
 {
-    wide::product(n, (max as u64) * (max as u64))
+    u128::from(n) * (u128::from(max) * u128::from(max))
 }
 
 // The answer for an error under P.
-#[tactic(auto, unfolding(crate::specs::Hundredths::hundredths_of, crate::specs::Hundredths::place_count))]
-fn answer(peak: Wide, error: u64) -> Decibels
-    requires { (error ≤ value_of peak) × (value_of peak < peak_limit) }
-    ensures { result ≡ decibels_of (value_of peak) error }
+#[tactic(auto, unfolding(crate::specs::Hundredths::hundredths_of, crate::specs::Hundredths::place_count, crate::specs::Inner::Room::power_limit))]
+fn answer(peak: u128, error: u64) -> Decibels
+    requires { (error ≤ peak) × (peak < peak_limit) }
+    ensures { result ≡ decibels_of peak error }
 {
     if error == 0 {
         return Decibels::Identical;
     }
     let s = raise(peak, error);
     let k = place(&chart::ENTRIES, peak, s.error);
-    Decibels::Hundredths((PLACES as u32) * s.power + (k as u32))
+    Decibels::Hundredths(PLACES * s.power + k as u32)
 }
 
 // Of a record.
-#[tactic(auto, unfolding(crate::specs::Answer::record_decibels))]
-pub fn of_record(r: Record) -> Decibels
+#[tactic(auto, using(crate::proofs::Suits::record_suits_lem), unfolding(crate::specs::Answer::record_decibels))]
+pub fn of_record(r: Record) -> Result<Decibels, Refusal>
     ensures { result ≡ record_decibels r }
 {
     if !psnr::judge::record_suits(r) {
-        return Decibels::Refused(refusal::RECORD);
+        return Err(Refusal::Record);
     }
-    answer(peak_of(r.n, r.sample_max), r.sq_err as u64)
+    Ok(answer(peak_of(r.n, r.sample_max), r.sq_err as u64))
 }
 
 // Whether some series adds up to this total. Its largest error can need more than a word.
-#[tactic(auto, using(crate::proofs::Room::one_word), unfolding(crate::specs::Answer::total_suits, psnr::specs::Record::error_suits))]
+#[tactic(auto, unfolding(crate::specs::Answer::total_suits, psnr::specs::Record::error_suits, psnr::specs::Limits::record_limit, psnr::specs::Limits::count_limit))]
 fn total_suits(t: Total) -> bool
     ensures { result ≡ total_suits t }
 {
-    if !((1 <= t.n) & (t.n <= psnr::RECORD_LIMIT * psnr::judge::COUNT_LIMIT)) {
-        return false;
-    }
-    if !psnr::judge::max_suits(t.sample_max) {
-        return false;
-    }
-    if !psnr::judge::is_whole(t.sq_err) {
-        return false;
-    }
-    let error = Wide {
-        hi: 0,
-        lo: t.sq_err as u64,
-    };
-    !wide::less(peak_of(t.n, t.sample_max), error)
+    (1..=psnr::RECORD_LIMIT * psnr::judge::COUNT_LIMIT).contains(&t.n)
+        && psnr::judge::max_suits(t.sample_max)
+        && psnr::judge::is_whole(t.sq_err)
+        && u128::from(t.sq_err as u64) <= peak_of(t.n, t.sample_max)
 }
 
 // Of a total.
-#[tactic(auto, unfolding(crate::specs::Answer::total_decibels))]
-pub fn of_total(t: Total) -> Decibels
+#[tactic(auto, using(crate::proofs::Suits::total_suits_lem), unfolding(crate::specs::Answer::total_decibels))]
+pub fn of_total(t: Total) -> Result<Decibels, Refusal>
     ensures { result ≡ total_decibels t }
 {
     if !total_suits(t) {
-        return Decibels::Refused(refusal::RECORD);
+        return Err(Refusal::Record);
     }
-    answer(peak_of(t.n, t.sample_max), t.sq_err as u64)
+    Ok(answer(peak_of(t.n, t.sample_max), t.sq_err as u64))
 }
 
-// Of what a series answered.
+// Of what a series answered; its refusal is passed on.
 #[tactic(auto, unfolding(crate::specs::Answer::summed_decibels))]
-pub fn of_summed(s: Summed) -> Decibels
-    ensures { result ≡ summed_decibels s }
+pub fn of_summed(answer: Result<Summed, Refusal>) -> Result<Decibels, Refusal>
+    ensures { result ≡ summed_decibels answer }
 {
-    match s {
-        Summed::Differs(t) => match of_total(t) {
-            Decibels::Hundredths(d) => Decibels::Hundredths(d),
-            Decibels::Identical => Decibels::Refused(refusal::RECORD),
-            Decibels::Refused(k) => Decibels::Refused(k),
+    match answer? {
+        Summed::Differs(t) => match of_total(t)? {
+            Decibels::Hundredths(d) => Ok(Decibels::Hundredths(d)),
+            Decibels::Identical => Err(Refusal::Record),
         },
-        Summed::Identical(t) => match of_total(t) {
-            Decibels::Hundredths(_) => Decibels::Refused(refusal::RECORD),
-            Decibels::Identical => Decibels::Identical,
-            Decibels::Refused(k) => Decibels::Refused(k),
+        Summed::Identical(t) => match of_total(t)? {
+            Decibels::Hundredths(_) => Err(Refusal::Record),
+            Decibels::Identical => Ok(Decibels::Identical),
         },
-        Summed::Refused(k) => Decibels::Refused(k),
     }
 }
 
 // Of a lent run of records.
 #[tactic(auto, using(crate::proofs::Series::series_summed))]
-pub fn of_series(records: &[Record]) -> Decibels
+pub fn of_series(records: &[Record]) -> Result<Decibels, Refusal>
     ensures { result ≡ series_decibels records.now }
 {
-    let total = psnr::series(records);
-    of_summed(total)
+    of_summed(psnr::series(records))
 }

@@ -1,13 +1,18 @@
 -- Laws of the lent 32-bit places: one store more in a row, and one row more. Assumes nothing.
-use mathlib.Core.Path.{◌≡◌, ◌∙◌}
-use mathlib.Core.List.{List}
-use Prim.Native.Nat.{ℕ, ◌+◌, ◌*◌, ◌<◌}
+use mathlib.Core.Path.{◌≡◌, sym, ap, ◌∙◌}
+use mathlib.Core.List.{List, ◌++◌, map}
+use Prim.Native.Nat.{ℕ, ◌+◌, ◌*◌, ◌<◌, ◌≤◌}
 use native.Mathlib.Nat.{ne_of_lt, add-mul, one-mul, mul-le-mul_right}
 use native.Mathlib.Omega.{arith}
 use borrow.Author.Count.{below_more}
-use lib.ListN.{length, set}
+use lib.ListN.{length, get_or, set, take, drop}
 use lib.Seq.{get_or-set_same, get_or-set_other}
-use Rattle.plane.specs.Plane.{at}
+use Rattle.std.proofs.lemmas.Grind.{elements}
+use Rattle.std.proofs.lemmas.List.{length-map}
+use Rattle.plane.specs.Plane.{at, plane_of, sample_at, needed}
+use Rattle.plane.specs.Inner.Seen.{row_in}
+use Rattle.plane.proofs.Rows.{row_inside, row_length, row_at}
+use Rattle.plane.proofs.All.{at_value}
 use Rattle.downscale.specs.Inner.Longs.{Put, Filled}
 
 -- ---- a row
@@ -22,6 +27,22 @@ put_more old l from n g v p e h =
       after = λ i m. get_or-set_other l (from + n) i v 0 (λ q. absurd (omega arith)) ∙ p.after i (omega arith);
     }
 
+-- a row of n numbers put back in the place of those from `from` on
+pub row_put : (old row : List ℕ) (from n m x : ℕ) (g : ℕ → ℕ) → from + n ≤ length old → m ≡ n → length row ≡ length (take m (drop from old))
+    → length (take m (drop from old)) ≤ x → ((i : ℕ) → i < x → at row i ≡ g i) → Put old (take from old ++ (row ++ drop m (drop from old))) from n g
+row_put old row from n m x g room e same whole h =
+    let len : length row ≡ n = grind (arith, elements) in
+    record {
+      there = λ i l. let e : at (take from old ++ (row ++ drop m (drop from old))) (from + i) ≡ at row i = grind (arith, elements) in e ∙ h i (omega (arith, same, whole, len));
+      before = λ i l. grind (arith, elements);
+      after = λ i l. grind (arith, elements);
+    }
+
+-- what a read of a sample of a row gives
+pub row_read : {S : Type 0} (value : S → ℕ) (row : List S) (i v : ℕ) (x : S) → x ≡ get_or row i x → v ≡ value (get_or row i x) → i < length row
+    → v ≡ at (map value row) i
+row_read value row i v x e w l = w ∙ ap value (sym e) ∙ sym (at_value value row i e l)
+
 -- ---- all rows
 next : (y w : ℕ) → (y + 1) * w ≡ y * w + w
 next y w = rw (add-mul y 1 w, one-mul w)
@@ -35,3 +56,13 @@ filled_more old l l' width v y g f p e =
           (p.there c k ∙ e c k) r m;
       rest = λ i m. p.after i (omega (arith, next y width)) ∙ f.rest i (omega (arith, next y width));
     }
+
+-- a row of a plane, as the numbers that its samples are
+pub row_more : {S : Type 0} (value : S → ℕ) (samples row : List S) (stride width height : ℕ) (old l l' : List ℕ) (y : ℕ)
+    → Filled old l width (sample_at (plane_of (map value samples) stride)) y → row ≡ row_in samples stride width y
+    → needed width height stride ≤ length (map value samples) → y < height → Put l l' (y * width) (length row) (at (map value row))
+    → Filled old l' width (sample_at (plane_of (map value samples) stride)) (y + 1)
+row_more value samples row stride width height old l l' y f e long m p =
+    let inside = row_inside width stride (rw length-map at long) m in
+    let put = rw (e, row_length value samples stride width y inside) at p in
+    filled_more old l l' width _ y _ f put (row_at value samples stride width y inside)

@@ -1,7 +1,9 @@
--- What the answer about the better of two candidates is at the face: a number, 0 where it is accepted, and what is written. Definitions only.
-use Rattle.std.specs.Prelude.{ℕ, Float}
+-- What the answer about the better of two candidates is at the face: what is written. Definitions only.
+use Rattle.std.specs.Prelude.{ℕ, Float, Result}
+use Rattle.refusal.specs.declared.Refusal.{Refusal}
 use Rattle.better.specs.declared.Better.{Better}
-use Rattle.better.specs.declared.Better.TheVariants.{First, Second, Refused}
+use Rattle.better.specs.declared.Better.TheVariants.{First, Second}
+use Rattle.fuavelino.specs.Answer.{written}
 
 -- the candidates by number
 abbrev pub first_no : ℕ
@@ -10,19 +12,18 @@ first_no = 1
 abbrev pub second_no : ℕ
 second_no = 2
 
--- the refusal's number, and 0 where there is none
-abbrev pub better_number : Better → ℕ
-better_number (First e) = 0
-better_number (Second e) = 0
-better_number (Refused n) = n
+-- the smaller error, and whose it is
+abbrev pub smaller : Better → Float
+smaller (First e) = e
+smaller (Second e) = e
 
--- what then stands in the two places lent: the smaller error and whose it is, or what stood there
-abbrev pub smaller_written : Better → Float → Float
-smaller_written (First e) old = e
-smaller_written (Second e) old = e
-smaller_written (Refused n) old = old
+abbrev pub which : Better → ℕ
+which (First e) = first_no
+which (Second e) = second_no
 
-abbrev pub which_written : Better → ℕ → ℕ
-which_written (First e) old = first_no
-which_written (Second e) old = second_no
-which_written (Refused n) old = old
+-- what then stands in the two places lent
+abbrev pub smaller_written : Result Better Refusal → Float → Float
+smaller_written = written smaller
+
+abbrev pub which_written : Result Better Refusal → ℕ → ℕ
+which_written = written which

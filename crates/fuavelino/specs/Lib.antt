@@ -1,13 +1,12 @@
+pub mod Answer
 pub mod Better
+pub mod Called
 pub mod Combine
 pub mod Decibels
-pub mod Hvs
-pub mod Kernel
 pub mod Locate
 pub mod Msssim
 pub mod Places
 pub mod Psnr
-pub mod Root
 pub mod Rows
 pub mod Ssim
 pub mod Version

@@ -1,19 +1,14 @@
--- What the answer of MS-SSIM is at the face: a number, 0 where it is accepted, and what is written. Definitions only.
-use Rattle.std.specs.Prelude.{List, [], ◌∷◌, ℕ, Float}
-use Rattle.msssim.specs.declared.Pairs.{Pairs}
-use Rattle.msssim.specs.declared.MsSsim.{MsSsim}
-use Rattle.msssim.specs.declared.MsSsim.TheVariants.{Five, Refused}
-
--- the refusal's number, and 0 where there is none
-abbrev pub msssim_number : MsSsim → ℕ
-msssim_number (Five p) = 0
-msssim_number (Refused n) = n
+-- What the answer of MS-SSIM is at the face: what is written. Definitions only.
+use Rattle.std.specs.Prelude.{List, [], ◌∷◌, Float, Result}
+use Rattle.refusal.specs.declared.Refusal.{Refusal}
+use Rattle.ssim.specs.declared.Ssim.{Ssim}
+use Rattle.fuavelino.specs.Answer.{written}
 
 -- ssim and cs of the first scale, then of the second, and so on
-abbrev pub pairs_list : Pairs → List Float
-pairs_list p = p.ssim1 ∷ p.cs1 ∷ p.ssim2 ∷ p.cs2 ∷ p.ssim3 ∷ p.cs3 ∷ p.ssim4 ∷ p.cs4 ∷ p.ssim5 ∷ p.cs5 ∷ []
+abbrev pub pairs_list : List Ssim → List Float
+pairs_list [] = []
+pairs_list (p ∷ l) = p.ssim ∷ p.cs ∷ pairs_list l
 
--- what then stands in the ten places lent: the pairs, or what stood there
-abbrev pub pairs_written : MsSsim → List Float → List Float
-pairs_written (Five p) old = pairs_list p
-pairs_written (Refused n) old = old
+-- what then stands in the ten places lent
+abbrev pub pairs_written : Result (List Ssim) Refusal → List Float → List Float
+pairs_written = written pairs_list

@@ -1,13 +1,13 @@
 -- Rows as they arrive, at the face: a state is three lent arrays, six numbers, the kernel's places and three sums. Definitions only.
-use Rattle.std.specs.Prelude.{Bool, List, [], ◌∷◌, ℕ, Float, ℤ, get_or}
+use Rattle.std.specs.Prelude.{Bool, List, [], ◌∷◌, ℕ, Float, ℤ, length, get_or, Result}
 use Rattle.std.specs.Float.{nan}
 use Rattle.std.specs.Borrow.{Bor}
-use Rattle.plane.specs.Plane.{at}
+use Rattle.refusal.specs.declared.Refusal.{Refusal}
+use Rattle.refusal.specs.First.{Verdict}
+use Rattle.plane.specs.Plane.{Planes, plane_of, at}
 use Rattle.rowfed.specs.declared.State.{State}
-use Rattle.rowfed.specs.declared.Took.{Took}
-use Rattle.rowfed.specs.declared.Took.TheVariants.{Yes, Refused}
-use Rattle.rowfed.specs.declared.Fed.{Fed}
-use Rattle.rowfed.specs.Feed.{fed_rows, feed_of, scratch_fed}
+use Rattle.rowfed.specs.Feed.{fed_rows, feed_refusal, state_fed, scratch_fed}
+use Rattle.fuavelino.specs.Answer.{written}
 
 -- width, height, depth, taps, rows that have come, rows that are scored
 abbrev pub numbers_of : State → List ℕ
@@ -35,30 +35,26 @@ state_in numbers kernel sums =
 abbrev pub lent_state : List ℕ → List ℕ → List Float → State
 lent_state numbers kernel sums = state_in numbers kernel sums
 
--- a feed to a state, of bytes or of words, its parameters as they stand: the answer, and what is left in the scratch
+-- a feed to a state, of bytes or of words, its parameters as they stand: its refusal, the state then, and what is left in the scratch
 module _ (wide : Bool) (s : State) (a b : Bor (List ℕ)) (stride_a stride_b rows : ℕ) (scratch : List ℤ) where
-  abbrev pub fed_to : Fed
-  fed_to = feed_of s (fed_rows wide s a b stride_a stride_b rows) scratch
+  abbrev pub lent_rows : Planes
+  lent_rows = fed_rows wide s (plane_of a.now stride_a) (plane_of b.now stride_b) rows
+
+  abbrev pub fed_to : Verdict
+  fed_to = feed_refusal s lent_rows (length scratch)
+
+  abbrev pub state_by : State
+  state_by = state_fed s lent_rows scratch
 
   abbrev pub left_by : List ℤ
-  left_by = scratch_fed s (fed_rows wide s a b stride_a stride_b rows) scratch
+  left_by = scratch_fed s lent_rows scratch
 
--- the refusal's number, and 0 where there is none
-abbrev pub took_number : Took → ℕ
-took_number Yes = 0
-took_number (Refused n) = n
+-- what a begin then leaves in the three arrays: the state's parts, or what stood there
+abbrev pub numbers_written : Result State Refusal → List ℕ → List ℕ
+numbers_written = written numbers_of
 
--- what then stands in a lent place: the new, or what stood there
-module _ {A : Type 0} where
-  abbrev pub written : Took → A → A → A
-  written Yes new old = new
-  written (Refused n) new old = old
+abbrev pub kernel_written : Result State Refusal → List ℕ → List ℕ
+kernel_written = written (λ (s : State). s.kernel)
 
-abbrev pub numbers_written : Fed → List ℕ → List ℕ
-numbers_written f old = written f.answer (numbers_of f.state) old
-
-abbrev pub kernel_written : Fed → List ℕ → List ℕ
-kernel_written f old = written f.answer f.state.kernel old
-
-abbrev pub sums_written : Fed → List Float → List Float
-sums_written f old = written f.answer (sums_of f.state) old
+abbrev pub sums_written : Result State Refusal → List Float → List Float
+sums_written = written sums_of

@@ -1,10 +1,12 @@
 // Combining the scores of three planes, for other languages. The places lent are written where the answer is 0, and as they were otherwise.
 ghost use Rattle.std.specs.Prelude.{◌≡◌};
+ghost use Rattle.refusal.specs.First.{answer_number};
 ghost use Rattle.combine.specs.Combine.{combined_ssim_of, combined_hvs_of};
-ghost use Rattle.fuavelino.specs.Combine.{planar, combined_ssim_number, sum_written, weight_written};
-ghost use Rattle.fuavelino.specs.Combine.{combined_hvs_number, combined_hvs_written};
+ghost use Rattle.fuavelino.specs.Answer.{written};
+ghost use Rattle.fuavelino.specs.Combine.{planar, sum_written, weight_written};
 
-use combine::{CombinedHvs, CombinedSsim, Planar};
+use crate::put;
+use combine::Planar;
 
 // Three SSIM scores, chroma weighted by c: the sum y + c * (u + v) and its weight 1 + 2c. 0, or 13, then 9.
 #[unsafe(no_mangle)]
@@ -16,31 +18,25 @@ pub extern "C" fn fuavelino_combine_ssim(
     sum: &mut f64,
     weight: &mut f64,
 ) -> u8
-    ensures value { result ≡ combined_ssim_number (combined_ssim_of c (planar y u v)) }
+    ensures value { result ≡ answer_number (combined_ssim_of c (planar y u v)) }
     ensures sum_after { sum.new ≡ sum_written (combined_ssim_of c (planar y u v)) sum.old }
     ensures weight_after { weight.new ≡ weight_written (combined_ssim_of c (planar y u v)) weight.old }
 {
     match combine::ssim(c, Planar { y, u, v }) {
-        CombinedSsim::Sum { sum: s, weight: w } => {
-            *sum = s;
-            *weight = w;
+        Ok(combined) => {
+            *sum = combined.sum;
+            *weight = combined.weight;
             0
         }
-        CombinedSsim::Refused(n) => n,
+        Err(no) => no.number(),
     }
 }
 
 // Three PSNR-HVS scores in one, chroma weighted by c: (y + c * (u + v)) / (1 + 2c). 0, or 13, then 9.
 #[unsafe(no_mangle)]
 pub extern "C" fn fuavelino_combine_hvs(c: f64, y: f64, u: f64, v: f64, score: &mut f64) -> u8
-    ensures value { result ≡ combined_hvs_number (combined_hvs_of c (planar y u v)) }
-    ensures score_after { score.new ≡ combined_hvs_written (combined_hvs_of c (planar y u v)) score.old }
+    ensures value { result ≡ answer_number (combined_hvs_of c (planar y u v)) }
+    ensures score_after { score.new ≡ written (λ x. x) (combined_hvs_of c (planar y u v)) score.old }
 {
-    match combine::hvs(c, Planar { y, u, v }) {
-        CombinedHvs::Score(s) => {
-            *score = s;
-            0
-        }
-        CombinedHvs::Refused(n) => n,
-    }
+    put(combine::hvs(c, Planar { y, u, v }), score)
 }

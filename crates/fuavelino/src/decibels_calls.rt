@@ -5,25 +5,27 @@ ghost use Rattle.fuavelino.specs.Decibels.{decibels_number, hundredths_written, 
 
 use decibels::Decibels;
 use psnr::{Record, Total};
+use refusal::Refusal;
 
 // Writes the hundredths, and whether they stand for "identical", where there are any.
-fn put_decibels(answer: Decibels, hundredths: &mut u32, identical: &mut u8) -> u8
+#[tactic(auto, unfolding(decibels::specs::Said::identical_hundredths, psnr::specs::Said::identical_decibels))]
+fn put_decibels(answer: Result<Decibels, Refusal>, hundredths: &mut u32, identical: &mut u8) -> u8
     ensures { (result ≡ decibels_number answer)
         × (hundredths.new ≡ hundredths_written answer hundredths.old)
         × (identical.new ≡ identical_written answer identical.old) }
 {
     match answer {
-        Decibels::Hundredths(d) => {
+        Ok(Decibels::Hundredths(d)) => {
             *hundredths = d;
             *identical = 0;
             0
         }
-        Decibels::Identical => {
+        Ok(Decibels::Identical) => {
             *hundredths = decibels::IDENTICAL;
             *identical = 1;
             0
         }
-        Decibels::Refused(k) => k,
+        Err(no) => no.number(),
     }
 }
 

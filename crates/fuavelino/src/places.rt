@@ -53,7 +53,7 @@ pub extern "C" fn fuavelino_error_map_places(width: usize, height: usize) -> usi
     ensures { result ≡ error_map_places width height }
 {
     if is_within(1, plane::SIDE_LIMIT, width) & is_within(1, plane::SIDE_LIMIT, height) {
-        locate::tiles::places(width, height)
+        locate::map::places(width, height)
     } else {
         0
     }

@@ -1,15 +1,20 @@
 // Rows as they arrive, for other languages. A state is three lent arrays: its six numbers, the places of its kernel, and its three sums.
 // They are written where the answer is 0, and as they were otherwise.
 ghost use Rattle.std.specs.Prelude.{◌≡◌, true, false, ◌≤◌, ltb};
+ghost use Rattle.refusal.specs.First.{answer_number, by_refusal};
 ghost use Rattle.plane.specs.Limits.{most_depth};
 ghost use Rattle.plane.specs.Plane.{size_of, at};
 ghost use Rattle.rowfed.specs.Begin.{begin_of, scratch_begun};
 ghost use Rattle.rowfed.specs.Finish.{finish_of, scratch_finished};
-ghost use Rattle.fuavelino.specs.Rows.{state_in, lent_state, fed_to, left_by, took_number, numbers_written, kernel_written, sums_written};
-ghost use Rattle.fuavelino.specs.Ssim.{ssim_number, ssim_written, cs_written};
+ghost use Rattle.fuavelino.specs.Rows.{state_in, lent_state, fed_to, state_by, left_by, numbers_of, sums_of, numbers_written, kernel_written, sums_written};
+ghost use Rattle.fuavelino.specs.Ssim.{ssim_written, cs_written};
 
-use rowfed::{Fed, State, Took};
-use ssim::{Ssim, Totals};
+use crate::plane_of;
+use crate::ssim_calls::put_pair;
+use plane::Format;
+use refusal::Refusal;
+use rowfed::State;
+use ssim::Totals;
 
 // A depth that no sample has: the state is impossible, and the number may not even fit the state's own.
 fn too_deep(numbers: [u64; 6]) -> bool
@@ -40,41 +45,41 @@ fn lent_state(numbers: [u64; 6], held: [u16; 255], sums: [f64; 3]) -> State
     }
 }
 
-// Writes the kernel of an accepted begin.
-fn put_kernel(fed: Fed, held: &mut [u16; 255])
-    ensures { held.new ≡ kernel_written fed held.old }
+// A state to the numbers and the sums.
+fn put_counts(state: &State, numbers: &mut [u64; 6], sums: &mut [f64; 3])
+    ensures numbers_after { numbers.new ≡ numbers_of state.now }
+    ensures sums_after { sums.new ≡ sums_of state.now }
 {
-    let answer = fed.answer;
-    let kernel = fed.state.kernel;
-    match answer {
-        Took::Yes => {
-            *held = kernel;
-        }
-        Took::Refused(n) => {}
-    }
+    *numbers = [
+        state.width as u64,
+        state.height as u64,
+        state.depth as u64,
+        state.taps as u64,
+        state.rows as u64,
+        state.scored as u64,
+    ];
+    *sums = [state.sums.ssim, state.sums.cs, state.sums.ssimw];
 }
 
-// Writes the numbers and the sums where the answer is yes.
-fn put_counts(fed: Fed, numbers: &mut [u64; 6], sums: &mut [f64; 3]) -> u8
-    ensures value { result ≡ took_number fed.answer }
-    ensures numbers_after { numbers.new ≡ numbers_written fed numbers.old }
-    ensures sums_after { sums.new ≡ sums_written fed sums.old }
+// Writes the state of an accepted begin: 0, or the number of the refusal.
+fn put_state(
+    answer: Result<State, Refusal>,
+    numbers: &mut [u64; 6],
+    held: &mut [u16; 255],
+    sums: &mut [f64; 3],
+) -> u8
+    ensures value { result ≡ answer_number answer }
+    ensures numbers_after { numbers.new ≡ numbers_written answer numbers.old }
+    ensures held_after { held.new ≡ kernel_written answer held.old }
+    ensures sums_after { sums.new ≡ sums_written answer sums.old }
 {
-    let answer = fed.answer;
     match answer {
-        Took::Yes => {
-            *numbers = [
-                fed.state.width as u64,
-                fed.state.height as u64,
-                fed.state.depth as u64,
-                fed.state.taps as u64,
-                fed.state.rows as u64,
-                fed.state.scored as u64,
-            ];
-            *sums = [fed.state.sums.ssim, fed.state.sums.cs, fed.state.sums.ssimw];
+        Ok(state) => {
+            put_counts(&state, numbers, sums);
+            *held = state.kernel;
             0
         }
-        Took::Refused(n) => n,
+        Err(no) => no.number(),
     }
 }
 
@@ -90,7 +95,7 @@ pub extern "C" fn fuavelino_rows_begin8(
     held: &mut [u16; 255],
     sums: &mut [f64; 3],
 ) -> u8
-    ensures value { result ≡ took_number (begin_of (size_of false width height depth) kernel.now scratch.old).answer }
+    ensures value { result ≡ answer_number (begin_of (size_of false width height depth) kernel.now scratch.old) }
     ensures scratch_after { scratch.new ≡ scratch_begun (size_of false width height depth) kernel.now scratch.old }
     ensures numbers_after { numbers.new ≡ numbers_written (begin_of (size_of false width height depth) kernel.now scratch.old)
         numbers.old }
@@ -99,9 +104,13 @@ pub extern "C" fn fuavelino_rows_begin8(
     ensures sums_after { sums.new ≡ sums_written (begin_of (size_of false width height depth) kernel.now scratch.old)
         sums.old }
 {
-    let fed = rowfed::begin8(width, height, depth, kernel, scratch);
-    put_kernel(fed, held);
-    put_counts(fed, numbers, sums)
+    let format = Format {
+        width,
+        height,
+        depth,
+    };
+    let answer = rowfed::begin::<u8>(format, kernel, scratch);
+    put_state(answer, numbers, held, sums)
 }
 
 // The same of words.
@@ -116,7 +125,7 @@ pub extern "C" fn fuavelino_rows_begin16(
     held: &mut [u16; 255],
     sums: &mut [f64; 3],
 ) -> u8
-    ensures value { result ≡ took_number (begin_of (size_of true width height depth) kernel.now scratch.old).answer }
+    ensures value { result ≡ answer_number (begin_of (size_of true width height depth) kernel.now scratch.old) }
     ensures scratch_after { scratch.new ≡ scratch_begun (size_of true width height depth) kernel.now scratch.old }
     ensures numbers_after { numbers.new ≡ numbers_written (begin_of (size_of true width height depth) kernel.now scratch.old)
         numbers.old }
@@ -125,9 +134,13 @@ pub extern "C" fn fuavelino_rows_begin16(
     ensures sums_after { sums.new ≡ sums_written (begin_of (size_of true width height depth) kernel.now scratch.old)
         sums.old }
 {
-    let fed = rowfed::begin16(width, height, depth, kernel, scratch);
-    put_kernel(fed, held);
-    put_counts(fed, numbers, sums)
+    let format = Format {
+        width,
+        height,
+        depth,
+    };
+    let answer = rowfed::begin::<u16>(format, kernel, scratch);
+    put_state(answer, numbers, held, sums)
 }
 
 // The next rows of both planes, bytes: 0; or 15 where the state is impossible, else the lowest of 4 5 6 8 15.
@@ -143,24 +156,37 @@ pub extern "C" fn fuavelino_rows_feed8(
     held: &[u16; 255],
     sums: &mut [f64; 3],
 ) -> u8
-    ensures value { result ≡ took_number (fed_to false (lent_state numbers.old held.now sums.old)
-        a.entry b.entry stride_a stride_b rows scratch.old).answer }
+    ensures value { result ≡ answer_number (fed_to false (lent_state numbers.old held.now sums.old)
+        a.entry b.entry stride_a stride_b rows scratch.old) }
     ensures scratch_after { scratch.new ≡ left_by false (lent_state numbers.old held.now sums.old)
         a.entry b.entry stride_a stride_b rows scratch.old }
-    ensures numbers_after { numbers.new ≡ numbers_written (fed_to false (lent_state numbers.old held.now sums.old)
+    ensures numbers_after { numbers.new ≡ by_refusal (fed_to false (lent_state numbers.old held.now sums.old)
         a.entry b.entry stride_a stride_b rows scratch.old)
+        (numbers_of (state_by false (lent_state numbers.old held.now sums.old) a.entry b.entry stride_a stride_b rows scratch.old))
         numbers.old }
-    ensures sums_after { sums.new ≡ sums_written (fed_to false (lent_state numbers.old held.now sums.old)
+    ensures sums_after { sums.new ≡ by_refusal (fed_to false (lent_state numbers.old held.now sums.old)
         a.entry b.entry stride_a stride_b rows scratch.old)
+        (sums_of (state_by false (lent_state numbers.old held.now sums.old) a.entry b.entry stride_a stride_b rows scratch.old))
         sums.old }
 {
     let n = *numbers;
     if too_deep(n) {
-        return refusal::STATE;
+        return Refusal::State.number();
     }
-    let state = lent_state(n, *held, *sums);
-    let fed = rowfed::feed8(state, a, b, stride_a, stride_b, rows, scratch);
-    put_counts(fed, numbers, sums)
+    let mut state = lent_state(n, *held, *sums);
+    match rowfed::feed(
+        &mut state,
+        plane_of(a, stride_a),
+        plane_of(b, stride_b),
+        rows,
+        scratch,
+    ) {
+        Ok(()) => {
+            put_counts(&state, numbers, sums);
+            0
+        }
+        Err(no) => no.number(),
+    }
 }
 
 // The same of words.
@@ -176,24 +202,37 @@ pub extern "C" fn fuavelino_rows_feed16(
     held: &[u16; 255],
     sums: &mut [f64; 3],
 ) -> u8
-    ensures value { result ≡ took_number (fed_to true (lent_state numbers.old held.now sums.old)
-        a.entry b.entry stride_a stride_b rows scratch.old).answer }
+    ensures value { result ≡ answer_number (fed_to true (lent_state numbers.old held.now sums.old)
+        a.entry b.entry stride_a stride_b rows scratch.old) }
     ensures scratch_after { scratch.new ≡ left_by true (lent_state numbers.old held.now sums.old)
         a.entry b.entry stride_a stride_b rows scratch.old }
-    ensures numbers_after { numbers.new ≡ numbers_written (fed_to true (lent_state numbers.old held.now sums.old)
+    ensures numbers_after { numbers.new ≡ by_refusal (fed_to true (lent_state numbers.old held.now sums.old)
         a.entry b.entry stride_a stride_b rows scratch.old)
+        (numbers_of (state_by true (lent_state numbers.old held.now sums.old) a.entry b.entry stride_a stride_b rows scratch.old))
         numbers.old }
-    ensures sums_after { sums.new ≡ sums_written (fed_to true (lent_state numbers.old held.now sums.old)
+    ensures sums_after { sums.new ≡ by_refusal (fed_to true (lent_state numbers.old held.now sums.old)
         a.entry b.entry stride_a stride_b rows scratch.old)
+        (sums_of (state_by true (lent_state numbers.old held.now sums.old) a.entry b.entry stride_a stride_b rows scratch.old))
         sums.old }
 {
     let n = *numbers;
     if too_deep(n) {
-        return refusal::STATE;
+        return Refusal::State.number();
     }
-    let state = lent_state(n, *held, *sums);
-    let fed = rowfed::feed16(state, a, b, stride_a, stride_b, rows, scratch);
-    put_counts(fed, numbers, sums)
+    let mut state = lent_state(n, *held, *sums);
+    match rowfed::feed(
+        &mut state,
+        plane_of(a, stride_a),
+        plane_of(b, stride_b),
+        rows,
+        scratch,
+    ) {
+        Ok(()) => {
+            put_counts(&state, numbers, sums);
+            0
+        }
+        Err(no) => no.number(),
+    }
 }
 
 // The pair of all rows: 0; or 15 where the state is impossible, then 8, then 15 where rows are still to come, then 9.
@@ -206,7 +245,7 @@ pub extern "C" fn fuavelino_rows_finish(
     ssim: &mut f64,
     cs: &mut f64,
 ) -> u8
-    ensures value { result ≡ ssim_number (finish_of (lent_state numbers.now held.now sums.now) scratch.old) }
+    ensures value { result ≡ answer_number (finish_of (lent_state numbers.now held.now sums.now) scratch.old) }
     ensures scratch_after { scratch.new ≡ scratch_finished (lent_state numbers.now held.now sums.now) scratch.old }
     ensures ssim_after { ssim.new ≡ ssim_written (finish_of (lent_state numbers.now held.now sums.now) scratch.old)
         ssim.old }
@@ -215,15 +254,8 @@ pub extern "C" fn fuavelino_rows_finish(
 {
     let n = *numbers;
     if too_deep(n) {
-        return refusal::STATE;
+        return Refusal::State.number();
     }
     let state = lent_state(n, *held, *sums);
-    match rowfed::finish(state, scratch) {
-        Ssim::Pair { ssim: s, cs: c } => {
-            *ssim = s;
-            *cs = c;
-            0
-        }
-        Ssim::Refused(no) => no,
-    }
+    put_pair(rowfed::finish(state, scratch), ssim, cs)
 }

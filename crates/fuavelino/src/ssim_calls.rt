@@ -1,12 +1,32 @@
 // SSIM for other languages. `ssim` and `cs` are written where the answer is 0, and as they were otherwise.
 ghost use Rattle.std.specs.Prelude.{◌≡◌, true, false};
-ghost use Rattle.plane.specs.Plane.{called};
+ghost use Rattle.refusal.specs.First.{answer_number};
+ghost use Rattle.fuavelino.specs.Called.{called};
 ghost use Rattle.ssim.specs.Answer.{ssim_of, scratch_after};
-ghost use Rattle.fuavelino.specs.Ssim.{ssim_number, ssim_written, cs_written};
+ghost use Rattle.fuavelino.specs.Ssim.{ssim_written, cs_written};
 
+use crate::pair;
+use refusal::Refusal;
 use ssim::Ssim;
 
+// Writes the pair, where there is one: 0, or the number of the refusal.
+pub fn put_pair(answer: Result<Ssim, Refusal>, ssim: &mut f64, cs: &mut f64) -> u8
+    ensures value { result ≡ answer_number answer }
+    ensures ssim_after { (ssim.new ≡ ssim_written answer ssim.old)
+        × (cs.new ≡ cs_written answer cs.old) }
+{
+    match answer {
+        Ok(pair) => {
+            *ssim = pair.ssim;
+            *cs = pair.cs;
+            0
+        }
+        Err(no) => no.number(),
+    }
+}
+
 // SSIM of two planes of bytes under a lent kernel: 0, or the lowest of 1 2 4 5 6 7 8 9.
+#[tactic(auto, using(crate::proofs::Called::called_is))]
 #[unsafe(no_mangle)]
 pub extern "C" fn fuavelino_ssim8(
     a: &[u8],
@@ -21,7 +41,7 @@ pub extern "C" fn fuavelino_ssim8(
     ssim: &mut f64,
     cs: &mut f64,
 ) -> u8
-    ensures value { result ≡ ssim_number (ssim_of (called false a.entry b.entry width height stride_a stride_b depth)
+    ensures value { result ≡ answer_number (ssim_of (called false a.entry b.entry width height stride_a stride_b depth)
         kernel.now scratch.old) }
     ensures scratch_after { scratch.new ≡ scratch_after
         (called false a.entry b.entry width height stride_a stride_b depth) kernel.now scratch.old }
@@ -32,19 +52,16 @@ pub extern "C" fn fuavelino_ssim8(
         (ssim_of (called false a.entry b.entry width height stride_a stride_b depth)
         kernel.now scratch.old) cs.old }
 {
-    match ssim::ssim8(
-        a, b, width, height, stride_a, stride_b, depth, kernel, scratch,
-    ) {
-        Ssim::Pair { ssim: s, cs: c } => {
-            *ssim = s;
-            *cs = c;
-            0
-        }
-        Ssim::Refused(n) => n,
-    }
+    let answer = ssim::score(
+        pair(a, b, width, height, stride_a, stride_b, depth),
+        kernel,
+        scratch,
+    );
+    put_pair(answer, ssim, cs)
 }
 
 // The same of words.
+#[tactic(auto, using(crate::proofs::Called::called_is))]
 #[unsafe(no_mangle)]
 pub extern "C" fn fuavelino_ssim16(
     a: &[u16],
@@ -59,7 +76,7 @@ pub extern "C" fn fuavelino_ssim16(
     ssim: &mut f64,
     cs: &mut f64,
 ) -> u8
-    ensures value { result ≡ ssim_number (ssim_of (called true a.entry b.entry width height stride_a stride_b depth)
+    ensures value { result ≡ answer_number (ssim_of (called true a.entry b.entry width height stride_a stride_b depth)
         kernel.now scratch.old) }
     ensures scratch_after { scratch.new ≡ scratch_after
         (called true a.entry b.entry width height stride_a stride_b depth) kernel.now scratch.old }
@@ -70,14 +87,10 @@ pub extern "C" fn fuavelino_ssim16(
         (ssim_of (called true a.entry b.entry width height stride_a stride_b depth)
         kernel.now scratch.old) cs.old }
 {
-    match ssim::ssim16(
-        a, b, width, height, stride_a, stride_b, depth, kernel, scratch,
-    ) {
-        Ssim::Pair { ssim: s, cs: c } => {
-            *ssim = s;
-            *cs = c;
-            0
-        }
-        Ssim::Refused(n) => n,
-    }
+    let answer = ssim::score(
+        pair(a, b, width, height, stride_a, stride_b, depth),
+        kernel,
+        scratch,
+    );
+    put_pair(answer, ssim, cs)
 }

@@ -5,3 +5,4 @@ mod Walks
 pub mod WholeVariance
 mod Quarters
 mod Levels
+mod Mapped

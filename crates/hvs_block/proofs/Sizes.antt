@@ -1,17 +1,13 @@
--- What is read of a block is what stands there; differences of coefficients fit into 32 bits, and squares into 64. Assumes nothing.
-use mathlib.Core.Path.{◌≡◌, refl, ap, ◌∙◌}
-use mathlib.Core.Bool.{true, false}
+-- What is read of a block is what stands there; squares of coefficients fit into 64 bits. Assumes nothing.
+use mathlib.Core.Path.{◌≡◌, ap, ◌∙◌}
 use mathlib.Core.List.{List}
-use Prim.Native.Nat.{ℕ, suc, ◌+◌, ◌≤◌, ◌<◌, ◌^◌}
+use Prim.Native.Nat.{ℕ, ◌≤◌, ◌^◌}
 use native.Mathlib.Nat.{mul-le-mul, le_trans, lt_of_le_of_lt}
-use native.Mathlib.Omega.{arith}
-use borrow.Author.Tests.{ltb-true}
 use lib.Dec.{T, ltb, ltb→lt, lt→ltb, le→leb, lit≤, lit<}
-use lib.IntN.{ℤ, pos, negsuc, nat_abs, ◌-ℤ◌, ◌*ℤ◌}
+use lib.IntN.{ℤ, pos, negsuc, nat_abs, ◌*ℤ◌}
 use lib.ListN.{get_or}
 use lib.Ieee.{binary64, in_float}
-use lib.Signed.{lt_z}
-use mir.Syntax.{w32, w64}
+use mir.Syntax.{w64}
 use mir.Val.{SFits, to_z, of_z}
 use mir.Facts.{to_z-of_z}
 use Rattle.number.specs.Limits.{exact_limit}
@@ -20,7 +16,7 @@ use Rattle.lifting.specs.Inner.Within.{Within, AllWithin}
 use Rattle.lifting.specs.Inner.Operation.{read32}
 use Rattle.hvs_block.specs.Inner.Levels.{Sample}
 use Rattle.hvs_block.proofs.Numbers.{sample_small}
-use Rattle.lifting.proofs.Size.{fits, fits64, size_mul, size_diff, whole}
+use Rattle.lifting.proofs.Size.{fits, fits64, size_mul, whole}
 use Rattle.dct.proofs.Blocks.{small_at}
 
 -- ---- a place of a block, as it is read
@@ -70,35 +66,3 @@ module _ {a : ℤ} (h : Within coefficient_limit a) where
 
   pub square_exact : T (in_float binary64 (to_z w64 (of_z w64 (widened a *ℤ widened a))))
   square_exact = rw square_is (exact (a *ℤ a) square_small)
-
--- ---- the size of a number by its sign
-size_minus : (z : ℤ) → lt_z z (pos 0) ≡ true → pos 0 -ℤ z ≡ pos (nat_abs z)
-size_minus (pos n) e = absurd (omega (arith, ltb-true n 0 e))
-size_minus (negsuc n) e = let h : 0 + suc n ≡ suc n = omega arith in ap pos h
-
-size_plus : (z : ℤ) → lt_z z (pos 0) ≡ false → z ≡ pos (nat_abs z)
-size_plus (pos n) e = refl
-size_plus (negsuc n) e = absurd (let z : ◌≡◌ {A = ℕ} 0 1 = cc in omega arith)
-
--- ---- the difference of two coefficients
-module _ (a b : ℤ) (h : Within coefficient_limit a) (k : Within coefficient_limit b) where
-  small : nat_abs (a -ℤ b) < 2 ^ 31
-  small = omega (arith, size_diff a b, h.le, k.le)
-
-  pub difference_fits : SFits w32 (read32 a -ℤ read32 b)
-  difference_fits = rw (same tt h, same tt k) (fits _ small)
-
-  read : read32 (read32 a -ℤ read32 b) ≡ a -ℤ b
-  read = rw (same tt h, same tt k) (whole (fits (a -ℤ b) small).sfits)
-
-  negated : lt_z (read32 (read32 a -ℤ read32 b)) (pos 0) ≡ true → pos 0 -ℤ read32 (read32 a -ℤ read32 b) ≡ pos (nat_abs (a -ℤ b))
-  negated e = rw read (size_minus (a -ℤ b) (rw read at e))
-
-  pub negated_fits : lt_z (read32 (read32 a -ℤ read32 b)) (pos 0) ≡ true → SFits w32 (pos 0 -ℤ read32 (read32 a -ℤ read32 b))
-  negated_fits e = rw (negated e) (fits (pos (nat_abs (a -ℤ b))) small)
-
-  pub distance_below : lt_z (read32 (read32 a -ℤ read32 b)) (pos 0) ≡ true → read32 (pos 0 -ℤ read32 (read32 a -ℤ read32 b)) ≡ pos (nat_abs (a -ℤ b))
-  distance_below e = rw (negated e) (whole (fits (pos (nat_abs (a -ℤ b))) small).sfits)
-
-  pub distance_above : lt_z (read32 (read32 a -ℤ read32 b)) (pos 0) ≡ false → read32 (read32 a -ℤ read32 b) ≡ pos (nat_abs (a -ℤ b))
-  distance_above e = read ∙ size_plus (a -ℤ b) (rw read at e)

@@ -1,10 +1,10 @@
 -- SCOPE, "HVS, SSIM and scales", one block of 8 by 8 of each plane: the lines of `calculate_plane_psnr_hvs` inside its two loops,
 -- in their order. Of what the Rust does for both planes at once, the definition says what it does for one. Definitions only.
-use Rattle.std.specs.Prelude.{Bool, ◌&&◌, cond, List, ℕ, ◌+◌, ◌*◌, eqb, ℤ, pos, nat_abs, ◌-ℤ◌, ◌*ℤ◌, get_or, Float}
+use Rattle.std.specs.Prelude.{Bool, ◌&&◌, cond, List, ℕ, ◌+◌, ◌*◌, eqb, ℤ, pos, nat_abs, ◌-ℤ◌, ◌*ℤ◌, get_or, Float, Result}
+use Rattle.std.specs.Result.{result_unwrap_or}
 use Rattle.std.specs.Float.{nan, binary64}
 use Rattle.std.specs.Float.Ieee.{of_int, lt}
-use Rattle.number.specs.declared.Rooted.{Rooted}
-use Rattle.number.specs.declared.Rooted.TheVariants.{Root, Refused}
+use Rattle.refusal.specs.declared.Refusal.{Refusal}
 use Rattle.number.specs.Root.{root_of}
 use Rattle.number.specs.Steps.{◌⊕◌, ◌⊖◌, ◌⊗◌, ◌⊘◌, double, fold_to}
 use Rattle.number.specs.Literals.{zero_d}
@@ -72,9 +72,8 @@ unfoldable pub energy : List ℤ → List (List Float) → Float
 energy d mask = over_square block_side (add_energy d mask) zero_d
 
 -- .sqrt(): our root, and not-a-number where that is refused
-abbrev pub root_or_nan : Rooted → Float
-root_or_nan (Root r) = r
-root_or_nan (Refused n) = nan
+abbrev pub root_or_nan : Result Float Refusal → Float
+root_or_nan r = result_unwrap_or r nan
 
 unfoldable pub mask_for : Float → Float → Float
 mask_for e r = root_or_nan (root_of (e ⊗ r)) ⊘ thirty_two

@@ -6,9 +6,9 @@ ghost use Rattle.lifting.specs.Inner.Within.{Within, AllWithin};
 ghost use Rattle.hvs_block.specs.Block as Block;
 ghost use Rattle.hvs_block.specs.Inner.Levels.{Samples};
 
+use crate::tables::Tables;
 use crate::variance;
 use dct::{BLOCK_SIDE, BLOCK_SIZE};
-use number::Rooted;
 
 // The square of a coefficient. By what the transform promises of its size, 32 bits may not hold it.
 fn square(v: i32) -> f64
@@ -35,6 +35,7 @@ fn energies(d1: &[i32], d2: &[i32], mask: &[[f64; BLOCK_SIDE]; BLOCK_SIDE]) -> E
 {
     let mut s = 0.0;
     let mut t = 0.0;
+    // by index: two blocks and a table of rows are read at one place
     for k in 1..BLOCK_SIZE {
         let m = mask[k / BLOCK_SIDE][k % BLOCK_SIDE];
         s = s + square(d1[k]) * m;
@@ -47,10 +48,7 @@ fn energies(d1: &[i32], d2: &[i32], mask: &[[f64; BLOCK_SIDE]; BLOCK_SIDE]) -> E
 fn mask_for(e: f64, r: f64) -> f64
     ensures { result ≡ Block.mask_for e r }
 {
-    match number::root(e * r) {
-        Rooted::Root(s) => s / 32.0,
-        Rooted::Refused(_) => 0.0 / 0.0,
-    }
+    number::root(e * r).unwrap_or(f64::NAN) / 32.0
 }
 
 // The larger of two masks.
@@ -62,6 +60,7 @@ fn larger(m1: f64, m2: f64) -> f64
 }
 
 // The mask of two blocks p1 and p2, of which d1 and d2 are the coefficients.
+#[tactic(auto, unfolding(crate::specs::Block::mask_of_both))]
 fn mask_of_both(
     p1: &[i32],
     p2: &[i32],
@@ -89,8 +88,7 @@ fn distance(a: i32, b: i32) -> f64
     requires within_2 { Within coefficient_limit b }
     ensures { result ≡ Block.distance a b }
 {
-    let d = a - b;
-    if d < 0 { (-d) as f64 } else { d as f64 }
+    a.abs_diff(b) as f64
 }
 
 // What the mask leaves of an error; nothing of the DC term's is masked.
@@ -114,50 +112,38 @@ fn term(dc: bool, err: f64, csf: f64, mask: f64, m: f64) -> f64
     q * q
 }
 
-// The squared errors of every place, added to `res`.
-fn errors(
-    d1: &[i32],
-    d2: &[i32],
-    csf: &[[f64; BLOCK_SIDE]; BLOCK_SIDE],
-    mask: &[[f64; BLOCK_SIDE]; BLOCK_SIDE],
-    m: f64,
-    res: f64,
-) -> f64
+// The squared errors of every place, added to `so_far`.
+fn errors(d1: &[i32], d2: &[i32], tables: &Tables, m: f64, so_far: f64) -> f64
     requires d1_len { (length d1.now ≡ block_size) × (length d2.now ≡ block_size) }
     requires all_within { AllWithin coefficient_limit d1.now }
     requires all_within_2 { AllWithin coefficient_limit d2.now }
-    ensures { result ≡ Block.errors d1.now d2.now csf.now mask.now m res }
+    ensures { result ≡ Block.errors d1.now d2.now tables.now.csf tables.now.mask m so_far }
 {
-    let mut s = res;
+    let mut s = so_far;
+    // by index: two blocks and two tables of rows are read at one place
     for k in 0..BLOCK_SIZE {
         let err = distance(d1[k], d2[k]);
         s = s
             + term(
                 k == 0,
                 err,
-                csf[k / BLOCK_SIDE][k % BLOCK_SIDE],
-                mask[k / BLOCK_SIDE][k % BLOCK_SIDE],
+                tables.csf[k / BLOCK_SIDE][k % BLOCK_SIDE],
+                tables.mask[k / BLOCK_SIDE][k % BLOCK_SIDE],
                 m,
             );
     }
     s
 }
 
-// One block of each plane, added to `res`.
-pub fn with_block(
-    p1: &[i32],
-    p2: &[i32],
-    csf: &[[f64; BLOCK_SIDE]; BLOCK_SIDE],
-    mask: &[[f64; BLOCK_SIDE]; BLOCK_SIDE],
-    res: f64,
-) -> f64
+// One block of each plane, added to `so_far`.
+pub fn with_block(p1: &[i32], p2: &[i32], tables: &Tables, so_far: f64) -> f64
     requires p1_len { (length p1.now ≡ block_size) × (length p2.now ≡ block_size) }
     requires samples { Samples p1.now }
     requires samples_2 { Samples p2.now }
-    ensures { result ≡ Block.with_block p1.now p2.now csf.now mask.now res }
+    ensures { result ≡ Block.with_block p1.now p2.now tables.now.csf tables.now.mask so_far }
 {
     let d1 = dct::fdct8x8(p1);
     let d2 = dct::fdct8x8(p2);
-    let m = mask_of_both(p1, p2, &d1, &d2, mask);
-    errors(&d1, &d2, csf, mask, m, res)
+    let m = mask_of_both(p1, p2, &d1, &d2, &tables.mask);
+    errors(&d1, &d2, tables, m, so_far)
 }

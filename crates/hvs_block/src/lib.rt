@@ -7,7 +7,7 @@ pub mod tables;
 mod variance;
 
 // Which plane of a picture: y, u or v. Each has a table of its own.
-#[derive(Clone, Copy)]
+#[derive(Clone, Copy, Debug, PartialEq, Eq)]
 pub enum Kind {
     Luma,
     Cb,

@@ -1,6 +1,6 @@
 // The contrast tables and the masks that are worked out from them. specs/Tables.antt has the tables by their bits.
 ghost use Rattle.std.specs.Prelude.{◌≡◌};
-ghost use Rattle.hvs_block.specs.Tables.{csf_of, mask_row, masks_of};
+ghost use Rattle.hvs_block.specs.Tables.{csf_of, mask_of, mask_row, masks_of};
 
 use crate::Kind;
 use dct::BLOCK_SIDE;
@@ -257,7 +257,8 @@ const CSF_CR420: [[f64; BLOCK_SIDE]; BLOCK_SIDE] = [
 const CSF_MULTIPLIER: f64 = 0.3885746225901003;
 
 // The table of a kind.
-pub fn csf_of(kind: Kind) -> [[f64; BLOCK_SIDE]; BLOCK_SIDE]
+#[tactic(auto, unfolding(crate::specs::Tables::csf_of, crate::specs::Tables::csf_y, crate::specs::Tables::csf_cb420, crate::specs::Tables::csf_cr420))]
+fn csf_of(kind: Kind) -> [[f64; BLOCK_SIDE]; BLOCK_SIDE]
     ensures { result ≡ csf_of kind }
 {
     match kind {
@@ -267,25 +268,43 @@ pub fn csf_of(kind: Kind) -> [[f64; BLOCK_SIDE]; BLOCK_SIDE]
     }
 }
 
+// The mask of a contrast.
+fn mask(c: f64) -> f64
+    ensures { result ≡ mask_of c }
+{
+    let w = c * CSF_MULTIPLIER;
+    w * w
+}
+
 // The masks of one row of a table.
 fn mask_row(row: [f64; BLOCK_SIDE]) -> [f64; BLOCK_SIDE]
     ensures { result ≡ mask_row row }
 {
-    let mut m = [0.0; BLOCK_SIDE];
-    for j in 0..BLOCK_SIDE {
-        let c = row[j] * CSF_MULTIPLIER;
-        m[j] = c * c;
-    }
-    m
+    row.map(mask)
 }
 
 // The masks of a table.
-pub fn masks(csf: [[f64; BLOCK_SIDE]; BLOCK_SIDE]) -> [[f64; BLOCK_SIDE]; BLOCK_SIDE]
+fn masks(csf: [[f64; BLOCK_SIDE]; BLOCK_SIDE]) -> [[f64; BLOCK_SIDE]; BLOCK_SIDE]
     ensures { result ≡ masks_of csf }
 {
-    let mut m = [[0.0; BLOCK_SIDE]; BLOCK_SIDE];
-    for i in 0..BLOCK_SIDE {
-        m[i] = mask_row(csf[i]);
+    csf.map(mask_row)
+}
+
+// What an error counts for at each place of a block, and the masks worked out from that.
+#[derive(Clone, Copy, Debug, PartialEq)]
+pub struct Tables {
+    pub csf: [[f64; BLOCK_SIDE]; BLOCK_SIDE],
+    pub mask: [[f64; BLOCK_SIDE]; BLOCK_SIDE],
+}
+
+// Those of a kind.
+pub fn tables_of(kind: Kind) -> Tables
+    ensures csf_value { result.csf ≡ csf_of kind }
+    ensures mask_value { result.mask ≡ masks_of (csf_of kind) }
+{
+    let csf = csf_of(kind);
+    Tables {
+        csf,
+        mask: masks(csf),
     }
-    m
 }

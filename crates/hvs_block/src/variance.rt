@@ -43,6 +43,7 @@ fn quarter_sums(b: &[i32], top: usize, left: usize) -> SampleSums
 {
     let mut sum: u32 = 0;
     let mut squares: u32 = 0;
+    // by index: the rows of a quarter lie a row of the block apart
     for k in 0..16 {
         let v = level(b[BLOCK_SIDE * (top + k / 4) + (left + k % 4)]);
         sum = sum + v;

@@ -1,4 +1,3 @@
 pub mod Computed
 pub mod Idle
 pub mod Says
-pub mod Copy

@@ -5,18 +5,17 @@ use mathlib.Core.List.{List, [], ◌∷◌}
 use Prim.Native.Nat.{ℕ, ◌≤◌}
 use native.Mathlib.Omega.{arith}
 use borrow.Author.Tests.{le-leb}
-use lib.Dec.{eqb, lit≤}
+use lib.Dec.{eqb}
 use lib.ListN.{length, take}
 use lib.Seq.{take-append_seam}
-use Rattle.refusal.specs.Numbers.{scratch_no}
-use Rattle.refusal.proofs.Chain.{Named, and_left, and_right, passed}
+use Rattle.std.specs.Prelude.{Ok, Err}
+use Rattle.refusal.specs.declared.Refusal.TheVariants.{Scratch}
+use Rattle.refusal.proofs.Chain.{and_left, and_right, passed}
 use Rattle.kernel.specs.Kernel.{most_taps, lent_total, lawful}
 use Rattle.kernel.proofs.Computed.{computed}
 use Rattle.kernel.proofs.Says.{kernel_says}
-use Rattle.kernel_chart.specs.declared.Charted.TheVariants.{Taps}
 use Rattle.kernel_chart.specs.Rows.{Row, chart}
 use Rattle.kernel_chart.specs.Chart.{listed_in, taps_in, listed, kernel_of, chart_tests, chart_refusal, charted_of, taps_after}
-use Rattle.kernel_chart.specs.Inner.Flat.{kernels_in}
 use Rattle.kernel_chart.specs.Inner.Room.{room_refusal}
 use Rattle.kernel_chart.proofs.Answer.{unlisted_fourteen, listed_room}
 
@@ -36,6 +35,10 @@ chart_lawful = refl
 abbrev found_by : List Row → List (List ℕ)
 found_by [] = []
 found_by (row ∷ later) = kernel_of row.0 ∷ found_by later
+
+abbrev kernels_in : List Row → List (List ℕ)
+kernels_in [] = []
+kernels_in (row ∷ later) = row.1 ∷ kernels_in later
 
 pub rows_found : found_by chart ≡ kernels_in chart
 unfolding kernel_of chart
@@ -57,21 +60,17 @@ unfolding listed kernel_of
 charted_lawful height l = every_listed (lawful lent_total) chart height chart_lawful l
 
 -- ---- a call that is not refused
-chart_named : (height places : ℕ) → Named (chart_tests height places)
-unfolding chart_tests
-chart_named height places = (lit≤ tt, (lit≤ tt, tt))
-
-module _ (height : ℕ) (old : List ℕ) (e : chart_refusal height (length old) ≡ 0) where
+module _ (height : ℕ) (old : List ℕ) (e : chart_refusal height (length old) ≡ Ok tt) where
   accepted_listed : listed height ≡ true
   unfolding chart_tests
-  accepted_listed = (passed (chart_tests height (length old)) (chart_named height (length old)) e).1.0
+  accepted_listed = (passed (chart_tests height (length old)) e).1.0
 
   -- wrote the kernel, whose taps it counts
   pub written : take (length (kernel_of height)) (taps_after height old) ≡ kernel_of height
   unfolding taps_after
   written = rw e (take-append_seam (kernel_of height) _)
 
-  pub answered : charted_of height old ≡ Taps (length (kernel_of height))
+  pub answered : charted_of height old ≡ Ok (length (kernel_of height))
   unfolding charted_of
   answered = rw e
 
@@ -79,12 +78,12 @@ module _ (height : ℕ) (old : List ℕ) (e : chart_refusal height (length old) 
   written_lawful = rw written (charted_lawful height accepted_listed)
 
 -- ---- who lends room for the most taps that a lawful kernel has is never told that it is too short
-pub chart_enough : (height places : ℕ) → most_taps ≤ places → chart_refusal height places ≡ scratch_no → ⊥
+pub chart_enough : (height places : ℕ) → most_taps ≤ places → chart_refusal height places ≡ Err Scratch → ⊥
 chart_enough height places enough h = go (listed height) refl
   where
     go : (b : Bool) → listed height ≡ b → ⊥
     go true e =
         let room : length (kernel_of height) ≤ places = omega (arith, enough, (kernel_says lent_total (kernel_of height) (charted_lawful height e)).short) in
-        let none : room_refusal (length (kernel_of height)) places ≡ 0 = rw (le-leb _ _ room) in
-        omega (arith, h, listed_room height places e, none)
-    go false e = omega (arith, h, unlisted_fourteen height places e)
+        let none : room_refusal (length (kernel_of height)) places ≡ Ok tt = rw (le-leb _ _ room) in
+        cc (h, listed_room height places e, none)
+    go false e = cc (h, unlisted_fourteen height places e)

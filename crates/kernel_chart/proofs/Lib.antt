@@ -1,6 +1,3 @@
-mod Copy
-mod Places
-mod Flat
 mod Row
 pub mod Answer
 pub mod Lawful

@@ -1,10 +1,9 @@
 -- SCOPE, "The chart of kernels": what the call answers and writes for every height. Definitions only.
-use Rattle.std.specs.Prelude.{Bool, false, cond, ◌||◌, List, [], ◌∷◌, ◌++◌, ℕ, eqb, leb, length, drop}
-use Rattle.refusal.specs.Numbers.{scratch_no, height_no}
-use Rattle.refusal.specs.First.{first_broken, by_refusal}
+use Rattle.std.specs.Prelude.{Bool, false, cond, ◌||◌, List, [], ◌∷◌, ◌++◌, ℕ, eqb, leb, length, drop, Result, Ok}
+use Rattle.refusal.specs.First.{Verdict, first_broken, by_refusal, unless_refused}
+use Rattle.refusal.specs.declared.Refusal.{Refusal}
+use Rattle.refusal.specs.declared.Refusal.TheVariants as no
 use Rattle.kernel_chart.specs.Rows.{Row, chart}
-use Rattle.kernel_chart.specs.declared.Charted.{Charted}
-use Rattle.kernel_chart.specs.declared.Charted.TheVariants.{Taps, Refused}
 
 -- whether one of the rows has this height
 abbrev pub listed_in : List Row → ℕ → Bool
@@ -24,22 +23,22 @@ unfoldable pub kernel_of : ℕ → List ℕ
 kernel_of height = taps_in chart height
 
 -- 8 where the kernel has more taps than there are places: never for a height that is not listed, since that has no taps. Then 14, where it is not listed
-unfoldable pub chart_tests : ℕ → ℕ → List (ℕ × Bool)
-chart_tests height places = (scratch_no, leb (length (kernel_of height)) places) ∷ (height_no, listed height) ∷ []
+unfoldable pub chart_tests : ℕ → ℕ → List (Refusal × Bool)
+chart_tests height places = (no.Scratch, leb (length (kernel_of height)) places) ∷ (no.Height, listed height) ∷ []
 
-abbrev pub chart_refusal : ℕ → ℕ → ℕ
+abbrev pub chart_refusal : ℕ → ℕ → Verdict
 chart_refusal height places = first_broken (chart_tests height places)
 
--- the answer, by the number of the refusal: the count of taps where it is 0
-abbrev pub answer_by : ℕ → ℕ → Charted
-answer_by n count = by_refusal n (Taps count) (Refused n)
+-- the answer, by the refusal: the count of taps where there is none
+abbrev pub answer_by : Verdict → ℕ → Result ℕ Refusal
+answer_by v count = unless_refused v (Ok count)
 
 -- what then stands in the places lent: the kernel, and what stood past it; or what stood there
-abbrev pub after_by : ℕ → List ℕ → List ℕ → List ℕ
-after_by n ker old = by_refusal n (ker ++ drop (length ker) old) old
+abbrev pub after_by : Verdict → List ℕ → List ℕ → List ℕ
+after_by v ker old = by_refusal v (ker ++ drop (length ker) old) old
 
 -- both, of a call that lends these places
-unfoldable pub charted_of : ℕ → List ℕ → Charted
+unfoldable pub charted_of : ℕ → List ℕ → Result ℕ Refusal
 charted_of height old = answer_by (chart_refusal height (length old)) (length (kernel_of height))
 
 unfoldable pub taps_after : ℕ → List ℕ → List ℕ

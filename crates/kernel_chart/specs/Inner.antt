@@ -1,3 +1,1 @@
 pub mod Room
-pub mod Place
-pub mod Flat

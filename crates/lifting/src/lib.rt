@@ -11,7 +11,7 @@ ghost use Rattle.lifting.specs.Steps.{run, steps, undo_all};
 use crate::lift::{add, down, down_wide, halved, sub, up, up_wide};
 
 // Eight numbers: t0 to t7.
-#[derive(Clone, Copy)]
+#[derive(Clone, Copy, Debug, PartialEq, Eq)]
 pub struct T8 {
     pub t0: i32,
     pub t1: i32,
@@ -23,7 +23,7 @@ pub struct T8 {
     pub t7: i32,
 }
 
-// The steps, in the order of SCOPE.
+// The steps, in the order of SCOPE. Past forty lines as laid out: the new form, in stages, is no plainer, since SCOPE has one list.
 pub fn run_steps(t0: i32, t1: i32, t2: i32, t3: i32, t4: i32, t5: i32, t6: i32, t7: i32) -> T8
     requires { AllWithin run_limit (t0 ∷ t1 ∷ t2 ∷ t3 ∷ t4 ∷ t5 ∷ t6 ∷ t7 ∷ []) }
     ensures { vals result ≡ run steps (t0 ∷ t1 ∷ t2 ∷ t3 ∷ t4 ∷ t5 ∷ t6 ∷ t7 ∷ []) }
@@ -65,14 +65,14 @@ pub fn run_steps(t0: i32, t1: i32, t2: i32, t3: i32, t4: i32, t5: i32, t6: i32, 
     let t3 = down(t3, t5, 18205, 16384, 15);
     let t5 = up(t5, t3, 2485, 4096, 13);
     T8 {
-        t0: t0,
-        t1: t1,
-        t2: t2,
-        t3: t3,
-        t4: t4,
-        t5: t5,
-        t6: t6,
-        t7: t7,
+        t0,
+        t1,
+        t2,
+        t3,
+        t4,
+        t5,
+        t6,
+        t7,
     }
 }
 
@@ -118,13 +118,13 @@ pub fn undo_steps(t0: i32, t1: i32, t2: i32, t3: i32, t4: i32, t5: i32, t6: i32,
     let t0 = add(t0, h1);
     let t1 = sub(t0, t1);
     T8 {
-        t0: t0,
-        t1: t1,
-        t2: t2,
-        t3: t3,
-        t4: t4,
-        t5: t5,
-        t6: t6,
-        t7: t7,
+        t0,
+        t1,
+        t2,
+        t3,
+        t4,
+        t5,
+        t6,
+        t7,
     }
 }

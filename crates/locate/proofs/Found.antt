@@ -1,7 +1,7 @@
 -- What a user may count on of the locator: the place that it finds is the first that differs, it finds none exactly where the squared
 -- error is 0, padding does not count, nor does which plane comes first. Assumes nothing.
 use mathlib.Core.Path.{◌≡◌, refl, sym, ap, ◌∙◌}
-use mathlib.Core.Bool.{Bool, true, false, cond, not, true≢false}
+use mathlib.Core.Bool.{Bool, true, false, cond, not}
 use mathlib.Core.Logic.{◌⊎◌, inl, inr, ⊎_elim}
 use Prim.Native.Nat.{ℕ, zero, suc, ◌≤◌, ◌<◌}
 use native.Mathlib.Nat.{not-suc-le-zero, mul-le-mul}
@@ -9,113 +9,96 @@ use native.Mathlib.Decide.{dec_lt}
 use native.Mathlib.Omega.{arith}
 use borrow.Author.Tests.{eqb-true, eqb-false, not-true, not-false, eq-eqb, ne_eqb}
 use lib.Dec.{eqb}
-use Rattle.refusal.specs.First.{by_refusal}
-use Rattle.plane.specs.declared.Size.{Size}
-use Rattle.plane.specs.Plane.{Plane, Planes, planes_of, sample_at}
+use Rattle.std.specs.Prelude.{Option, None, Some, Ok, Err}
+use Rattle.refusal.specs.First.{Verdict, unless_refused}
+use Rattle.plane.specs.Plane.{Size, Plane, Planes, planes_of, sample_at}
 use Rattle.plane.specs.Tests.{pair_refusal}
 use Rattle.plane.specs.Inner.Lawful.{Equivalent}
 use Rattle.plane.proofs.Sums.{sum_term}
 use Rattle.plane.proofs.Exchange.{refusal_exchanged, refusal_equivalent}
-use Rattle.psnr.specs.declared.SquaredError.TheVariants as compared
 use Rattle.psnr.specs.declared.SquaredError.TheVariants.{Identical}
 use Rattle.psnr.specs.declared.Record.{Record}
 use Rattle.psnr.specs.Record.{plane_suits}
 use Rattle.psnr.specs.Squared.{apart, square_of, row_error, error_to, squared_error_score, record_of, error_answer, squared_error_refusal, squared_error_of}
-use Rattle.psnr.proofs.Accept.{planes_taken, planes_alone}
+use Rattle.psnr.proofs.Accept.{error_taken, planes_alone}
 use Rattle.psnr.proofs.Laws.{equal_planes}
-use Rattle.locate.specs.declared.Located.{Located}
-use Rattle.locate.specs.declared.Located.TheVariants.{At, Alike, Refused}
-use Rattle.locate.specs.Where.{differ_at, or_else, along_to, down_to, first_difference, located_of}
+use Rattle.locate.specs.declared.Place.{Place}
+use Rattle.locate.specs.Where.{differ_at, place, or_else, along_to, down_to, first_difference, located_of}
 use Rattle.locate.proofs.Places.{along_quiet, found, same, unlike}
 
 -- ---- what a search says of its parts
-abbrev row_of : Located → ℕ
-row_of (At r c) = r
-row_of Alike = 0
-row_of (Refused n) = 0
+abbrev row_of : Option Place → ℕ
+row_of (Some x) = x.row
+row_of None = 0
 
-abbrev column_of : Located → ℕ
-column_of (At r c) = c
-column_of Alike = 0
-column_of (Refused n) = 0
+abbrev column_of : Option Place → ℕ
+column_of (Some x) = x.column
+column_of None = 0
 
--- whether it is a place, and whether it is none
-abbrev is_at : Located → Bool
-is_at (At r c) = true
-is_at Alike = false
-is_at (Refused n) = false
+or_none : (l m : Option Place) → or_else l m ≡ None → (l ≡ None) × (m ≡ None)
+or_none None m e = (refl, e)
+or_none (Some x) m e = cc
 
-abbrev is_alike : Located → Bool
-is_alike (At r c) = false
-is_alike Alike = true
-is_alike (Refused n) = false
+or_some : (l m : Option Place) {x : Place} → or_else l m ≡ Some x → (l ≡ Some x) ⊎ ((l ≡ None) × (m ≡ Some x))
+or_some None m e = inr (refl, e)
+or_some (Some x) m e = inl e
 
-or_alike : (l m : Located) → or_else l m ≡ Alike → (l ≡ Alike) × (m ≡ Alike)
-or_alike Alike m e = (refl, e)
-or_alike (At r c) m e = absurd (true≢false (sym (ap is_alike e)))
-or_alike (Refused n) m e = absurd (true≢false (sym (ap is_alike e)))
+one_none : (b : Bool) (y x : ℕ) → cond b (Some (place y x)) None ≡ None → b ≡ false
+one_none true y x e = cc
+one_none false y x e = refl
 
-or_at : (l m : Located) {r c : ℕ} → or_else l m ≡ At r c → (l ≡ At r c) ⊎ ((l ≡ Alike) × (m ≡ At r c))
-or_at Alike m e = inr (refl, e)
-or_at (At r c) m e = inl e
-or_at (Refused n) m e = absurd (true≢false (sym (ap is_at e)))
-
-one_alike : (b : Bool) (y x : ℕ) → cond b (At y x) Alike ≡ Alike → b ≡ false
-one_alike true y x e = absurd (true≢false (ap is_at e))
-one_alike false y x e = refl
-
-one_at : (b : Bool) (y x : ℕ) {r c : ℕ} → cond b (At y x) Alike ≡ At r c → (b ≡ true) × (y ≡ r) × (x ≡ c)
-one_at true y x e = (refl, ap row_of e, ap column_of e)
-one_at false y x e = absurd (true≢false (ap is_alike e))
+one_some : (b : Bool) (y x : ℕ) {r c : ℕ} → cond b (Some (place y x)) None ≡ Some (place r c) → (b ≡ true) × (y ≡ r) × (x ≡ c)
+one_some true y x e = (refl, ap row_of e, ap column_of e)
+one_some false y x e = cc
 
 module _ (f : ℕ → ℕ → Bool) where
   -- a row in which nothing is found
-  along_alike : (y n : ℕ) → along_to f y n ≡ Alike → (x : ℕ) → x < n → f y x ≡ false
+  along_alike : (y n : ℕ) → along_to f y n ≡ None → (x : ℕ) → x < n → f y x ≡ false
   unfolding along_to
   along_alike y zero e x l = absurd (not-suc-le-zero l)
-  along_alike y (suc n) e x l = let t = or_alike (along_to f y n) _ e in go (along_alike y n t.0 x) t.1 (dec_lt x n)
+  along_alike y (suc n) e x l = let t = or_none (along_to f y n) _ e in go (along_alike y n t.0 x) t.1 (dec_lt x n)
     where
-      go : (x < n → f y x ≡ false) → cond (f y n) (At y n) Alike ≡ Alike → Dec (x < n) → f y x ≡ false
+      go : (x < n → f y x ≡ false) → cond (f y n) (Some (place y n)) None ≡ None → Dec (x < n) → f y x ≡ false
       go earlier t (yes m) = earlier m
-      go earlier t (no m) = let q : x ≡ n = omega arith in rw q (one_alike (f y n) y n t)
+      go earlier t (no m) = let q : x ≡ n = omega arith in rw q (one_none (f y n) y n t)
 
   -- rows in which nothing is found
-  down_alike : (width n : ℕ) → down_to f width n ≡ Alike → (y x : ℕ) → y < n → x < width → f y x ≡ false
+  down_alike : (width n : ℕ) → down_to f width n ≡ None → (y x : ℕ) → y < n → x < width → f y x ≡ false
   unfolding down_to
   down_alike width zero e y x ly lx = absurd (not-suc-le-zero ly)
   down_alike width (suc n) e y x ly lx =
-      let t = or_alike (down_to f width n) _ e in go (λ m. down_alike width n t.0 y x m lx) t.1 (dec_lt y n)
+      let t = or_none (down_to f width n) _ e in go (λ m. down_alike width n t.0 y x m lx) t.1 (dec_lt y n)
     where
-      go : (y < n → f y x ≡ false) → along_to f n width ≡ Alike → Dec (y < n) → f y x ≡ false
+      go : (y < n → f y x ≡ false) → along_to f n width ≡ None → Dec (y < n) → f y x ≡ false
       go earlier t (yes m) = earlier m
       go earlier t (no m) = let q : y ≡ n = omega arith in rw q (along_alike n width t x lx)
 
-  down_quiet : (width n : ℕ) → ((y x : ℕ) → y < n → x < width → f y x ≡ false) → down_to f width n ≡ Alike
+  down_quiet : (width n : ℕ) → ((y x : ℕ) → y < n → x < width → f y x ≡ false) → down_to f width n ≡ None
   unfolding down_to
   down_quiet width zero h = refl
   down_quiet width (suc n) h =
       rw (down_quiet width n (λ y x ly lx. h y x (omega arith) lx), along_quiet f n width (λ x lx. h n x (omega arith) lx))
 
   -- a place that is found is inside, f holds there, and nowhere earlier
-  along_at : (y n r c : ℕ) → along_to f y n ≡ At r c → (y ≡ r) × (c < n) × (f y c ≡ true) × (along_to f y c ≡ Alike)
+  along_at : (y n r c : ℕ) → along_to f y n ≡ Some (place r c) → (y ≡ r) × (c < n) × (f y c ≡ true) × (along_to f y c ≡ None)
   unfolding along_to
-  along_at y zero r c e = absurd (true≢false (ap is_alike e))
+  along_at y zero r c e = cc
   along_at y (suc n) r c e =
       ⊎_elim
       (λ t. let s = along_at y n r c t in (s.0, omega (arith, s.1), s.2, s.3))
-      (λ t. let o = one_at (f y n) y n t.1 in (o.1, omega (arith, o.2), rw o.2 at o.0, rw o.2 at t.0))
-      (or_at (along_to f y n) _ e)
+      (λ t. let o = one_some (f y n) y n t.1 in (o.1, omega (arith, o.2), rw o.2 at o.0, rw o.2 at t.0))
+      (or_some (along_to f y n) _ e)
 
-  down_at : (width n r c : ℕ) → down_to f width n ≡ At r c
-      → (r < n) × (c < width) × (f r c ≡ true) × (down_to f width r ≡ Alike) × (along_to f r c ≡ Alike)
+  down_at : (width n r c : ℕ) → down_to f width n ≡ Some (place r c)
+      → (r < n) × (c < width) × (f r c ≡ true) × (down_to f width r ≡ None) × (along_to f r c ≡ None)
   unfolding down_to
-  down_at width zero r c e = absurd (true≢false (ap is_alike e))
+  down_at width zero r c e = cc
   down_at width (suc n) r c e =
       ⊎_elim
       (λ t. let s = down_at width n r c t in (omega (arith, s.0), s.1, s.2, s.3, s.4))
       (λ t. let s = along_at n width r c t.1 in
       (omega (arith, s.0), s.1, rw s.0 at s.2, rw s.0 at t.0, rw s.0 at s.3))
-      (or_at (down_to f width n) _ e)
+      (or_some (down_to f width n) _ e)
 
 -- f and g say the same of every place
 along_ext : (f g : ℕ → ℕ → Bool) (y n : ℕ) → ((x : ℕ) → x < n → f y x ≡ g y x) → along_to f y n ≡ along_to g y n
@@ -144,7 +127,7 @@ module _ (p : Planes) where
   agree r c e = eqb-true _ _ (not-false _ e)
 
   -- what is found is the first place that differs, and that place is found
-  pub found_first : (r c : ℕ) → first_difference p ≡ At r c → First p r c
+  pub found_first : (r c : ℕ) → first_difference p ≡ Some (place r c) → First p r c
   found_first r c e =
       let s = down_at (differ_at p) p.size.width p.size.height r c e in
       record {
@@ -155,7 +138,7 @@ module _ (p : Planes) where
         before = λ x l. agree r x (along_alike (differ_at p) r c s.4 x l);
       }
 
-  pub first_found : (r c : ℕ) → First p r c → first_difference p ≡ At r c
+  pub first_found : (r c : ℕ) → First p r c → first_difference p ≡ Some (place r c)
   first_found r c t =
       found (differ_at p) p.size.width p.size.height r c
       (down_quiet (differ_at p) p.size.width r (λ y x ly lx. same _ _ (t.above y x ly lx)))
@@ -171,12 +154,12 @@ module _ (p : Planes) where
       go (yes l) = absurd (omega (arith, e, mul-le-mul l l))
       go (no l) = omega arith
 
-  alike_zero : first_difference p ≡ Alike → squared_error_score p ≡ 0
+  alike_zero : first_difference p ≡ None → squared_error_score p ≡ 0
   alike_zero e =
       equal_planes p.size p.a p.b
       (λ r c lr lc. agree r c (down_alike (differ_at p) p.size.width p.size.height e r c lr lc))
 
-  zero_alike : squared_error_score p ≡ 0 → first_difference p ≡ Alike
+  zero_alike : squared_error_score p ≡ 0 → first_difference p ≡ None
   unfolding error_to row_error
   zero_alike e =
       let w : ℕ = p.size.width in
@@ -193,16 +176,16 @@ module _ (p : Planes) where
     abbrev its : Record
     its = record_of p frame plane
 
-    pub alike_identical : plane_suits plane ≡ true → located_of p ≡ Alike → squared_error_of p frame plane ≡ Identical its
+    pub alike_identical : plane_suits plane ≡ true → located_of p ≡ Ok None → squared_error_of p frame plane ≡ Ok (Identical its)
     unfolding located_of squared_error_of
     alike_identical suits e = rw (planes_alone plane p suits) (go (pair_refusal p 0) e)
       where
-        go : (n : ℕ) → by_refusal n (first_difference p) (Refused n) ≡ Alike
-            → by_refusal n (error_answer (squared_error_score p) its) (compared.Refused n) ≡ Identical its
-        go zero t = rw (alike_zero t)
-        go (suc n) t = cc
+        go : (v : Verdict) → unless_refused v (Ok (first_difference p)) ≡ Ok None
+            → unless_refused v (Ok (error_answer (squared_error_score p) its)) ≡ Ok (Identical its)
+        go (Ok _) t = rw (alike_zero (cc t))
+        go (Err r) t = cc
 
-    pub identical_alike : squared_error_of p frame plane ≡ Identical its → located_of p ≡ Alike
+    pub identical_alike : squared_error_of p frame plane ≡ Ok (Identical its) → located_of p ≡ Ok None
     unfolding located_of squared_error_of
     identical_alike e = go (squared_error_refusal p plane) refl e
       where
@@ -210,10 +193,12 @@ module _ (p : Planes) where
         no_error zero t = refl
         no_error (suc n) t = cc
 
-        go : (n : ℕ) → squared_error_refusal p plane ≡ n → by_refusal n (error_answer (squared_error_score p) its) (compared.Refused n) ≡ Identical its
-            → by_refusal (pair_refusal p 0) (first_difference p) (Refused (pair_refusal p 0)) ≡ Alike
-        go zero z t = rw (planes_taken plane p z) (zero_alike (no_error (squared_error_score p) t))
-        go (suc n) z t = cc
+        go : (v : Verdict) → squared_error_refusal p plane ≡ v → unless_refused v (Ok (error_answer (squared_error_score p) its)) ≡ Ok (Identical its)
+            → unless_refused (pair_refusal p 0) (Ok (first_difference p)) ≡ Ok None
+        go (Ok _) z t =
+            let free : pair_refusal p 0 ≡ Ok tt = sym (planes_alone plane p (error_taken plane p z).1) ∙ z in
+            rw (free, zero_alike (no_error (squared_error_score p) (cc t)))
+        go (Err r) z t = cc
 
 -- ---- what does not count
 eqb_swap : (a b : ℕ) → eqb a b ≡ eqb b a

@@ -1,59 +1,54 @@
 -- The first place found stays the first. Assumes nothing.
-use mathlib.Core.Path.{◌≡◌, refl}
+use mathlib.Core.Path.{◌≡◌, refl, sym, ◌∙◌}
 use mathlib.Core.Bool.{Bool, true, false, not, ◌&&◌}
-use mathlib.Core.List.{List}
+use mathlib.Core.List.{List, map}
+use Rattle.std.proofs.lemmas.List.{length-map}
+use Rattle.plane.specs.declared.Pair as two
+use Rattle.plane.specs.Inner.Seen.{planes, row_in}
 use Prim.Native.Nat.{ℕ, zero, suc, ◌+◌, ◌-◌, ◌*◌, ◌≤◌, ◌<◌}
 use native.Mathlib.Nat.{add-suc, add-zero}
 use native.Mathlib.Numerals.{add-one}
 use native.Mathlib.Omega.{arith}
-use borrow.Author.Tests.{eq-eqb, ne_eqb}
+use borrow.Author.Tests.{eq-eqb, ne_eqb, eqb-true}
 use lib.Dec.{eqb}
 use lib.ListN.{length}
-use Rattle.plane.specs.Plane.{Planes}
+use Rattle.std.specs.Prelude.{None, Some}
+use Rattle.plane.specs.Plane.{Planes, at, sample_at}
 use Rattle.plane.proofs.All.{all_none, all_more, all_at}
-use Rattle.plane.proofs.Rows.{row_inside}
+use Rattle.plane.proofs.Rows.{row_inside, row_length, row_at}
 use Rattle.psnr.specs.Inner.Walk.{Walkable}
-use Rattle.locate.specs.declared.Located.TheVariants.{At, Alike}
-use Rattle.locate.specs.Where.{differ_at, along_to, down_to}
-use Rattle.locate.specs.Inner.Walk.{same_at, alike_from}
+use Rattle.locate.specs.Where.{place, differ_at, along_to, down_to, first_difference}
+use Rattle.locate.specs.Inner.Walk.{alike_to, AlikeBelow, FirstApart}
 
 -- ---- counted up, one column and one row more
 module _ (f : ℕ → ℕ → Bool) where
-  pub along_none : (y : ℕ) → along_to f y 0 ≡ Alike
-  unfolding along_to
-  along_none y = refl
-
-  pub along_more : (y x : ℕ) → along_to f y x ≡ Alike → f y x ≡ false → along_to f y (x + 1) ≡ Alike
-  unfolding along_to
-  along_more y x e g = rw (add-one, e, g)
-
-  pub down_none : (width : ℕ) → down_to f width 0 ≡ Alike
+  pub down_none : (width : ℕ) → down_to f width 0 ≡ None
   unfolding down_to
   down_none width = refl
 
-  pub down_more : (width y : ℕ) → down_to f width y ≡ Alike → along_to f y width ≡ Alike → down_to f width (y + 1) ≡ Alike
+  pub down_more : (width y : ℕ) → down_to f width y ≡ None → along_to f y width ≡ None → down_to f width (y + 1) ≡ None
   unfolding down_to
   down_more width y e g = rw (add-one, e, g)
 
   -- f holds nowhere in a row
-  pub along_quiet : (y n : ℕ) → ((x : ℕ) → x < n → f y x ≡ false) → along_to f y n ≡ Alike
+  pub along_quiet : (y n : ℕ) → ((x : ℕ) → x < n → f y x ≡ false) → along_to f y n ≡ None
   unfolding along_to
   along_quiet y zero h = refl
   along_quiet y (suc n) h = rw (along_quiet y n (λ x l. h x (omega arith)), h n (omega arith))
 
   -- ---- once found, the place stays
-  along_after : (y x d : ℕ) → along_to f y x ≡ Alike → f y x ≡ true → along_to f y (x + 1 + d) ≡ At y x
+  along_after : (y x d : ℕ) → along_to f y x ≡ None → f y x ≡ true → along_to f y (x + 1 + d) ≡ Some (place y x)
   unfolding along_to
   along_after y x zero e g = rw (add-zero, add-one, e, g)
   along_after y x (suc d) e g = rw (add-suc, along_after y x d e g)
 
-  down_after : (width y x d : ℕ) → down_to f width y ≡ Alike → along_to f y width ≡ At y x → down_to f width (y + 1 + d) ≡ At y x
+  down_after : (width y x d : ℕ) → down_to f width y ≡ None → along_to f y width ≡ Some (place y x) → down_to f width (y + 1 + d) ≡ Some (place y x)
   unfolding down_to
   down_after width y x zero e g = rw (add-zero, add-one, e, g)
   down_after width y x (suc d) e g = rw (add-suc, down_after width y x d e g)
 
-  pub found : (width height y x : ℕ) → down_to f width y ≡ Alike → along_to f y x ≡ Alike → f y x ≡ true → x < width → y < height
-      → down_to f width height ≡ At y x
+  pub found : (width height y x : ℕ) → down_to f width y ≡ None → along_to f y x ≡ None → f y x ≡ true → x < width → y < height
+      → down_to f width height ≡ Some (place y x)
   found width height y x e g h lx ly =
       let p : x + 1 + (width - (x + 1)) ≡ width = omega arith in
       let q : y + 1 + (height - (y + 1)) ≡ height = omega arith in
@@ -66,28 +61,80 @@ same m n e = rw (eq-eqb m n e)
 pub unlike : (m n : ℕ) → (m ≡ n → ⊥) → not (eqb m n) ≡ true
 unlike m n h = rw (ne_eqb m n h)
 
--- ---- a row that is passed over
-module _ (a b : List ℕ) (i j : ℕ) where
-  pub alike_none : alike_from a b i j 0 ≡ true
-  unfolding alike_from
+-- ---- two rows
+module _ (a b : List ℕ) where
+  pub alike_none : alike_to a b 0 ≡ true
+  unfolding alike_to
   alike_none = all_none _
 
-  pub alike_more : (x : ℕ) → alike_from a b i j (x + 1) ≡ (alike_from a b i j x && same_at a b (i + x) (j + x))
-  unfolding alike_from
+  alike_more : (x : ℕ) → alike_to a b (x + 1) ≡ (alike_to a b x && eqb (at a x) (at b x))
+  unfolding alike_to
   alike_more x = all_more _ x
 
-pub row_alike : (p : Planes) (y n : ℕ) → alike_from p.a.samples p.b.samples (y * p.a.stride) (y * p.b.stride) n ≡ true
-    → along_to (differ_at p) y n ≡ Alike
-unfolding alike_from
-row_alike p y n e = along_quiet (differ_at p) y n (λ x l. rw (all_at _ n e x l))
+  -- one place more
+  pub alike_next : (x : ℕ) {ok : Bool} {m n : ℕ} → ok ≡ alike_to a b x → m ≡ at a x → n ≡ at b x → (ok && eqb m n) ≡ alike_to a b (x + 1)
+  alike_next x e f g = rw (alike_more x, e, f, g)
 
--- ---- each row ends inside its plane
-module _ {p : Planes} (w : Walkable p) (y : ℕ) (l : y < p.size.height) where
-  pub first_row : y * p.a.stride + p.size.width ≤ length p.a.samples
-  first_row = row_inside _ _ w.bounded.first.long l
+pub ruleset alike_steps = (alike_none, alike_next)
 
-  pub second_row : y * p.b.stride + p.size.width ≤ length p.b.samples
-  second_row = row_inside _ _ w.bounded.second.long l
+-- and as rows of two planes
+module _ {S : Type 0} (value : S → ℕ) (wide : Bool) (c : two.Pair S) (w : Walkable (planes value wide c)) (y : ℕ) (l : y < c.format.height) where
+  abbrev p : Planes
+  p = planes value wide c
+
+  abbrev width : ℕ
+  width = c.format.width
+
+  abbrev pub first_row : List S
+  first_row = row_in c.a.samples.now c.a.stride width y
+
+  abbrev pub second_row : List S
+  second_row = row_in c.b.samples.now c.b.stride width y
+
+  -- each ends inside its plane
+  pub first_inside : y * c.a.stride + width ≤ length c.a.samples.now
+  first_inside = row_inside width c.a.stride (rw length-map at w.bounded.first.long) l
+
+  pub second_inside : y * c.b.stride + width ≤ length c.b.samples.now
+  second_inside = row_inside width c.b.stride (rw length-map at w.bounded.second.long) l
+
+  pub first_long : length first_row ≡ width
+  first_long = row_length value c.a.samples.now c.a.stride width y first_inside
+
+  second_long : length second_row ≡ width
+  second_long = row_length value c.b.samples.now c.b.stride width y second_inside
+
+  pub first_at : (x : ℕ) → x < width → at (map value first_row) x ≡ sample_at p.a y x
+  first_at = row_at value c.a.samples.now c.a.stride width y first_inside
+
+  pub second_at : (x : ℕ) → x < width → at (map value second_row) x ≡ sample_at p.b y x
+  second_at = row_at value c.b.samples.now c.b.stride width y second_inside
+
+  module _ {a b : List S} (ea : a ≡ first_row) (eb : b ≡ second_row) where
+    pub rows_long : length a ≡ length b
+    rows_long = rw (ea, eb) (first_long ∙ sym second_long)
+
+    -- where they agree, the row is passed over
+    pub row_quiet : AlikeBelow (map value a) (map value b) (length a) → along_to (differ_at p) y width ≡ None
+    row_quiet h =
+        let same_at = rw (ea, eb) at h in
+        along_quiet (differ_at p) y width
+        (λ x k. same _ _ (sym (first_at x k) ∙ same_at x (rw first_long k) ∙ second_at x k))
+
+    pub row_alike : alike_to (map value a) (map value b) (length a) ≡ true → along_to (differ_at p) y width ≡ None
+    unfolding alike_to
+    row_alike e = row_quiet (λ x k. eqb-true _ _ (all_at _ _ e x k))
+
+    -- where they do not, the place is found
+    pub row_apart : (x : ℕ) → FirstApart (map value a) (map value b) x → down_to (differ_at p) width y ≡ None
+        → Some (place y x) ≡ first_difference p
+    row_apart x f above =
+        let here = rw (ea, eb) at f in
+        let k : x < width = rw (length-map, first_long) at here.0 in
+        let before = along_quiet (differ_at p) y x
+        (λ z m. let n : z < width = omega arith in same _ _ (sym (first_at z n) ∙ here.2 z m ∙ second_at z n)) in
+        let apart = unlike _ _ (λ e. here.1 (first_at x k ∙ e ∙ sym (second_at x k))) in
+        sym (found (differ_at p) width c.format.height y x above before apart k l)
 
 -- the walk to the first place
-pub ruleset first_steps = (first_row, second_row, along_none, along_more, down_none, down_more, row_alike, found)
+pub ruleset first_steps = (first_inside, second_inside, down_none, down_more)

@@ -1,32 +1,29 @@
 -- What a user may count on of the map: each place has the sum over its tile, all of them add up to the squared error, padding does not
 -- count, nor does which plane comes first, and places past the map stay. Assumes nothing.
 use mathlib.Core.Path.{◌≡◌, refl, sym, ap, ◌∙◌}
-use mathlib.Core.Bool.{Bool}
 use mathlib.Core.List.{List, [], ◌∷◌, ◌++◌}
 use Prim.Native.Nat.{ℕ, zero, suc, min, ◌+◌, ◌-◌, ◌*◌, ◌≤◌, ◌<◌}
 use native.Mathlib.Nat.{not-suc-le-zero, mul-le-mul_right, zero-mul, suc-mul, le_of_lt, le_refl}
 use native.Mathlib.Decide.{dec_lt}
 use native.Mathlib.Numerals.{add-one}
 use native.Mathlib.Omega.{arith}
-use lib.Dec.{leb}
 use lib.ListN.{length, drop, get_or-append}
 use lib.Seq.{get_or-append-add, get_or-drop}
-use Rattle.refusal.specs.Numbers.{scratch_no}
-use Rattle.refusal.specs.First.{by_refusal}
+use Rattle.std.specs.Prelude.{Ok, Err}
+use Rattle.refusal.specs.First.{Verdict, first_broken, by_refusal, unless_refused}
 use Rattle.number.specs.Steps.{list_to}
 use Rattle.number.proofs.Lists.{list_length, list_ext}
-use Rattle.plane.specs.declared.Size.{Size}
-use Rattle.plane.specs.Plane.{Plane, Planes, planes_of, both, at, sample_at}
+use Rattle.plane.specs.Plane.{Size, Plane, Planes, planes_of, at, sample_at}
 use Rattle.plane.specs.Sums.{sum_to}
 use Rattle.plane.specs.Tests.{pair_refusal}
 use Rattle.plane.specs.Inner.Lawful.{Equivalent}
 use Rattle.plane.proofs.Sums.{sum_none, sum_ext, sum_split, sum_swap}
 use Rattle.plane.proofs.Exchange.{refusal_exchanged, refusal_equivalent}
-use Rattle.plane.proofs.Several.{planes_stop, planes_pass}
 use Rattle.psnr.specs.Squared.{square_of, row_error, error_to, squared_error_score}
 use Rattle.psnr.proofs.Laws.{square_swap}
 use Rattle.locate.specs.Map.{tile_side, tiles_along, tile_length, piece_error, tile_error_to, tile_error, across_of, down_of}
 use Rattle.locate.specs.Map.{map_to, map_of, map_places, map_refusal, mapped_of, map_after}
+use Rattle.locate.proofs.Accept.{own, map_in_parts}
 use Rattle.locate.proofs.Sides.{begins, ends}
 use Rattle.locate.proofs.Rows.{map_length}
 
@@ -157,17 +154,10 @@ module _ (size : Size) (a b a' b' : Plane) where
 
   -- planes that no test tells apart are refused alike
   refusal_same : pair_refusal these 0 ≡ pair_refusal those 0 → (places : ℕ) → map_refusal these places ≡ map_refusal those places
-  refusal_same e places = go (pair_refusal these 0) refl
-    where
-      own : List (ℕ × Bool)
-      own = (scratch_no, leb (map_places these) places) ∷ []
-
-      go : (n : ℕ) → pair_refusal these 0 ≡ n → map_refusal these places ≡ map_refusal those places
-      go zero z =
-          sym (planes_pass size (both these) 0 (sym z) own refl refl) ∙ planes_pass size (both those) 0 (sym z ∙ e) own refl refl
-      go (suc n) z =
-          let no : suc n ≡ 0 → ⊥ = λ q. omega (arith, q) in
-          sym (planes_stop size (both these) 0 (sym z) own no) ∙ planes_stop size (both those) 0 (sym z ∙ e) own no
+  refusal_same e places =
+      map_in_parts these places
+      ∙ ap (λ (v : Verdict). unless_refused v (first_broken (own these places))) e
+      ∙ sym (map_in_parts those places)
 
 -- padding, strides and what comes after the last row: neither for the answer nor for what is written
 pub map_visible : (size : Size) (old : List ℕ) {a b a' b' : Plane} → Equivalent size a a' → Equivalent size b b'
@@ -193,10 +183,10 @@ pub past_stays : (p : Planes) (old : List ℕ) (k : ℕ) → map_places p ≤ k 
 unfolding map_after
 past_stays p old k l = go (map_refusal p (length old))
   where
-    go : (n : ℕ) → at (by_refusal n (map_of p ++ drop (map_places p) old) old) k ≡ at old k
-    go zero =
+    go : (v : Verdict) → at (by_refusal v (map_of p ++ drop (map_places p) old) old) k ≡ at old k
+    go (Ok _) =
         let q : k ≡ length (map_of p) + (k - map_places p) = omega (arith, l, map_length p (down_of p)) in
         let r : map_places p + (k - map_places p) ≡ k = omega (arith, l) in
         ap (at (map_of p ++ drop (map_places p) old)) q ∙ get_or-append-add (map_of p) _ (k - map_places p) 0
         ∙ get_or-drop (map_places p) old (k - map_places p) 0 ∙ ap (at old) r
-    go (suc n) = refl
+    go (Err r) = refl

@@ -1,14 +1,14 @@
 -- SCOPE, "Where planes differ": the squared error of each tile, and the map of them. Definitions only.
-use Rattle.std.specs.Prelude.{Bool, List, [], ◌∷◌, ◌++◌, ℕ, zero, suc, min, ◌+◌, ◌-◌, ◌*◌, ◌/◌, leb, length, drop}
-use Rattle.refusal.specs.Numbers.{scratch_no}
-use Rattle.refusal.specs.First.{first_broken, by_refusal}
+use Rattle.std.specs.Prelude.{Bool, List, [], ◌∷◌, ◌++◌, ℕ, zero, suc, min, ◌+◌, ◌-◌, ◌*◌, ◌/◌, leb, length, drop, Result, Ok}
+use Rattle.refusal.specs.declared.Refusal.{Refusal}
+use Rattle.refusal.specs.declared.Refusal.TheVariants as no
+use Rattle.refusal.specs.First.{Verdict, first_broken, by_refusal, unless_refused}
 use Rattle.number.specs.Steps.{list_to}
 use Rattle.plane.specs.Plane.{Planes, sample_at}
 use Rattle.plane.specs.Sums.{sum_to}
 use Rattle.plane.specs.Tests.{pair_tests}
 use Rattle.psnr.specs.Squared.{square_of}
-use Rattle.locate.specs.declared.Mapped.{Mapped}
-use Rattle.locate.specs.declared.Mapped.TheVariants.{Tiles, Refused}
+use Rattle.locate.specs.declared.Tiles.{Tiles}
 
 -- the side of a tile
 unfoldable pub tile_side : ℕ
@@ -59,15 +59,15 @@ abbrev pub map_places : Planes → ℕ
 map_places p = tiles_of p.size.width p.size.height
 
 -- 1 2 4 5 6, then 8 where so many places are too few
-abbrev pub map_tests : Planes → ℕ → List (ℕ × Bool)
-map_tests p places = pair_tests p 0 ++ ((scratch_no, leb (map_places p) places) ∷ [])
+abbrev pub map_tests : Planes → ℕ → List (Refusal × Bool)
+map_tests p places = pair_tests p 0 ++ ((no.Scratch, leb (map_places p) places) ∷ [])
 
-abbrev pub map_refusal : Planes → ℕ → ℕ
+abbrev pub map_refusal : Planes → ℕ → Verdict
 map_refusal p places = first_broken (map_tests p places)
 
 -- the answer to a call that lends these places
-unfoldable pub mapped_of : Planes → List ℕ → Mapped
-mapped_of p old = let n = map_refusal p (length old) in by_refusal n (Tiles (across_of p) (down_of p)) (Refused n)
+unfoldable pub mapped_of : Planes → List ℕ → Result Tiles Refusal
+mapped_of p old = unless_refused (map_refusal p (length old)) (Ok (record { across = across_of p; down = down_of p }))
 
 -- what stands in them afterwards: the map, and what stood past it; where the call refuses, what stood there
 unfoldable pub map_after : Planes → List ℕ → List ℕ

@@ -1,11 +1,12 @@
 -- SCOPE, "Numbers to hold it to": every number marked *, in its order, one row for each mark. `gives` is worked out from the
 -- definitions that the contracts cite; `says` is what SCOPE says. proofs/Marked.antt shows that they agree. Definitions only.
-use Rattle.std.specs.Prelude.{false, ◌≡◌, List, [], ◌∷◌, map, ℕ, ℤ, pos, negsuc, replicate}
+use Rattle.std.specs.Prelude.{false, ◌≡◌, List, [], ◌∷◌, map, ℕ, ℤ, pos, negsuc, replicate, Result, Ok, Err}
+use Rattle.refusal.specs.declared.Refusal.{Refusal}
 use Rattle.plane.specs.Plane.{plane_of, size_of, planes_of, sample_at}
 use Rattle.psnr.specs.Record.{whole_of}
 use Rattle.psnr.specs.Squared.{squared_error_of}
 use Rattle.psnr.specs.declared.SquaredError.{SquaredError}
-use Rattle.psnr.specs.declared.SquaredError.TheVariants.{Differs, Identical, Refused}
+use Rattle.psnr.specs.declared.SquaredError.TheVariants.{Differs, Identical}
 use Rattle.lifting.specs.Steps.{half}
 use Rattle.dct.specs.Block.{fdct8, rows, fdct8x8}
 use Rattle.window.specs.Moments.{moments_at}
@@ -31,10 +32,10 @@ counts = map pos
 -- ---- how answers are read
 
 -- the error that an answer tells; a refusal tells none
-abbrev error_told : SquaredError → List ℤ
-error_told (Differs r) = pos (whole_of r.sq_err) ∷ []
-error_told (Identical r) = pos (whole_of r.sq_err) ∷ []
-error_told (Refused k) = []
+abbrev error_told : Result SquaredError Refusal → List ℤ
+error_told (Ok (Differs r)) = pos (whole_of r.sq_err) ∷ []
+error_told (Ok (Identical r)) = pos (whole_of r.sq_err) ∷ []
+error_told (Err k) = []
 
 -- of one row of three bytes beside another, the first plane of the first frame
 abbrev error_of_three : List ℕ → List ℕ → List ℤ

@@ -1,19 +1,21 @@
--- What holds where no test of MS-SSIM refuses, and what the answer is where one does. Assumes nothing.
-use mathlib.Core.Path.{◌≡◌, sym, ◌∙◌}
-use mathlib.Core.Bool.{Bool, true, false}
+-- The verdict of MS-SSIM in parts, and what holds where no test refuses. Assumes nothing.
+use mathlib.Core.Path.{◌≡◌}
+use mathlib.Core.Bool.{Bool}
 use mathlib.Core.List.{List, [], ◌∷◌}
 use Prim.Native.Nat.{ℕ, ◌*◌, ◌≤◌, ◌^◌}
 use native.Mathlib.Omega.{arith}
 use borrow.Author.Tests.{leb-true}
-use lib.Dec.{leb, lit<, lit≤}
+use lib.Dec.{leb, lit<}
 use lib.ListN.{length}
-use Rattle.refusal.specs.Numbers.{scratch_no}
-use Rattle.refusal.proofs.Chain.{and_left, and_right, halves, passed}
+use Rattle.std.specs.Prelude.{Ok}
+use Rattle.refusal.specs.declared.Refusal.{Refusal}
+use Rattle.refusal.specs.declared.Refusal.TheVariants as no
+use Rattle.refusal.specs.First.{first_broken, unless_refused}
+use Rattle.refusal.proofs.Chain.{and_left, and_right, halves, passed, together}
 use Rattle.plane.specs.Limits.{most_depth}
 use Rattle.plane.specs.Plane.{Planes, max_of, both}
 use Rattle.plane.specs.Tests.{pair_tests, pair_refusal}
-use Rattle.plane.proofs.Accept.{accepted, plane_named}
-use Rattle.plane.proofs.Several.{planes_pass}
+use Rattle.plane.proofs.Accept.{accepted}
 use Rattle.window.specs.Moments.{most_sample}
 use Rattle.msssim.proofs.Demand.{scale_max, scale_fits}
 use Rattle.msssim.specs.Scale.{scale_count}
@@ -21,21 +23,18 @@ use Rattle.msssim.specs.Scratch.{Scratch, places_needed, samples_needed, scratch
 use Rattle.msssim.specs.Answer.{least_side, msssim_refusal}
 use Rattle.msssim.specs.Inner.Sound.{Sound}
 
--- ---- 8, after the planes
-module _ {n : ℕ} (p : Planes) (s : Scratch) (e : n ≡ pair_refusal p least_side) where
-  pub scratch_refuses : n ≡ 0 → scratch_suits p.size s ≡ false → scratch_no ≡ msssim_refusal p s
-  scratch_refuses z f = planes_pass p.size (both p) least_side e _ z (rw f)
-
-  pub none_refuses : n ≡ 0 → scratch_suits p.size s ≡ true → 0 ≡ msssim_refusal p s
-  none_refuses z f = planes_pass p.size (both p) least_side e _ z (rw f)
+-- ---- the verdict: that of the planes, and then 8
+pub in_parts : (p : Planes) (s : Scratch) → msssim_refusal p s
+    ≡ unless_refused (pair_refusal p least_side) (first_broken ((no.Scratch, scratch_suits p.size s) ∷ []))
+in_parts p s = together (pair_tests p least_side) ((no.Scratch, scratch_suits p.size s) ∷ [])
 
 -- ---- none of them refuses
-pub sound : {n : ℕ} (p : Planes) (s : Scratch) → n ≡ msssim_refusal p s → n ≡ 0 → Sound p s
+pub sound : (p : Planes) (s : Scratch) → msssim_refusal p s ≡ Ok tt → Sound p s
 unfolding scratch_suits
-sound p s e z =
-    let tests : List (ℕ × Bool) = (scratch_no, scratch_suits p.size s) ∷ [] in
-    let h = halves (pair_tests p least_side) tests (plane_named p.size (both p) least_side) (sym e ∙ z) in
-    let all = (passed tests (lit≤ tt, tt) h.1).0 in
+sound p s e =
+    let tests : List (Refusal × Bool) = (no.Scratch, scratch_suits p.size s) ∷ [] in
+    let h = halves (pair_tests p least_side) tests e in
+    let all = (passed tests h.1).0 in
     let samples = and_right (leb (places_needed p.size.width) (length s.places)) _ all in
     record {
       planes = accepted p.size (both p) least_side h.0;

@@ -2,11 +2,10 @@
 -- sample_max × 4^k, so the laws of the window's sums hold at every centre of every scale. Assumes nothing.
 use mathlib.Core.Path.{◌≡◌, refl, sym, ◌∙◌}
 use mathlib.Core.Bool.{Bool, true}
-use Prim.Native.Nat.{ℕ, zero, suc, ◌+◌, ◌*◌, ◌^◌, ◌≤◌, ◌<◌}
+use Prim.Native.Nat.{ℕ, zero, suc, ◌*◌, ◌^◌, ◌≤◌, ◌<◌}
 use native.Mathlib.Nat.{le_trans, pow-suc, mul-one, pow-le-pow_right, le_refl, mul-le-mul}
 use native.Mathlib.Omega.{arith}
 use lib.Dec.{lit≤, lit<}
-use lib.Ieee.{nan}
 use lib.ListN.{get_or}
 use Rattle.plane.specs.Limits.{most_depth}
 use Rattle.plane.specs.Plane.{Planes, max_of}
@@ -18,7 +17,8 @@ use Rattle.kernel.proofs.Says.{fixed_lawful}
 use Rattle.window.specs.Moments.{most_sample}
 use Rattle.window.proofs.Demand.{BoundedView, Demanded, demanded}
 use Rattle.downscale.proofs.Summed.{summed_most}
-use Rattle.msssim.specs.Scale.{Scale, scale_count, below_of, scale_totals, mean_ssim, mean_cs, pairs_from}
+use Rattle.ssim.specs.declared.Ssim.{Ssim}
+use Rattle.msssim.specs.Scale.{Scale, scale_count, below_of, scale_totals, mean_pair, pairs_from}
 use Rattle.msssim.specs.Answer.{least_side, first_scale}
 
 -- ---- how large samples grow
@@ -59,16 +59,11 @@ scale_sides zero s w h = (w, h)
 scale_sides (suc k) s w h = scale_sides k (below_of s) (omega (arith, w, pow-suc 2 k)) (omega (arith, h, pow-suc 2 k))
 
 -- the pairs are those of these scales
-pub pairs_at : (n k : ℕ) (s : Scale) → k < n
-    → (get_or (pairs_from n s) (2 * k) nan ≡ mean_ssim (scale_totals (scale_at s k))) × (get_or (pairs_from n s) (2 * k + 1) nan ≡ mean_cs (scale_totals (scale_at s k)))
+pub pairs_at : (n k : ℕ) (s : Scale) (p : Ssim) → k < n → get_or (pairs_from n s) k p ≡ mean_pair (scale_totals (scale_at s k))
 unfolding pairs_from scale_at
-pairs_at zero k s l = absurd (omega arith)
-pairs_at (suc n) zero s l = (refl, refl)
-pairs_at (suc n) (suc k) s l =
-    let e : 2 * suc k ≡ suc (suc (2 * k)) = omega arith in
-    let f : 2 * suc k + 1 ≡ suc (suc (2 * k + 1)) = omega arith in
-    let h = pairs_at n k (below_of s) (omega arith) in
-    (rw e h.0, rw f h.1)
+pairs_at zero k s p l = absurd (omega arith)
+pairs_at (suc n) zero s p l = refl
+pairs_at (suc n) (suc k) s p l = pairs_at n k (below_of s) p (omega arith)
 
 -- ---- the five scales of two accepted planes
 module _ (p : Planes) (k : ℕ) (c : AcceptedPair p least_side) where

@@ -2,12 +2,11 @@
 -- judge alike. Assumes nothing.
 use mathlib.Core.Path.{◌≡◌, ap}
 use mathlib.Core.List.{List}
-use lib.Ieee.{Float}
-use Rattle.plane.specs.declared.Size.{Size}
-use Rattle.plane.specs.Plane.{Plane, planes_of, max_of, sample_at}
+use Rattle.plane.specs.Plane.{Size, Plane, planes_of, max_of, sample_at}
 use Rattle.plane.specs.Tests.{layout_tests}
 use Rattle.plane.specs.Inner.Lawful.{Alike, Equivalent}
 use Rattle.plane.proofs.Exchange.{samples_alike}
+use Rattle.ssim.specs.declared.Ssim.{Ssim}
 use Rattle.msssim.specs.Scale.{scale_count}
 use Rattle.msssim.specs.Scratch.{Scratch}
 use Rattle.msssim.specs.Answer.{five_of, msssim_score, msssim_refusal, msssim_of, scratch_after}
@@ -16,7 +15,7 @@ use Rattle.msssim.proofs.ScalePairs.{pairs_ext}
 module _ (size : Size) where
   score_visible : (a b a' b' : Plane) → Alike size a a' → Alike size b b' → msssim_score (planes_of size a b) ≡ msssim_score (planes_of size a' b')
   score_visible a b a' b' p q =
-      ap (λ (l : List Float). five_of l)
+      ap (λ (l : List Ssim). five_of l)
       (pairs_ext scale_count (max_of size.depth) size.width size.height (sample_at a) (sample_at a') (sample_at b) (sample_at b')
       p q)
 

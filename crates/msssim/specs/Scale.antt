@@ -5,6 +5,7 @@ use Rattle.number.specs.Steps.{◌⊘◌, double}
 use Rattle.kernel.specs.Kernel.{fixed_kernel}
 use Rattle.downscale.specs.Summed.{summed_of}
 use Rattle.ssim.specs.Score.{totals_of}
+use Rattle.ssim.specs.declared.Ssim.{Ssim}
 use Rattle.ssim.specs.declared.Totals.{Totals}
 
 -- how many scales there are
@@ -37,7 +38,10 @@ mean_ssim t = t.ssim ⊘ t.ssimw
 abbrev pub mean_cs : Totals → Float
 mean_cs t = t.cs ⊘ t.ssimw
 
--- the pairs of a scale and of those below it, so many in all: ssim and cs of each, one after the other
-unfoldable pub pairs_from : ℕ → Scale → List Float
+abbrev pub mean_pair : Totals → Ssim
+mean_pair t = record { ssim = mean_ssim t; cs = mean_cs t }
+
+-- the pairs of a scale and of those below it, so many in all
+unfoldable pub pairs_from : ℕ → Scale → List Ssim
 pairs_from zero s = []
-pairs_from (suc left) s = mean_ssim (scale_totals s) ∷ mean_cs (scale_totals s) ∷ pairs_from left (below_of s)
+pairs_from (suc left) s = mean_pair (scale_totals s) ∷ pairs_from left (below_of s)

@@ -1,6 +1,6 @@
 -- SCOPE, "When the desk says no": how much scratch MS-SSIM needs, and what stands there afterwards. Definitions only.
 use Rattle.std.specs.Prelude.{Bool, ◌&&◌, List, ℕ, ◌*◌, leb, ℤ, pos, length}
-use Rattle.plane.specs.declared.Size.{Size}
+use Rattle.plane.specs.Plane.{Size}
 use Rattle.kernel.specs.Kernel.{fixed_kernel}
 use Rattle.ssim.specs.Scratch.{scratch_places, cleared}
 

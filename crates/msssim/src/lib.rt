@@ -2,15 +2,16 @@
 // 2×2 samples, and the pair of SSIM at each, under a kernel of its own.
 #![tactic(auto)]
 
-ghost use Rattle.std.specs.Prelude.{◌≡◌, true, false, ◌≤◌};
+ghost use Rattle.std.specs.Prelude.{◌≡◌, ◌≤◌};
 ghost use Rattle.plane.specs.Limits.{side_limit};
-ghost use Rattle.plane.specs.Plane.{called};
-ghost use Rattle.plane.specs.Inner.Lent.{planes};
+ghost use Rattle.plane.specs.Inner.Seen.{sized, planes};
 ghost use Rattle.msssim.specs.Scratch.{scratch_of, places_needed, samples_needed, scratch_suits, all_cleared};
 ghost use Rattle.msssim.specs.Answer.{msssim_refusal, msssim_score, msssim_of, scratch_after};
 ghost use Rattle.msssim.specs.Inner.Sound.{Sound};
 
-use plane::{Layout, Size};
+use plane::{Format, Pair, Stored};
+use refusal::Refusal;
+use ssim::Ssim;
 
 mod five;
 mod scale;
@@ -18,32 +19,13 @@ mod scales;
 
 // The least side.
 pub const LEAST_SIDE: usize = 16;
+// How many scales there are, the planes themselves the first.
+pub const SCALES: usize = 5;
 // How many taps the fixed kernel has.
 const TAPS: usize = 9;
 
-// ssim and cs of the five scales, the first the planes themselves.
-#[derive(Clone, Copy)]
-pub struct Pairs {
-    pub ssim1: f64,
-    pub cs1: f64,
-    pub ssim2: f64,
-    pub cs2: f64,
-    pub ssim3: f64,
-    pub cs3: f64,
-    pub ssim4: f64,
-    pub cs4: f64,
-    pub ssim5: f64,
-    pub cs5: f64,
-}
-
-// What MS-SSIM answers.
-#[derive(Clone, Copy)]
-pub enum MsSsim {
-    Five(Pairs),
-    Refused(u8),
-}
-
 // How many 64-bit places are needed: those of SSIM under a kernel of nine taps.
+#[tactic(auto, unfolding(kernel::specs::Kernel::most_taps))]
 pub fn places_needed(width: usize) -> usize
     requires { width ≤ side_limit }
     ensures { result ≡ places_needed width }
@@ -52,6 +34,7 @@ pub fn places_needed(width: usize) -> usize
 }
 
 // How many 32-bit places are needed for each plane: one to a sample.
+#[tactic(auto, using(plane::proofs::Limits::area_fits))]
 pub fn samples_needed(width: usize, height: usize) -> usize
     requires { (width ≤ side_limit) × (height ≤ side_limit) }
     ensures { result ≡ samples_needed width height }
@@ -60,152 +43,68 @@ pub fn samples_needed(width: usize, height: usize) -> usize
 }
 
 // None of the three that are lent is too short.
-fn scratch_suits(size: Size, scratch: &[i64], a32: &[u32], b32: &[u32]) -> bool
-    requires { (size.width ≤ side_limit) × (size.height ≤ side_limit) }
-    ensures { result ≡ scratch_suits size (scratch_of scratch.now a32.now b32.now) }
+#[tactic(auto, unfolding(crate::specs::Scratch::scratch_suits))]
+fn scratch_suits<S: Stored>(format: Format, scratch: &[i64], a32: &[u32], b32: &[u32]) -> bool
+    requires { (format.width ≤ side_limit) × (format.height ≤ side_limit) }
+    ensures { result ≡ scratch_suits (sized S.WIDE format) (scratch_of scratch.now a32.now b32.now) }
 {
-    let places = places_needed(size.width);
-    let samples = samples_needed(size.width, size.height);
-    (places <= scratch.len()) & ((samples <= a32.len()) & (samples <= b32.len()))
+    let places = places_needed(format.width);
+    let samples = samples_needed(format.width, format.height);
+    (places <= scratch.len()) && (samples <= a32.len()) && (samples <= b32.len())
 }
 
-// The lowest of 1 2 3 4 5 6 8 that applies, and 0 where none does.
-fn refusal(
-    a8: &[u8],
-    a16: &[u16],
-    b8: &[u8],
-    b16: &[u16],
-    layout: Layout,
+// The lowest of 1 2 3 4 5 6 8 that applies.
+fn check<S: Stored>(
+    p: Pair<'_, S>,
     scratch: &[i64],
     a32: &[u32],
     b32: &[u32],
-) -> u8
-    ensures { result ≡ msssim_refusal (planes layout a8.entry a16.entry b8.entry b16.entry)
+) -> Result<(), Refusal>
+    ensures { result ≡ msssim_refusal (planes S.Sample.value S.WIDE p.entry)
         (scratch_of scratch.now a32.now b32.now) }
 {
-    let no = plane::check(a8, a16, b8, b16, layout, LEAST_SIDE);
-    if no != 0 {
-        return no;
+    plane::check(p, LEAST_SIDE)?;
+    if !scratch_suits::<S>(p.format, scratch, a32, b32) {
+        return Err(Refusal::Scratch);
     }
-    if !scratch_suits(layout.size, scratch, a32, b32) {
-        return refusal::SCRATCH;
-    }
-    0
+    Ok(())
 }
 
 // The score of two planes that no test refuses. The needed part of the scratch is all zero afterwards, and the rest as it was.
-fn score(
-    a8: &[u8],
-    a16: &[u16],
-    b8: &[u8],
-    b16: &[u16],
-    layout: Layout,
+fn score<S: Stored>(
+    p: Pair<'_, S>,
     scratch: &mut [i64],
     a32: &mut [u32],
     b32: &mut [u32],
-) -> MsSsim
-    requires { Sound (planes layout a8 a16 b8 b16) (scratch_of scratch.old a32.old b32.old) }
-    ensures value { result ≡ msssim_score (planes layout a8.entry a16.entry b8.entry b16.entry) }
+) -> Result<[Ssim; SCALES], Refusal>
+    requires { Sound (planes S.Sample.value S.WIDE p) (scratch_of scratch.old a32.old b32.old) }
+    ensures value { result ≡ msssim_score (planes S.Sample.value S.WIDE p.entry) }
     ensures b32_value { scratch_of scratch.new a32.new b32.new
-        ≡ all_cleared layout.size (scratch_of scratch.old a32.old b32.old) }
+        ≡ all_cleared (sized S.WIDE p.entry.format) (scratch_of scratch.old a32.old b32.old) }
 {
-    let places = places_needed(layout.size.width);
-    let samples = samples_needed(layout.size.width, layout.size.height);
+    let places = places_needed(p.format.width);
+    let samples = samples_needed(p.format.width, p.format.height);
     scales::score(
-        a8,
-        a16,
-        b8,
-        b16,
-        layout,
+        p,
         &mut scratch[..places],
         &mut a32[..samples],
         &mut b32[..samples],
     )
 }
 
-// MS-SSIM of two planes of either width.
-fn answer(
-    a8: &[u8],
-    a16: &[u16],
-    b8: &[u8],
-    b16: &[u16],
-    layout: Layout,
+// MS-SSIM of two planes: ssim and cs of each scale, the first scale first. Refused, scratch is as it was; else, and at 9, its needed
+// part is all zero and the rest as it was.
+pub fn msssim<S: Stored>(
+    p: Pair<'_, S>,
     scratch: &mut [i64],
     a32: &mut [u32],
     b32: &mut [u32],
-) -> MsSsim
-    ensures value { result ≡ msssim_of (planes layout a8.entry a16.entry b8.entry b16.entry)
+) -> Result<[Ssim; SCALES], Refusal>
+    ensures value { result ≡ msssim_of (planes S.Sample.value S.WIDE p.entry)
         (scratch_of scratch.old a32.old b32.old) }
     ensures b32_value { scratch_of scratch.new a32.new b32.new ≡ scratch_after
-        (planes layout a8.entry a16.entry b8.entry b16.entry) (scratch_of scratch.old a32.old b32.old) }
+        (planes S.Sample.value S.WIDE p.entry) (scratch_of scratch.old a32.old b32.old) }
 {
-    let no = refusal(a8, a16, b8, b16, layout, scratch, a32, b32);
-    if no != 0 {
-        return MsSsim::Refused(no);
-    }
-    score(a8, a16, b8, b16, layout, scratch, a32, b32)
-}
-
-// MS-SSIM of two planes of bytes. Refused, scratch is as it was; else, and at 9, its needed part is all zero and the rest as it was.
-pub fn msssim8(
-    a: &[u8],
-    b: &[u8],
-    width: usize,
-    height: usize,
-    stride_a: usize,
-    stride_b: usize,
-    depth: u32,
-    scratch: &mut [i64],
-    a32: &mut [u32],
-    b32: &mut [u32],
-) -> MsSsim
-    ensures value { result ≡ msssim_of (called false a.entry b.entry width height stride_a stride_b depth)
-        (scratch_of scratch.old a32.old b32.old) }
-    ensures b32_value { scratch_of scratch.new a32.new b32.new ≡ scratch_after (called false a.entry b.entry
-        width height stride_a stride_b depth) (scratch_of scratch.old a32.old b32.old) }
-{
-    let size = Size {
-        wide: false,
-        width,
-        height,
-        depth,
-    };
-    let layout = Layout {
-        size,
-        stride_a,
-        stride_b,
-    };
-    answer(a, &[0u16; 0], b, &[0u16; 0], layout, scratch, a32, b32)
-}
-
-// The same of words.
-pub fn msssim16(
-    a: &[u16],
-    b: &[u16],
-    width: usize,
-    height: usize,
-    stride_a: usize,
-    stride_b: usize,
-    depth: u32,
-    scratch: &mut [i64],
-    a32: &mut [u32],
-    b32: &mut [u32],
-) -> MsSsim
-    ensures value { result ≡ msssim_of (called true a.entry b.entry width height stride_a stride_b depth)
-        (scratch_of scratch.old a32.old b32.old) }
-    ensures b32_value { scratch_of scratch.new a32.new b32.new ≡ scratch_after (called true a.entry b.entry
-        width height stride_a stride_b depth) (scratch_of scratch.old a32.old b32.old) }
-{
-    let size = Size {
-        wide: true,
-        width,
-        height,
-        depth,
-    };
-    let layout = Layout {
-        size,
-        stride_a,
-        stride_b,
-    };
-    answer(&[0u8; 0], a, &[0u8; 0], b, layout, scratch, a32, b32)
+    check(p, scratch, a32, b32)?;
+    score(p, scratch, a32, b32)
 }

@@ -1,15 +1,15 @@
 // One scale scored.
-ghost use Rattle.std.specs.Prelude.{◌≡◌, ◌∷◌, ◌*◌, ◌≤◌, length, drop};
+ghost use Rattle.std.specs.Prelude.{◌≡◌, ◌*◌, ◌≤◌, length};
 ghost use Rattle.plane.specs.Limits.{side_limit};
 ghost use Rattle.plane.specs.Plane.{plane_of, sample_at};
 ghost use Rattle.plane.specs.Inner.Lawful.{Bounded};
 ghost use Rattle.kernel.specs.Kernel.{fixed_kernel};
 ghost use Rattle.window.specs.Moments.{most_sample};
 ghost use Rattle.window.specs.Inner.Columns.{columns_of};
-ghost use Rattle.msssim.specs.Scale.{scale_of, scale_totals, mean_ssim, mean_cs};
+ghost use Rattle.msssim.specs.Scale.{scale_of, scale_totals, mean_pair};
 
-use ssim::Totals;
-use window::{Grid, Samples};
+use plane::{Format, Pair, Plane};
+use ssim::{Ssim, Totals};
 
 // What the taps of the fixed kernel sum to.
 const FIXED_TOTAL: u64 = 1024;
@@ -35,33 +35,32 @@ pub fn totals(
     let kernel = [8u16, 37, 112, 218, 274, 218, 112, 37, 8];
     let need = 5 * (width + MARGINS);
     let max2 = ssim::centre::squared(max);
-    let grid = Grid {
-        samples: Samples::Longs,
+    // the samples of a scale go up to `max`: no depth is read
+    let format = Format {
         width,
         height,
-        stride_a: width,
-        stride_b: width,
+        depth: 0,
     };
-    ssim::walk::totals(
-        &[0u8; 0],
-        &[0u16; 0],
-        a32,
-        &[0u8; 0],
-        &[0u16; 0],
-        b32,
-        grid,
-        &kernel,
-        FIXED_TOTAL,
-        max2,
-        &mut cols[..need],
-    )
+    let p = Pair {
+        format,
+        a: Plane {
+            samples: a32,
+            stride: width,
+        },
+        b: Plane {
+            samples: b32,
+            stride: width,
+        },
+    };
+    ssim::walk::totals(p, &kernel, FIXED_TOTAL, max2, &mut cols[..need])
 }
 
-// The pair of a scale to the first two places.
-pub fn put_pair(t: Totals, pairs: &mut [f64])
-    requires { 2 ≤ length pairs.old }
-    ensures { pairs.new ≡ mean_ssim t ∷ mean_cs t ∷ drop 2 pairs.old }
+// The pair of a scale.
+pub fn pair(t: Totals) -> Ssim
+    ensures { result ≡ mean_pair t }
 {
-    pairs[0] = t.ssim / t.ssimw;
-    pairs[1] = t.cs / t.ssimw;
+    Ssim {
+        ssim: t.ssim / t.ssimw,
+        cs: t.cs / t.ssimw,
+    }
 }

@@ -2,7 +2,7 @@
 ghost use Rattle.std.specs.Prelude.{◌≡◌, ◌*◌, ◌^◌, ◌≤◌, pos, length, replicate};
 ghost use Rattle.plane.specs.Limits.{side_limit};
 ghost use Rattle.plane.specs.Plane.{plane_of, sample_at};
-ghost use Rattle.plane.specs.Inner.Lent.{planes};
+ghost use Rattle.plane.specs.Inner.Seen.{planes};
 ghost use Rattle.plane.specs.Inner.Lawful.{Bounded};
 ghost use Rattle.kernel.specs.Kernel.{fixed_kernel};
 ghost use Rattle.window.specs.Moments.{most_sample};
@@ -12,37 +12,33 @@ ghost use Rattle.msssim.specs.Scratch.{scratch_of};
 ghost use Rattle.msssim.specs.Answer.{first_scale, msssim_score};
 ghost use Rattle.msssim.specs.Inner.Sound.{Sound};
 
-use crate::{MsSsim, five, scale};
-use plane::Layout;
+use crate::{SCALES, five, scale};
+use plane::{Pair, Stored};
+use refusal::Refusal;
+use ssim::Ssim;
 
-// How many scales there are, and how many numbers their pairs are.
-const SCALES: usize = 5;
-
-const NUMBERS: usize = 2 * SCALES;
-
-// The pairs of a scale and of the `left - 1` below it: this one is scored, the planes are downscaled in place, and the same is done to
-// what is left. `max` is the scale's largest sample.
+// The pairs of a scale and of those below it, a scale to a place: this one is scored, the planes are downscaled in place, and the same is
+// done to what is left. `max` is the scale's largest sample. It calls itself, as the definition does: a loop would have to say what is left
+// too.
 fn pairs_from(
     a32: &mut [u32],
     b32: &mut [u32],
     width: usize,
     height: usize,
     max: u32,
-    left: usize,
     cols: &mut [i64],
-    pairs: &mut [f64],
+    pairs: &mut [Ssim],
 )
     requires width_le_side_limit { (width ≤ side_limit) × (height ≤ side_limit)
         × (5 * columns_of fixed_kernel width ≤ length cols.old) }
-    requires left_bound { (max * 4 ^ left ≤ 4 * most_sample) × (length pairs.old ≡ 2 * left) }
+    requires left_bound { max * 4 ^ length pairs.old ≤ 4 * most_sample }
     requires bounded { Bounded max width height (plane_of a32.old width) }
     requires bounded_2 { Bounded max width height (plane_of b32.old width) }
-    ensures { pairs.new ≡ pairs_from left (scale_of max width height (sample_at (plane_of a32.old width))
+    ensures { pairs.new ≡ pairs_from (length pairs.old) (scale_of max width height (sample_at (plane_of a32.old width))
         (sample_at (plane_of b32.old width))) }
 {
-    if 0 < left {
-        let t = scale::totals(a32, b32, width, height, max, cols);
-        scale::put_pair(t, pairs);
+    if !pairs.is_empty() {
+        pairs[0] = scale::pair(scale::totals(a32, b32, width, height, max, cols));
         downscale::downscale(a32, width, height);
         downscale::downscale(b32, width, height);
         pairs_from(
@@ -51,60 +47,49 @@ fn pairs_from(
             width / 2,
             height / 2,
             4 * max,
-            left - 1,
             cols,
-            &mut pairs[2..],
+            &mut pairs[1..],
         );
     }
 }
 
 // The pairs of the five scales: the planes are widened, and scored from there on.
-fn five_pairs(
-    a8: &[u8],
-    a16: &[u16],
-    b8: &[u8],
-    b16: &[u16],
-    layout: Layout,
+fn five_pairs<S: Stored>(
+    p: Pair<'_, S>,
     cols: &mut [i64],
     a32: &mut [u32],
     b32: &mut [u32],
-    pairs: &mut [f64],
-)
-    requires sound { Sound (planes layout a8 a16 b8 b16) (scratch_of cols.old a32.old b32.old) }
-    requires pairs_len { length pairs.old ≡ 2 * scale_count }
-    ensures { pairs.new ≡ pairs_from scale_count
-        (first_scale (planes layout a8.entry a16.entry b8.entry b16.entry)) }
+) -> [Ssim; SCALES]
+    requires { Sound (planes S.Sample.value S.WIDE p) (scratch_of cols.old a32.old b32.old) }
+    ensures { result ≡ pairs_from scale_count (first_scale (planes S.Sample.value S.WIDE p.entry)) }
 {
-    downscale::widen(a8, a16, layout.size, layout.stride_a, a32);
-    downscale::widen(b8, b16, layout.size, layout.stride_b, b32);
-    let width = layout.size.width;
-    let height = layout.size.height;
-    let max = plane::sample_max(layout.size.depth);
-    pairs_from(a32, b32, width, height, max, SCALES, cols, pairs);
+    let width = p.format.width;
+    let height = p.format.height;
+    downscale::widen(p.a, width, height, a32);
+    downscale::widen(p.b, width, height, b32);
+    let max = plane::sample_max(p.format.depth);
+    let mut pairs = [Ssim { ssim: 0.0, cs: 0.0 }; SCALES];
+    pairs_from(a32, b32, width, height, max, cols, &mut pairs);
+    pairs
 }
 
 // The score of two planes that no test refuses, in scratch that is all needed: all of it is zero afterwards.
 #[tactic(auto, unfolding(crate::specs::Scale::scale_count))]
-pub fn score(
-    a8: &[u8],
-    a16: &[u16],
-    b8: &[u8],
-    b16: &[u16],
-    layout: Layout,
+pub fn score<S: Stored>(
+    p: Pair<'_, S>,
     cols: &mut [i64],
     a32: &mut [u32],
     b32: &mut [u32],
-) -> MsSsim
-    requires { Sound (planes layout a8 a16 b8 b16) (scratch_of cols.old a32.old b32.old) }
-    ensures value { result ≡ msssim_score (planes layout a8.entry a16.entry b8.entry b16.entry) }
+) -> Result<[Ssim; SCALES], Refusal>
+    requires { Sound (planes S.Sample.value S.WIDE p) (scratch_of cols.old a32.old b32.old) }
+    ensures value { result ≡ msssim_score (planes S.Sample.value S.WIDE p.entry) }
     ensures cols_after { cols.new ≡ replicate (length cols.old) (pos 0) }
     ensures a32_after { a32.new ≡ replicate (length a32.old) 0 }
     ensures b32_after { b32.new ≡ replicate (length b32.old) 0 }
 {
-    let mut pairs = [0.0; NUMBERS];
-    five_pairs(a8, a16, b8, b16, layout, cols, a32, b32, &mut pairs);
+    let pairs = five_pairs(p, cols, a32, b32);
     ssim::walk::clear(cols);
     downscale::clear(a32);
     downscale::clear(b32);
-    five::five(&pairs)
+    five::five(pairs)
 }

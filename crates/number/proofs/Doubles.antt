@@ -1,5 +1,8 @@
 -- Doubles by their units and their bits, and the root of a number of units from its 53 digits. Assumes nothing.
-use Rattle.std.proofs.Common.{◌≡◌, ℕ, zero, suc, ◌+◌, ◌-◌, ◌*◌, ◌/◌, ◌%◌, ◌^◌, ◌<◌, ◌≤◌, Bool, true, false, cond, not, T, eqb, ltb, leb, sym, refl, ap, ◌∙◌, subst, ap₂, lt_of_lt_of_le, lt_irrefl, mul-le-mul_right, mod-eq_of_lt, mul_assoc, le_antisymm, lt_of_mul-lt-mul_right, mul-lt-mul_of_pos_right, mul-pos, zero-add, zero-mul, mul-one, mul_right_comm, le_of_mul-le-mul_right, mul-div_cancel, arith, lit≤, pow_pos, pow_mono, pow-add, shl_lt, le-ltb, ne_eqb, le-leb}
+use Rattle.std.specs.Prelude.{Ok, Err}
+use Rattle.std.proofs.Common.{◌≡◌, ℕ, zero, suc, ◌+◌, ◌-◌, ◌*◌, ◌/◌, ◌%◌, ◌^◌, ◌<◌, ◌≤◌, Bool, true, false, cond, not, T, eqb, ltb, leb, sym, refl, ap, ◌∙◌, subst, ap₂, lt_of_lt_of_le}
+use Rattle.std.proofs.Common.{lt_irrefl, mul-le-mul_right, mod-eq_of_lt, mul_assoc, le_antisymm, lt_of_mul-lt-mul_right, mul-lt-mul_of_pos_right, mul-pos, zero-add, zero-mul, mul-one}
+use Rattle.std.proofs.Common.{mul_right_comm, le_of_mul-le-mul_right, mul-div_cancel, arith, lit≤, pow_pos, pow_mono, pow-add, shl_lt, le-ltb, ne_eqb, le-leb}
 use native.Mathlib.Nat.{eq_of_mul-eq-mul_right}
 use native.Mathlib.Decide.{dec_le, dec_lt}
 use lib.Count.{count_leading_zeros, leading_top}
@@ -10,8 +13,7 @@ use lib.Ieee.Fits.{odd-fits, cond-fits, inf-fits, down_pos}
 use lib.Ieee.Exact.{HasValue, odd_sign, units_val}
 use lib.Ieee.Bits.{of_bits-to_bits, nan_bits_above}
 use borrow.Author.Tests.{lt-leb}
-use Rattle.refusal.specs.Numbers.{value_no}
-use Rattle.number.specs.declared.Rooted.TheVariants.{Root, Refused}
+use Rattle.refusal.specs.declared.Refusal.TheVariants as no
 use Rattle.number.specs.Root.{nearest_root, units_of, root_of_units, root_of}
 
 -- ---- how many digits a number has
@@ -73,13 +75,13 @@ units_are nan s a h = absurd h
 units_are (inf t) s a h = absurd h
 units_are (fin t m k) s a h = ap (λ (x : ℕ). x / down k) h.1 ∙ mul-div_cancel a (down_pos k)
 
-root_of_value : (v : Float) (a : ℕ) → HasValue v false a (2 ^ low binary64) → 0 < a → root_of v ≡ Root (root_of_units a)
+root_of_value : (v : Float) (a : ℕ) → HasValue v false a (2 ^ low binary64) → 0 < a → root_of v ≡ Ok (root_of_units a)
 unfolding root_of
 root_of_value nan a h p = absurd h
 root_of_value (inf t) a h p = absurd h
 root_of_value (fin true m k) a h p = let z : ◌≡◌ {A = ℕ} 0 1 = cc h.0 in absurd (omega arith)
 root_of_value (fin false zero k) a h p = absurd (lt_irrefl 0 (subst (λ (x : ℕ). 0 < x) (sym h.1 ∙ ap (λ (x : ℕ). x * 2 ^ low binary64) (zero-mul (up k)) ∙ zero-mul (2 ^ low binary64)) (mul-pos p (down_pos k))))
-root_of_value (fin false (suc m) k) a h p = ap (λ (x : ℕ). Root (root_of_units x)) (units_are (fin false (suc m) k) false a h)
+root_of_value (fin false (suc m) k) a h p = ap (λ (x : ℕ). Ok (root_of_units x)) (units_are (fin false (suc m) k) false a h)
 
 -- ---- a double by its bits
 
@@ -105,34 +107,34 @@ pub no_nan : (n : ℕ) → n < 2047 * 2 ^ 52 → T (not (nan_bits binary64 n))
 no_nan n h = rw (nan_bits_above binary64 n, le-ltb (2047 * 2 ^ 52) (n % 2 ^ 63) (omega arith)) tt
 
 -- from the infinity's pattern on, nothing has a root
-odd_refused : (d q k l : ℕ) → root_of (odd d true q k l) ≡ Refused value_no
+odd_refused : (d q k l : ℕ) → root_of (odd d true q k l) ≡ Err no.Value
 unfolding root_of odd
 odd_refused d zero k l = refl
 odd_refused d (suc q) k l = refl
 
-fields_refused : (x t : ℕ) → root_of (of_fields binary64 true x t) ≡ Refused value_no
+fields_refused : (x t : ℕ) → root_of (of_fields binary64 true x t) ≡ Err no.Value
 unfolding root_of of_fields
 fields_refused zero t = odd_refused 53 t 0 1074
 fields_refused (suc x) t = go (eqb (suc x) 2047) (eqb t 0)
   where
-    go : (a b : Bool) → root_of (cond a (cond b (inf true) nan) (odd 53 true (2 ^ 52 + t) x 1074)) ≡ Refused value_no
+    go : (a b : Bool) → root_of (cond a (cond b (inf true) nan) (odd 53 true (2 ^ 52 + t) x 1074)) ≡ Err no.Value
     go true true = refl
     go true false = refl
     go false b = odd_refused 53 (2 ^ 52 + t) x 1074
 
-last_refused : (t : ℕ) → root_of (of_fields binary64 false 2047 t) ≡ Refused value_no
+last_refused : (t : ℕ) → root_of (of_fields binary64 false 2047 t) ≡ Err no.Value
 unfolding root_of of_fields
 last_refused t = go (eqb t 0)
   where
-    go : (b : Bool) → root_of (cond b (inf false) nan) ≡ Refused value_no
+    go : (b : Bool) → root_of (cond b (inf false) nan) ≡ Err no.Value
     go true = refl
     go false = refl
 
-pub read_refused : (b : ℕ) → 2047 * 2 ^ 52 ≤ b → root_of (of_bits binary64 b) ≡ Refused value_no
+pub read_refused : (b : ℕ) → 2047 * 2 ^ 52 ≤ b → root_of (of_bits binary64 b) ≡ Err no.Value
 unfolding of_bits
 read_refused b h = go (dec_le (2 ^ 63) b)
   where
-    go : Dec (2 ^ 63 ≤ b) → root_of (of_fields binary64 (leb (2 ^ 63) b) (b % 2 ^ 63 / 2 ^ 52) (b % 2 ^ 52)) ≡ Refused value_no
+    go : Dec (2 ^ 63 ≤ b) → root_of (of_fields binary64 (leb (2 ^ 63) b) (b % 2 ^ 63 / 2 ^ 52) (b % 2 ^ 52)) ≡ Err no.Value
     go (yes l) = rw (le-leb (2 ^ 63) b l) (fields_refused (b % 2 ^ 63 / 2 ^ 52) (b % 2 ^ 52))
     go (no l) =
         let x : b % 2 ^ 63 / 2 ^ 52 ≡ 2047 = omega arith in
@@ -204,19 +206,28 @@ lifted d p h =
         go (yes l) = l
         go (no l) = absurd (omega (arith, pow_mono {i = 52} {j = j} (omega arith)))
 
+-- by how many places they are moved, each bound a fact of its own
+pub lifted_from : (d : ℕ) → 0 < d → d < 2 ^ 52 → 11 ≤ count_leading_zeros 64 d
+lifted_from d p h = (lifted d p h).zeros.0
+
+pub lifted_upto : (d : ℕ) → 0 < d → d < 2 ^ 52 → count_leading_zeros 64 d < 64
+lifted_upto d p h = (lifted d p h).zeros.1
+
+pub ruleset lift_room = (lifted_from, lifted_upto)
+
 moved_up : (c d u w : ℕ) → u + w ≡ c → d * 2 ^ c ≡ d * 2 ^ u * 2 ^ w
 moved_up c d u w q = sym (mul_assoc d (2 ^ u) (2 ^ w) ∙ ap (λ (x : ℕ). d * x) (sym (pow-add 2 u w) ∙ ap (λ (x : ℕ). 2 ^ x) q))
 
 pub small_root : (b : ℕ) → 0 < b → b < 2 ^ 52
-    → root_of (of_bits binary64 b) ≡ Root (units binary64 false (nearest_root 53 (b * 2 ^ lift b * 2 ^ (52 + (1022 - lift b) % 2))) ((1022 - lift b) / 2))
+    → root_of (of_bits binary64 b) ≡ Ok (units binary64 false (nearest_root 53 (b * 2 ^ lift b * 2 ^ (52 + (1022 - lift b) % 2))) ((1022 - lift b) / 2))
 small_root b p h =
     let l = lifted b p h in
     root_of_value (of_bits binary64 b) b (read_small b h) p
-    ∙ ap Root
+    ∙ ap Ok
     (scaled_root b (b * 2 ^ lift b) 1022 (1022 - lift b) (moved_up 1022 b (lift b) (1022 - lift b) (omega (arith, l.zeros))) l.from l.upto refl (omega (arith, l.zeros)))
 
 pub normal_root : (k t : ℕ) → k < 2046 → t < 2 ^ 52
-    → root_of (of_bits binary64 ((k + 1) * 2 ^ 52 + t)) ≡ Root (units binary64 false (nearest_root 53 ((2 ^ 52 + t) * 2 ^ (52 + (k + 1022) % 2))) ((k + 1022) / 2))
+    → root_of (of_bits binary64 ((k + 1) * 2 ^ 52 + t)) ≡ Ok (units binary64 false (nearest_root 53 ((2 ^ 52 + t) * 2 ^ (52 + (k + 1022) % 2))) ((k + 1022) / 2))
 normal_root k t hk ht =
     root_of_value (of_bits binary64 ((k + 1) * 2 ^ 52 + t)) ((2 ^ 52 + t) * 2 ^ k) (read_normal k t hk ht) (mul-pos {m = 2 ^ 52 + t} {n = 2 ^ k} (omega arith) (pow_pos k))
-    ∙ ap Root (scaled_root ((2 ^ 52 + t) * 2 ^ k) (2 ^ 52 + t) 1022 (k + 1022) (sym (moved_up (k + 1022) (2 ^ 52 + t) k 1022 refl)) (omega arith) (omega arith) refl (omega arith))
+    ∙ ap Ok (scaled_root ((2 ^ 52 + t) * 2 ^ k) (2 ^ 52 + t) 1022 (k + 1022) (sym (moved_up (k + 1022) (2 ^ 52 + t) k 1022 refl)) (omega arith) (omega arith) refl (omega arith))

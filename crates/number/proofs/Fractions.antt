@@ -1,6 +1,7 @@
 -- Doubles that are whole numbers over a power of two: small enough, they are exact, and so are their sums, differences and squares.
 -- Assumes nothing.
-use Rattle.std.proofs.Common.{◌≡◌, ℕ, ◌+◌, ◌-◌, ◌*◌, ◌^◌, ◌<◌, ◌≤◌, Bool, true, false, ltb, pos, sym, refl, ap, ◌∙◌, ap₂, lt_of_lt_of_le, le_of_lt, mul-le-mul_right, mul_assoc, mul_comm, add-mul, mul-pos, one-mul, mul-one, mul_right_comm, le_of_mul-le-mul_right, arith, lit<, lit≤, pow_pos, pow_mono, pow-add, shl_lt, ltb-false, ltb-true}
+use Rattle.std.proofs.Common.{◌≡◌, ℕ, ◌+◌, ◌-◌, ◌*◌, ◌^◌, ◌<◌, ◌≤◌, Bool, true, false, ltb, pos, sym, refl, ap, ◌∙◌, ap₂, lt_of_lt_of_le, le_of_lt, mul-le-mul_right, mul_assoc, mul_comm}
+use Rattle.std.proofs.Common.{add-mul, mul-pos, one-mul, mul-one, mul_right_comm, le_of_mul-le-mul_right, arith, lit<, lit≤, pow_pos, pow_mono, pow-add, shl_lt, ltb-false, ltb-true}
 use native.Mathlib.Nat.{mul-mul-mul_comm, mul-sub}
 use lib.Ieee.{Float, nan, inf, fin, binary64, up, down, round, sum, add, sub, mul, div, neg, of_int, of_bits}
 use lib.Ieee.Exact.{HasValue, round_exact}

@@ -1,8 +1,8 @@
 -- What the functions' proofs use and no one function owns, and the laws about the root.
 mod Whole
 pub mod Words
-mod Squares
-mod Doubles
+pub mod Squares
+pub mod Doubles
 pub mod Nearest
 pub mod Worked
 pub mod Folds

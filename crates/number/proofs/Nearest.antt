@@ -2,7 +2,10 @@
 -- Doubles are counted in units, the smallest double, so the exact root of n units is the root of n * 2 ^ 1074, in units. Another double
 -- y is farther from it than r is where the root lies on r's side of half way: (y + r)² < 4 * n * 2 ^ 1074 for a y below r, and the other
 -- way round for one above. Both hold without equality, so no y is as near. Assumes nothing.
-use Rattle.std.proofs.Common.{◌≡◌, ℕ, zero, suc, ◌+◌, ◌-◌, ◌*◌, ◌/◌, ◌%◌, ◌^◌, ◌<◌, ◌≤◌, Bool, true, false, ◌&&◌, T, eqb, ltb, leb, ℤ, pos, negsuc, sym, refl, ap, ◌∙◌, subst, zero-le, le_trans, le_refl, lt_of_lt_of_le, lt_of_le_of_lt, le_of_lt, mul-le-mul_right, zero-lt-suc, mul_assoc, add-mul, mul-le-mul, lt_of_mul-lt-mul_right, mul-lt-mul_of_pos_right, mul-pos, zero-mul, mul-one, mul_right_comm, div-mul-le_self, div-one, mul-div_cancel, arith, ltb→lt, leb→le, pow_pos, pow_mono, pow-add, shl_lt}
+use Rattle.std.specs.Prelude.{Result, Ok, Err}
+use Rattle.std.proofs.Common.{◌≡◌, ℕ, zero, suc, ◌+◌, ◌-◌, ◌*◌, ◌/◌, ◌%◌, ◌^◌, ◌<◌, ◌≤◌, Bool, true, false, ◌&&◌, T, eqb, ltb, leb, ℤ, pos, negsuc, sym, refl, ap, ◌∙◌, subst, zero-le, le_trans}
+use Rattle.std.proofs.Common.{le_refl, lt_of_lt_of_le, lt_of_le_of_lt, le_of_lt, mul-le-mul_right, zero-lt-suc, mul_assoc, add-mul, mul-le-mul, lt_of_mul-lt-mul_right, mul-lt-mul_of_pos_right}
+use Rattle.std.proofs.Common.{mul-pos, zero-mul, mul-one, mul_right_comm, div-mul-le_self, div-one, mul-div_cancel, arith, ltb→lt, leb→le, pow_pos, pow_mono, pow-add, shl_lt}
 use native.Mathlib.Nat.{mul-mul-mul_comm}
 use native.Mathlib.Nat.{mul-lt-mul_of_pos_left, zero-div}
 use native.Mathlib.Decide.{dec_le, dec_lt}
@@ -11,9 +14,8 @@ use lib.Ieee.{Float, nan, inf, fin, binary64, up, down, low, emax, prec, fits, s
 use lib.Ieee.Digits.{size-lt, size_reaches, size-le}
 use lib.Ieee.Fits.{and_l, and_r, down_pos}
 use lib.Ieee.Exact.{HasValue}
-use Rattle.refusal.specs.Numbers.{value_no}
-use Rattle.number.specs.declared.Rooted.{Rooted}
-use Rattle.number.specs.declared.Rooted.TheVariants.{Root, Refused}
+use Rattle.refusal.specs.declared.Refusal.TheVariants as no
+use Rattle.refusal.specs.declared.Refusal.{Refusal}
 use Rattle.number.specs.Root.{nearest_root, units_of, root_of_units, root_of}
 use Rattle.number.proofs.Whole.{Near, Scaled, shifted, near_from, near_upto, nearest_near, above_square, below_square, sorted}
 use Rattle.number.proofs.Doubles.{units_are, units_value, units_fit, scaled_root, other_scale, scale_from}
@@ -188,13 +190,13 @@ pub record Nearest (x r : Float) : Type 0 where
   pub only : (y : Float) → T (fits binary64 y) → Beyond (units_of x * 2 ^ low binary64) y (units_of r)
 
 -- what the answer to a root must be, for every double: a positive one's nearest root, +0 for +0, and 12 for all others
-abbrev pub Right : Float → Rooted → Type 0
-Right nan a = a ≡ Refused value_no
-Right (inf s) a = a ≡ Refused value_no
-Right (fin true m e) a = a ≡ Refused value_no
-Right (fin false zero e) a = a ≡ Root (fin false 0 (pos 0))
-Right (fin false (suc m) e) (Root r) = Nearest (fin false (suc m) e) r
-Right (fin false (suc m) e) (Refused k) = ⊥
+abbrev pub Right : Float → Result Float Refusal → Type 0
+Right nan a = a ≡ Err no.Value
+Right (inf s) a = a ≡ Err no.Value
+Right (fin true m e) a = a ≡ Err no.Value
+Right (fin false zero e) a = a ≡ Ok (fin false 0 (pos 0))
+Right (fin false (suc m) e) (Ok r) = Nearest (fin false (suc m) e) r
+Right (fin false (suc m) e) (Err k) = ⊥
 
 value_positive : (v : Float) (a : ℕ) → HasValue v false a (2 ^ low binary64) → NotBelow v
 value_positive nan a h = h

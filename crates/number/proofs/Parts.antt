@@ -1,6 +1,7 @@
 -- How many units a double has on one side of zero; a unit is the smallest double above it. The side b is true for what is below zero. Of a rounded
 -- fraction that is at most what the exact one has, its 2^53rd part and half a unit, and at least that much less. Assumes nothing.
-use Rattle.std.proofs.Common.{◌≡◌, ℕ, zero, suc, ◌+◌, ◌-◌, ◌*◌, ◌/◌, ◌%◌, ◌^◌, ◌<◌, ◌≤◌, Bool, true, false, cond, ◌&&◌, ◌||◌, T, eqb, ltb, leb, ℤ, pos, negsuc, sym, refl, ap, ◌∙◌, subst, ap₂, zero-le, mul-le-mul_right, mul_assoc, mul_comm, mul-pos, zero-mul, mul-one, le_of_mul-le-mul_right, div-one, mul-div_cancel, arith, eqb→eq, ltb→lt, leb→le, pow_pos, pow-add}
+use Rattle.std.proofs.Common.{◌≡◌, ℕ, zero, suc, ◌+◌, ◌-◌, ◌*◌, ◌/◌, ◌%◌, ◌^◌, ◌<◌, ◌≤◌, Bool, true, false, cond, ◌&&◌, ◌||◌, T, eqb, ltb, leb, ℤ, pos, negsuc, sym, refl, ap, ◌∙◌, subst, ap₂, zero-le}
+use Rattle.std.proofs.Common.{mul-le-mul_right, mul_assoc, mul_comm, mul-pos, zero-mul, mul-one, le_of_mul-le-mul_right, div-one, mul-div_cancel, arith, eqb→eq, ltb→lt, leb→le, pow_pos, pow-add}
 use mathlib.Core.Bool.{beq}
 use native.Mathlib.Nat.{zero-div, eq_of_mul-eq-mul_right}
 use lib.Ieee.{Float, nan, inf, fin, binary64, prec, emax, low, up, down, round, le, fits}

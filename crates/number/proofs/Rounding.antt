@@ -1,6 +1,7 @@
 -- How far rounding errs. A unit is the smallest double above zero. A fraction as a double is off by at most its 2^53rd part and half
 -- a unit. Assumes nothing.
-use Rattle.std.proofs.Common.{◌≡◌, ℕ, suc, ◌+◌, ◌*◌, ◌/◌, ◌%◌, ◌^◌, ◌<◌, ◌≤◌, Bool, true, false, cond, not, T, ltb, sym, ap, ◌∙◌, subst, inl, inr, true≢false, mul-le-mul_right, mod-lt, mul_assoc, suc-mul, mul_comm, eq-zero-or-pos, mul-pos, div-add-mod', le-div_iff_mul-le, mul-one, arith, eqb→eq, leb→le, pow_pos, pow-add}
+use Rattle.std.proofs.Common.{◌≡◌, ℕ, suc, ◌+◌, ◌*◌, ◌/◌, ◌%◌, ◌^◌, ◌<◌, ◌≤◌, Bool, true, false, cond, not, T, ltb, sym, ap, ◌∙◌, subst, inl, inr, true≢false, mul-le-mul_right, mod-lt}
+use Rattle.std.proofs.Common.{mul_assoc, suc-mul, mul_comm, eq-zero-or-pos, mul-pos, div-add-mod', le-div_iff_mul-le, mul-one, arith, eqb→eq, leb→le, pow_pos, pow-add}
 use Prim.Native.Nat.{compare, Ordering}
 use lib.Dec.{is_le, compare_is_eq, nleb→lt}
 use lib.Ieee.{Float, inf, Format, binary64, prec, emax, low, nearest, odd, units, round}

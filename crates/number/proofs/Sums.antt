@@ -1,6 +1,7 @@
 -- What a sum of two doubles has on one side of zero: at most what both have there, and the error of rounding; and at least that less the error, where
 -- neither has anything on the other side. Assumes nothing.
-use Rattle.std.proofs.Common.{◌≡◌, ℕ, zero, suc, ◌+◌, ◌-◌, ◌*◌, ◌^◌, ◌<◌, ◌≤◌, Bool, true, false, cond, not, T, ltb, ℤ, sym, refl, ap, ◌∙◌, subst, zero-le, le_refl, mul-le-mul_right, mul-pos, zero-mul, le_of_mul-le-mul_right, arith, pow_pos, ltb-false, le-ltb, lt-ltb}
+use Rattle.std.proofs.Common.{◌≡◌, ℕ, zero, suc, ◌+◌, ◌-◌, ◌*◌, ◌^◌, ◌<◌, ◌≤◌, Bool, true, false, cond, not, T, ltb, ℤ, sym, refl, ap, ◌∙◌, subst, zero-le}
+use Rattle.std.proofs.Common.{le_refl, mul-le-mul_right, mul-pos, zero-mul, le_of_mul-le-mul_right, arith, pow_pos, ltb-false, le-ltb, lt-ltb}
 use mathlib.Core.Bool.{beq}
 use native.Mathlib.Nat.{eq_of_mul-eq-mul_right}
 use native.Mathlib.Decide.{dec_le}

@@ -1,5 +1,6 @@
 -- Whole numbers: the whole root and the nearest one meet their tests, and nothing else does. Assumes nothing.
-use Rattle.std.proofs.Common.{◌≡◌, ℕ, zero, suc, ◌+◌, ◌-◌, ◌*◌, ◌/◌, ◌%◌, ◌^◌, ◌<◌, ◌≤◌, Bool, true, false, cond, ◌&&◌, ltb, leb, refl, ap, ◌∙◌, add_assoc, mul_assoc, mul_comm, add-mul, mul-le-mul, add_comm, le_antisymm, pow-suc, mul-add, mul_left_comm, arith, ltb-true, le-ltb, lt-ltb, le-leb}
+use Rattle.std.proofs.Common.{◌≡◌, ℕ, zero, suc, ◌+◌, ◌-◌, ◌*◌, ◌/◌, ◌%◌, ◌^◌, ◌<◌, ◌≤◌, Bool, true, false, cond, ◌&&◌, ltb, leb, sym, refl, ap, ◌∙◌, add_assoc, mul_assoc}
+use Rattle.std.proofs.Common.{mul_comm, add-mul, mul-le-mul, add_comm, le_antisymm, pow-suc, mul-add, mul_left_comm, arith, ltb-true, le-ltb, lt-ltb, le-leb}
 use native.Mathlib.Nat.{add_left_comm, mul-lt-mul_of_pos_left}
 use native.Mathlib.Decide.{dec_lt, dec_le}
 use borrow.Author.Tests.{lt-leb}
@@ -82,7 +83,7 @@ whole_le n s t a b = go (dec_le s t)
         let p : (t + 1) * (t + 1) ≤ s * s = mul-le-mul h h in
         omega (arith, a.within, b.beyond)
 
-pub whole_only : (n s t : ℕ) → Whole n s → Whole n t → s ≡ t
+whole_only : (n s t : ℕ) → Whole n s → Whole n t → s ≡ t
 whole_only n s t a b = le_antisymm (whole_le n s t a b) (whole_le n t s b a)
 
 -- from n / 4's root q, 2q or the next number up
@@ -133,20 +134,26 @@ nearest_is d n s p h c = near_only n s _ c (rounded_near n _ p (whole_says d n h
 
 -- ---- how the search ends
 
-pub round_up : (n s : ℕ) → s * (s + 1) < n → rounded n s ≡ s + 1
+round_up : (n s : ℕ) → s * (s + 1) < n → rounded n s ≡ s + 1
 unfolding rounded
 round_up n s l = rw (le-ltb (4 * n) ((2 * s + 1) * (2 * s + 1)) (omega (arith, above_square s)))
 
-pub round_stay : (n s : ℕ) → n ≤ s * (s + 1) → rounded n s ≡ s
+round_stay : (n s : ℕ) → n ≤ s * (s + 1) → rounded n s ≡ s
 unfolding rounded
 round_stay n s l = rw (lt-ltb (4 * n) ((2 * s + 1) * (2 * s + 1)) (omega (arith, above_square s)))
 
-pub whole_lt : (n s b : ℕ) → Whole n s → n < b * b → s < b
-whole_lt n s b c h = go (dec_lt s b)
-  where
-    go : Dec (s < b) → s < b
-    go (yes l) = l
-    go (no l) = let k : b ≤ s = omega arith in omega (arith, mul-le-mul k k, c.within)
+-- from the last one whose square is at most n
+module _ (n s : ℕ) (h : n < 4 ^ 53) (within : s * s ≤ n) (beyond : n < (s + 1) * (s + 1)) where
+  is_whole : s ≡ whole_root 53 n
+  is_whole = whole_only n s _ record { within = within; beyond = beyond } (whole_says 53 n h)
+
+  pub nearest_up : s * (s + 1) < n → s + 1 ≡ nearest_root 53 n
+  unfolding nearest_root
+  nearest_up l = sym (round_up n s l) ∙ ap (rounded n) is_whole
+
+  pub nearest_stay : n ≤ s * (s + 1) → s ≡ nearest_root 53 n
+  unfolding nearest_root
+  nearest_stay l = sym (round_stay n s l) ∙ ap (rounded n) is_whole
 
 -- ---- the root of m * 2 ^ (52 + odd), for an m of 53 digits, has 53 digits
 
@@ -163,12 +170,6 @@ pub shifted : (m odd : ℕ) → Digits m odd → Scaled (m * 2 ^ (52 + odd))
 shifted m zero d = record { least = omega (arith, d); most = omega (arith, d) }
 shifted m (suc zero) d = record { least = omega (arith, d); most = omega (arith, d) }
 shifted m (suc (suc k)) d = absurd (omega (arith, d))
-
--- in the code's words
-pub moved_up : (m odd : ℕ) → Digits m odd → (m * 2 ^ odd % 2 ^ 64 < 2 ^ 54) × (m * 2 ^ odd % 2 ^ 64 * 2 ^ 52 ≡ m * 2 ^ (52 + odd))
-moved_up m zero d = (omega (arith, d), omega (arith, d))
-moved_up m (suc zero) d = (omega (arith, d), omega (arith, d))
-moved_up m (suc (suc k)) d = absurd (omega (arith, d))
 
 pub record Answered (n s : ℕ) : Type 0 where
   pub is : s ≡ nearest_root 53 n

@@ -1,6 +1,9 @@
 -- Numbers in two words: a product by halves, and the order. Assumes nothing.
-use Rattle.std.proofs.Common.{◌≡◌, ℕ, ◌+◌, ◌-◌, ◌*◌, ◌/◌, ◌%◌, ◌^◌, ◌<◌, ◌≤◌, Bool, true, false, ltb, sym, refl, ap, ◌∙◌, mul-le-mul_right, add-mul, mul-le-mul, lt_of_mul-lt-mul_right, div-add-mod', arith, ltb-false, ltb-true, le-ltb, lt-ltb}
+use Rattle.std.proofs.Common.{◌≡◌, ℕ, ◌+◌, ◌-◌, ◌*◌, ◌/◌, ◌%◌, ◌^◌, ◌<◌, ◌≤◌, Bool, true, false, ltb, sym, refl, ap, ◌∙◌, mul-le-mul_right}
+use Rattle.std.proofs.Common.{add-mul, mul-le-mul, lt_of_mul-lt-mul_right, div-add-mod', arith, le-ltb, lt-ltb}
+use Rattle.std.proofs.Common.{lit≤}
 use native.Mathlib.Decide.{dec_lt}
+use mir.Val.{bool_byte}
 use Rattle.number.proofs.Whole.{sorted}
 
 -- the four products of halves, each small enough for a word with two carries to spare
@@ -17,6 +20,21 @@ halves u v hu hv =
     let v1 : v / 2 ^ 32 ≤ 2 ^ 32 - 1 = omega arith in
     let v0 : v % 2 ^ 32 ≤ 2 ^ 32 - 1 = omega arith in
     record { low = mul-le-mul u0 v0; left = mul-le-mul u1 v0; right = mul-le-mul u0 v1; high = mul-le-mul u1 v1 }
+
+-- the same, each a fact of its own
+pub low_small : (u v : ℕ) → u < 2 ^ 64 → v < 2 ^ 64 → u % 2 ^ 32 * (v % 2 ^ 32) ≤ (2 ^ 32 - 1) * (2 ^ 32 - 1)
+low_small u v hu hv = (halves u v hu hv).low
+
+pub left_small : (u v : ℕ) → u < 2 ^ 64 → v < 2 ^ 64 → u / 2 ^ 32 * (v % 2 ^ 32) ≤ (2 ^ 32 - 1) * (2 ^ 32 - 1)
+left_small u v hu hv = (halves u v hu hv).left
+
+pub right_small : (u v : ℕ) → u < 2 ^ 64 → v < 2 ^ 64 → u % 2 ^ 32 * (v / 2 ^ 32) ≤ (2 ^ 32 - 1) * (2 ^ 32 - 1)
+right_small u v hu hv = (halves u v hu hv).right
+
+pub high_small : (u v : ℕ) → u < 2 ^ 64 → v < 2 ^ 64 → u / 2 ^ 32 * (v / 2 ^ 32) ≤ (2 ^ 32 - 1) * (2 ^ 32 - 1)
+high_small u v hu hv = (halves u v hu hv).high
+
+pub ruleset halves_small = (low_small, left_small, right_small, high_small)
 
 -- ---- a product of two digits by two, in any base P, column by column with the carries
 
@@ -52,6 +70,12 @@ columns P u v =
     ∙ ap (λ (x : ℕ). h * (P * P) + middle P u v / P * (P * P) + x * P + w % P) (sym (div-add-mod' (next P u v) P))
     ∙ step₄ P h (w % P) (middle P u v / P) (next P u v / P) (next P u v % P))
 
+-- ---- a test as a number
+
+pub bit_small : (b : Bool) → bool_byte b ≤ 1
+bit_small true = lit≤ tt
+bit_small false = lit≤ tt
+
 -- ---- the order of two numbers of two digits
 
 -- two tests that hold together are one
@@ -61,14 +85,6 @@ ltb_same a b c d f g = go (dec_lt a b)
     go : Dec (a < b) → ltb a b ≡ ltb c d
     go (yes l) = lt-ltb a b l ∙ sym (lt-ltb c d (f l))
     go (no l) = let h : b ≤ a = omega arith in le-ltb a b h ∙ sym (le-ltb c d (g h))
-
--- what a call that compares says of the numbers that its words are
-module _ {r : Bool} {a b c d : ℕ} (e : r ≡ ltb a b) (p : a ≡ c) (q : b ≡ d) where
-  pub said_less : r ≡ true → c < d
-  said_less t = ltb-true c d (rw (← p, ← q) (sym e ∙ t))
-
-  pub said_not : r ≡ false → d ≤ c
-  said_not t = ltb-false c d (rw (← p, ← q) (sym e ∙ t))
 
 module _ (P a b c d : ℕ) where
   pub same_high : a ≡ c → ltb b d ≡ ltb (a * P + b) (c * P + d)

@@ -1,11 +1,10 @@
 -- SCOPE, "HVS, SSIM and scales", root: +0 gives +0; a positive finite x gives the double nearest the exact root, compared as squared whole numbers.
 -- `proofs/Nearest.antt` shows that no other double is nearer and that no tie can occur. Definitions only.
-use Rattle.std.specs.Prelude.{ℕ, zero, suc, ◌+◌, ◌-◌, ◌*◌, ◌/◌, ◌^◌, Bool, true, false, cond, ◌&&◌, pos, nat_le, nat_lt, Float}
+use Rattle.std.specs.Prelude.{ℕ, zero, suc, ◌+◌, ◌-◌, ◌*◌, ◌/◌, ◌^◌, Bool, true, false, cond, ◌&&◌, pos, nat_le, nat_lt, Float, Result, Ok, Err}
 use Rattle.std.specs.Float.{nan, inf, fin, binary64}
 use Rattle.std.specs.Float.Ieee.{up, down, low, size, units}
-use Rattle.refusal.specs.Numbers.{value_no}
-use Rattle.number.specs.declared.Rooted.{Rooted}
-use Rattle.number.specs.declared.Rooted.TheVariants.{Root, Refused}
+use Rattle.refusal.specs.declared.Refusal.{Refusal}
+use Rattle.refusal.specs.declared.Refusal.TheVariants as no
 
 -- ---- whole numbers
 
@@ -47,10 +46,10 @@ unfolding nearest_root size units
 root_of_units n = let h = (size n + 1) / 2 in units binary64 false (nearest_root 53 (n * 2 ^ 106 / 2 ^ (2 * h))) (h + 484)
 
 -- the answer for every double: -0 and what is below it, the infinities and not-a-number are refused
-unfoldable pub root_of : Float → Rooted
+unfoldable pub root_of : Float → Result Float Refusal
 unfolding root_of_units units_of
-root_of nan = Refused value_no
-root_of (inf s) = Refused value_no
-root_of (fin true m e) = Refused value_no
-root_of (fin false zero e) = Root (fin false 0 (pos 0))
-root_of (fin false (suc m) e) = Root (root_of_units (units_of (fin false (suc m) e)))
+root_of nan = Err no.Value
+root_of (inf s) = Err no.Value
+root_of (fin true m e) = Err no.Value
+root_of (fin false zero e) = Ok (fin false 0 (pos 0))
+root_of (fin false (suc m) e) = Ok (root_of_units (units_of (fin false (suc m) e)))

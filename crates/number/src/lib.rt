@@ -12,6 +12,8 @@ ghost use Rattle.number.specs.Root.{nearest_root, root_of};
 mod near;
 pub mod wide;
 
+use refusal::Refusal;
+
 // 2^52: a double's digits below its leading one stand below this, and it is what the leading one counts.
 const LEADING: u64 = 0x10_0000_0000_0000;
 
@@ -20,40 +22,35 @@ pub const EXACT_LIMIT: u64 = 0x20_0000_0000_0000;
 
 pub const EXACT_LIMIT_DOUBLE: f64 = 9007199254740992.0;
 
-// What asking for a root answers.
-#[derive(Clone, Copy)]
-pub enum Rooted {
-    Root(f64),
-    Refused(u8),
-}
-
 // The square root of +0 or of a positive finite number, as IEEE 754 rounds it; anything else is refused.
-pub fn root(x: f64) -> Rooted
+#[tactic(auto, using(crate::proofs::Doubles::lift_room))]
+pub fn root(x: f64) -> Result<f64, Refusal>
     ensures { result ≡ root_of x }
 {
     if !finite(x) {
-        return Rooted::Refused(refusal::VALUE);
+        return Err(Refusal::Value);
     }
-    let bits = f64::to_bits(x);
+    let bits = x.to_bits();
     if bits == 0 {
-        return Rooted::Root(0.0);
+        return Ok(0.0);
     }
     let field = bits / LEADING;
     let digits = bits % LEADING;
     if field == 0 {
         // no leading digit is meant: the digits are moved up until there is one
-        let up = (u64::leading_zeros(digits) as u64) - 11;
-        return Rooted::Root(scaled_root(digits << up, 1022 - up));
+        let up = digits.leading_zeros() as u64 - 11;
+        return Ok(scaled_root(digits << up, 1022 - up));
     }
     if field < 2047 {
-        return Rooted::Root(scaled_root(LEADING + digits, field + 1021));
+        return Ok(scaled_root(LEADING + digits, field + 1021));
     }
     // the sign is set
-    Rooted::Refused(refusal::VALUE)
+    Err(Refusal::Value)
 }
 
 // The root of the number whose digits are m, the leading one first, and whose exponent's field is w - 1021. Half of the field's
 // distance goes into the root's field, and an odd one leaves a factor of two with m.
+#[tactic(auto, using(crate::proofs::Doubles::no_nan))]
 fn scaled_root(m: u64, w: u64) -> f64
     requires { (2 ^ 52 ≤ m) × (m < 2 ^ 53) × (w < 3072) }
     ensures { result ≡ units binary64 false (nearest_root 53 (m * 2 ^ (52 + w % 2))) (w / 2) }
@@ -85,6 +82,5 @@ pub fn double(n: u64) -> f64
 pub fn finite(x: f64) -> bool
     ensures { result ≡ Scale.finite x }
 {
-    let infinity = 1.0 / 0.0;
-    x < infinity && -infinity < x
+    x.is_finite()
 }

@@ -1,10 +1,8 @@
-// The whole number nearest a root, in whole numbers of two words.
+// The whole number nearest a root, in whole numbers of 128 bits.
 ghost use Rattle.std.specs.Prelude.{◌≡◌, ◌+◌, ◌-◌, ◌*◌, ◌/◌, ◌^◌, ◌<◌, ◌≤◌};
-ghost use Rattle.number.specs.Root.{is_nearest, nearest_root, whole_root};
-ghost use Rattle.number.specs.Inner.Wide.{value_of};
+ghost use Rattle.number.specs.Root.{is_nearest, nearest_root};
 
-use crate::wide::Wide;
-use crate::{EXACT_LIMIT, LEADING, wide};
+use crate::LEADING;
 
 // The whole number nearest the root of m * 2^(52 + odd), which has 53 digits. Only what passes the test is answered: the guess, or,
 // since that is one off for about one number in seven, its neighbour on the root's side; should both fail, the root is searched for.
@@ -12,62 +10,41 @@ pub fn nearest(m: u64, odd: u64) -> u64
     requires { (2 ^ 52 ≤ m) × (m < 2 ^ 53) × (odd < 2) }
     ensures { (result ≡ nearest_root 53 (m * 2 ^ (52 + odd))) × (2 ^ 52 ≤ result) × (result < 2 ^ 53) }
 {
-    let n = m << odd;
-    let s = guess(m, odd);
+    let n = u128::from(m) << (52 + odd);
+    let s = u128::from(guess(m, odd));
     if is_nearest(n, s) {
-        return s;
+        return s as u64;
     }
     let t = nearer(n, s);
     if is_nearest(n, t) {
-        return t;
+        return t as u64;
     }
-    searched(wide::product(n, LEADING))
+    searched(n)
 }
 
-// Whether s is the whole number nearest the root of n * 2^52: s * s - s < n * 2^52 <= s * s + s. Of n * 2^52 the low 52 digits are 0,
-// so that what stands above them is all there is to compare.
-fn is_nearest(n: u64, s: u64) -> bool
-    requires { (n < 2 ^ 54) × (0 < s) × (s ≤ 2 ^ 53) }
-    ensures { result ≡ is_nearest (n * 2 ^ 52) s }
+// Whether s is the whole number nearest the root of n. There is no branch to foresee.
+#[tactic(auto, using(crate::proofs::Squares::squares_fit))]
+fn is_nearest(n: u128, s: u128) -> bool
+    requires { (0 < s) × (s ≤ 2 ^ 53) }
+    ensures { result ≡ is_nearest n s }
 {
-    let e = ends_of(s);
-    (e.below < n + 2) & (n <= e.above)
+    let square = s * s;
+    (square - s < n) & (n <= square + s)
 }
 
-// The neighbour of s on the side of the root of n * 2^52, or s where that is nearest. There is no branch to foresee.
-fn nearer(n: u64, s: u64) -> u64
-    requires { (n < 2 ^ 54) × (0 < s) × (s < 2 ^ 53) }
+// The neighbour of s on the side of the root of n, or s where that is nearest. There is no branch to foresee.
+#[tactic(auto, using(crate::proofs::Squares::squares_fit, crate::proofs::Words::bit_small))]
+fn nearer(n: u128, s: u128) -> u128
+    requires { (0 < s) × (s < 2 ^ 53) }
     ensures { (s ≤ result + 1) × (result ≤ s + 1) }
 {
-    let e = ends_of(s);
-    s + ((e.above < n) as u64) - ((n + 2 <= e.below) as u64)
-}
-
-// What stands above the low 52 digits of s * s - s + 2^53 and of s * s + s.
-#[derive(Clone, Copy)]
-struct Ends {
-    below: u64,
-    above: u64,
-}
-
-// The square is put together from halves of 26 digits: the upper half's own, twice the cross product, and the lower half's.
-fn ends_of(s: u64) -> Ends
-    requires { s ≤ 2 ^ 53 }
-    ensures { (result.below ≡ (s * s + (2 ^ 53 - s)) / 2 ^ 52) × (result.above ≡ (s * s + s) / 2 ^ 52) }
-{
-    let a = s / 0x400_0000;
-    let b = s % 0x400_0000;
-    let high = a * a;
-    let cross = 2 * (a * b);
-    let low = b * b;
-    Ends {
-        below: high + (cross + (low + (EXACT_LIMIT - s)) / 0x400_0000) / 0x400_0000,
-        above: high + (cross + (low + s) / 0x400_0000) / 0x400_0000,
-    }
+    let square = s * s;
+    s + u128::from(square + s < n) - u128::from(n <= square - s)
 }
 
 // A quick guess at the root of m * 2^(52 + odd): the root of m * 2^(odd - 52), from 1 up to 4, in doubles, by Newton's steps on
 // its inverse from a first guess that halves the exponent. Nothing is promised but its 53 digits.
+#[tactic(auto, using(crate::proofs::Doubles::no_nan))]
 fn guess(m: u64, odd: u64) -> u64
     requires { (2 ^ 52 ≤ m) × (m < 2 ^ 53) × (odd < 2) }
     ensures { (2 ^ 52 ≤ result) × (result < 2 ^ 53) }
@@ -91,39 +68,21 @@ fn digits_of(s: f64) -> u64
     ensures { (2 ^ 52 ≤ result) × (result < 2 ^ 53) }
 {
     if 1.0 <= s && s < 2.0 {
-        f64::to_bits(s) % LEADING + LEADING
+        s.to_bits() % LEADING + LEADING
     } else {
         LEADING
     }
 }
 
-// The whole number nearest the root of n, by search.
-fn searched(n: Wide) -> u64
-    requires { value_of n < 4 ^ 53 }
-    ensures { result ≡ nearest_root 53 (value_of n) }
+// The whole number nearest the root of n: the last one whose square is at most n, or the next one up.
+fn searched(n: u128) -> u64
+    requires { n < 4 ^ 53 }
+    ensures { result ≡ nearest_root 53 n }
 {
-    let s = whole_root(n);
-    if wide::less(wide::product(s, s + 1), n) {
-        s + 1
+    let s = n.isqrt();
+    if s * (s + 1) < n {
+        (s + 1) as u64
     } else {
-        s
+        s as u64
     }
-}
-
-// The largest whole number whose square is at most n: halves the range in which it lies.
-fn whole_root(n: Wide) -> u64
-    requires { value_of n < 4 ^ 53 }
-    ensures { result ≡ whole_root 53 (value_of n) }
-{
-    let mut low: u64 = 0;
-    let mut high: u64 = EXACT_LIMIT;
-    while low + 1 < high {
-        let mid = (low + high) / 2;
-        if wide::less(n, wide::product(mid, mid)) {
-            high = mid;
-        } else {
-            low = mid;
-        }
-    }
-    low
 }

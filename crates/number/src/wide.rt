@@ -1,15 +1,16 @@
-// Whole numbers of up to 128 bits, in two words.
+// Whole numbers of up to 128 bits, in two words. The library counts in `u128` now; this stays for the promise that one of its must-fail edits tests.
 ghost use Rattle.std.specs.Prelude.{◌≡◌, ◌*◌, ◌^◌, ◌<◌, nat_lt};
 ghost use Rattle.number.specs.Inner.Wide.{value_of};
 
 // hi * 2^64 + lo.
-#[derive(Clone, Copy)]
+#[derive(Clone, Copy, Debug, PartialEq, Eq)]
 pub struct Wide {
     pub hi: u64,
     pub lo: u64,
 }
 
 // The whole product, by halves of 32 bits, column by column with the carries.
+#[tactic(auto, using(crate::proofs::Words::halves_small))]
 pub fn product(u: u64, v: u64) -> Wide
     ensures { value_of result ≡ u * v }
 {

@@ -1,4 +1,4 @@
 mod Parts
-mod Rows
+pub mod Rows
 pub mod Accept
 pub mod Laws

@@ -12,6 +12,7 @@ use lib.ListN.{length}
 use Rattle.refusal.proofs.Chain.{and_left, and_right}
 use Rattle.plane.specs.Plane.{Planes, sample_at}
 use Rattle.plane.specs.Inner.Lawful.{AcceptedPair}
+use Rattle.plane.proofs.Limits.{side_small}
 use Rattle.plane.proofs.Sums.{sum_none, sum_more, sum_mono, sum_term}
 use Rattle.kernel.specs.Kernel.{tap, lent_total, lawful}
 use Rattle.window.specs.Moments.{clipped, seen_at, moment_at, moments_at}
@@ -189,3 +190,6 @@ module _ (p : Planes) (accepted : AcceptedPair p 0) (ker : List ℕ) (ok : lawfu
       rw (e, f)
       (subst⁻¹ (λ (t : Moments). Fits t) (rows_more ker p.size.width p.size.height (sample_at p.a) (sample_at p.b) x y i)
       (six_fits _ (λ v. rows_le ker p.size.width p.size.height x y v (i + 1) (omega arith))))
+
+-- what a kernel place rests on
+pub ruleset place_steps = (side_small, found, place_inside, place_outside)

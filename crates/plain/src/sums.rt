@@ -1,22 +1,23 @@
 // The six sums at one centre (x, y): over every row i and every column j of the kernel, what stands in row y + i - off and column
 // x + j - off of the planes, where that is inside them, weighed by tap i times tap j.
 ghost use Rattle.std.specs.Prelude.{◌≡◌, true, ◌+◌, ◌*◌, ◌<◌, ◌^◌, length};
-ghost use Rattle.plane.specs.Plane.{plane_of, sample_at};
-ghost use Rattle.plane.specs.Inner.Lent.{samples_of, planes, lent};
+ghost use Rattle.plane.specs.Plane.{sample_at};
+ghost use Rattle.plane.specs.Inner.Seen.{seen, planes};
 ghost use Rattle.plane.specs.Inner.Lawful.{AcceptedPair};
 ghost use Rattle.kernel.specs.Kernel.{lent_total, lawful};
 ghost use Rattle.window.specs.Moments.{moments_at};
 ghost use Rattle.plain.specs.Inner.Parts.{place_of, row_to, inside_of, six_of, weighed_of, plus_of, no_moments, Fits};
 
-use plane::Layout;
+use plane::{Pair, Plane, Sample, Stored};
 use window::Moments;
 
 // The sample in row r and column c of a plane.
-fn sample(bytes: &[u8], words: &[u16], wide: bool, stride: usize, r: usize, c: usize) -> u64
-    requires { r * stride + c < length (samples_of wide bytes.now words.now) }
-    ensures { result ≡ sample_at (plane_of (samples_of wide bytes.now words.now) stride) r c }
+#[tactic(auto, using(plane::proofs::All::at_value))]
+fn sample<S: Sample>(p: Plane<'_, S>, r: usize, c: usize) -> u64
+    requires { r * p.stride + c < length p.samples.now }
+    ensures { result ≡ sample_at (seen S.value p.entry) r c }
 {
-    plane::sample(bytes, words, wide, r * stride + c) as u64
+    u64::from(p.samples[r * p.stride + c].value())
 }
 
 // Whether a kernel place lies inside a side: `at` is the place of the centre and that of the tap together.
@@ -32,9 +33,8 @@ fn weighed(down: u16, across: u16, a: u64, b: u64) -> Moments
     requires { Fits (weighed_of (down * across) a b) }
     ensures { result ≡ weighed_of (down * across) a b }
 {
-    let down = down as u64;
-    let across = across as u64;
-    let k = down * across;
+    let down = u64::from(down);
+    let k = down * u64::from(across);
     Moments {
         mux: k * a,
         muy: k * b,
@@ -75,85 +75,62 @@ fn plus(s: Moments, t: Moments) -> Moments
 }
 
 // The kernel place (i, j): nothing where it lies outside the planes.
-fn place(
-    a8: &[u8],
-    a16: &[u16],
-    b8: &[u8],
-    b16: &[u16],
-    layout: Layout,
+#[tactic(auto, using(crate::proofs::Parts::place_steps))]
+fn place<S: Stored>(
+    p: Pair<'_, S>,
     kernel: &[u16],
     x: usize,
     y: usize,
     i: usize,
     j: usize,
 ) -> Moments
-    requires x_lt_width { (x < layout.size.width) × (y < layout.size.height) × (i < length kernel.now) × (j < length kernel.now) }
-    requires accepted_pair { AcceptedPair (planes layout a8 a16 b8 b16) 0 }
+    requires x_lt_width { (x < p.format.width) × (y < p.format.height) × (i < length kernel.now) × (j < length kernel.now) }
+    requires accepted_pair { AcceptedPair (planes S.Sample.value S.WIDE p) 0 }
     requires kernel_value { lawful lent_total kernel.now ≡ true }
-    ensures { result ≡ six_of (place_of kernel.now layout.size.width layout.size.height x y i j)
-        (sample_at (lent layout.size a8.entry a16.entry layout.stride_a))
-        (sample_at (lent layout.size b8.entry b16.entry layout.stride_b)) }
+    ensures { result ≡ six_of (place_of kernel.now p.entry.format.width p.entry.format.height x y i j)
+        (sample_at (seen S.Sample.value p.entry.a)) (sample_at (seen S.Sample.value p.entry.b)) }
 {
     let off = kernel.len() / 2;
     let row = y + i;
     let column = x + j;
-    if !(inside(row, off, layout.size.height) & inside(column, off, layout.size.width)) {
+    if !(inside(row, off, p.format.height) & inside(column, off, p.format.width)) {
         return none();
     }
     let r = row - off;
     let c = column - off;
-    let a = sample(a8, a16, layout.size.wide, layout.stride_a, r, c);
-    let b = sample(b8, b16, layout.size.wide, layout.stride_b, r, c);
-    weighed(kernel[i], kernel[j], a, b)
+    weighed(kernel[i], kernel[j], sample(p.a, r, c), sample(p.b, r, c))
 }
 
 // Row i of the kernel.
-fn kernel_row(
-    a8: &[u8],
-    a16: &[u16],
-    b8: &[u8],
-    b16: &[u16],
-    layout: Layout,
-    kernel: &[u16],
-    x: usize,
-    y: usize,
-    i: usize,
-) -> Moments
-    requires x_lt_width { (x < layout.size.width) × (y < layout.size.height) × (i < length kernel.now) }
-    requires accepted_pair { AcceptedPair (planes layout a8 a16 b8 b16) 0 }
+#[tactic(auto, using(crate::proofs::Parts::row_none, crate::proofs::Parts::row_more))]
+fn kernel_row<S: Stored>(p: Pair<'_, S>, kernel: &[u16], x: usize, y: usize, i: usize) -> Moments
+    requires x_lt_width { (x < p.format.width) × (y < p.format.height) × (i < length kernel.now) }
+    requires accepted_pair { AcceptedPair (planes S.Sample.value S.WIDE p) 0 }
     requires kernel_value { lawful lent_total kernel.now ≡ true }
-    ensures { result ≡ six_of (row_to kernel.now layout.size.width layout.size.height x y i (length kernel.now))
-        (sample_at (lent layout.size a8.entry a16.entry layout.stride_a))
-        (sample_at (lent layout.size b8.entry b16.entry layout.stride_b)) }
+    ensures { result ≡ six_of (row_to kernel.now p.entry.format.width p.entry.format.height x y i (length kernel.now))
+        (sample_at (seen S.Sample.value p.entry.a)) (sample_at (seen S.Sample.value p.entry.b)) }
 {
     let mut sum = none();
+    // by index: `place` reads the tap and the samples under it by the numbers of both
     for j in 0..kernel.len() {
-        sum = plus(sum, place(a8, a16, b8, b16, layout, kernel, x, y, i, j));
+        sum = plus(sum, place(p, kernel, x, y, i, j));
     }
     sum
 }
 
 // The whole window: every row of the kernel.
-pub fn moments_at(
-    a8: &[u8],
-    a16: &[u16],
-    b8: &[u8],
-    b16: &[u16],
-    layout: Layout,
-    kernel: &[u16],
-    x: usize,
-    y: usize,
-) -> Moments
-    requires x_lt_width { (x < layout.size.width) × (y < layout.size.height) }
-    requires accepted_pair { AcceptedPair (planes layout a8 a16 b8 b16) 0 }
+#[tactic(auto, using(crate::proofs::Parts::rows_none, crate::proofs::Parts::rows_more))]
+pub fn moments_at<S: Stored>(p: Pair<'_, S>, kernel: &[u16], x: usize, y: usize) -> Moments
+    requires x_lt_width { (x < p.format.width) × (y < p.format.height) }
+    requires accepted_pair { AcceptedPair (planes S.Sample.value S.WIDE p) 0 }
     requires kernel_value { lawful lent_total kernel.now ≡ true }
-    ensures { result ≡ moments_at kernel.now layout.size.width layout.size.height
-        (sample_at (lent layout.size a8.entry a16.entry layout.stride_a))
-        (sample_at (lent layout.size b8.entry b16.entry layout.stride_b)) x y }
+    ensures { result ≡ moments_at kernel.now p.entry.format.width p.entry.format.height
+        (sample_at (seen S.Sample.value p.entry.a)) (sample_at (seen S.Sample.value p.entry.b)) x y }
 {
     let mut sum = none();
+    // by index: as in `kernel_row`
     for i in 0..kernel.len() {
-        sum = plus(sum, kernel_row(a8, a16, b8, b16, layout, kernel, x, y, i));
+        sum = plus(sum, kernel_row(p, kernel, x, y, i));
     }
     sum
 }

@@ -5,12 +5,12 @@ use mathlib.Core.Bool.{true, ◌&&◌}
 use mathlib.Core.List.{List, [], ◌∷◌}
 use Prim.Native.Nat.{ℕ, ◌≤◌, ◌<◌}
 use borrow.Author.Tests.{leb-true, le-leb}
-use lib.Dec.{leb, lit≤}
-use Rattle.refusal.proofs.Chain.{and_left, and_right, Named, passed, none_broken}
+use lib.Dec.{leb}
+use Rattle.std.specs.Prelude.{Ok}
+use Rattle.refusal.proofs.Chain.{and_left, and_right, passed, none_broken}
 use Rattle.plane.specs.Limits.{side_limit, stride_limit}
-use Rattle.plane.specs.declared.Size.{Size}
-use Rattle.plane.specs.Plane.{Plane, max_of, sample_at, every}
-use Rattle.plane.specs.Inner.Lent.{Long}
+use Rattle.plane.specs.Plane.{Size, Plane, max_of, sample_at, every}
+use Rattle.plane.specs.Inner.Seen.{Long}
 use Rattle.plane.specs.Tests.{side_suits, sides_suit, sides_reach, stride_suits, long_enough, row_suits, samples_suit}
 use Rattle.plane.specs.Tests.{depth_suits, size_tests, layout_tests, plane_tests, plane_refusal}
 use Rattle.plane.specs.Inner.Lawful.{Lawful, Sized, Each, Accepted}
@@ -80,19 +80,10 @@ each_lawful size (p ∷ more) s l m = (
       (and_right (samples_suit size p) _ m),
 )
 
--- no test has the number 0
-pub size_named : (size : Size) (least : ℕ) → Named (size_tests size least)
-unfolding size_tests
-size_named size least = (lit≤ tt, (lit≤ tt, (lit≤ tt, tt)))
-
-pub plane_named : (size : Size) (planes : List Plane) (least : ℕ) → Named (plane_tests size planes least)
-unfolding size_tests layout_tests
-plane_named size planes least = (lit≤ tt, (lit≤ tt, (lit≤ tt, (lit≤ tt, (lit≤ tt, (lit≤ tt, tt))))))
-
-pub accepted : (size : Size) (planes : List Plane) (least : ℕ) → plane_refusal size planes least ≡ 0 → Accepted size planes least
+pub accepted : (size : Size) (planes : List Plane) (least : ℕ) → plane_refusal size planes least ≡ Ok tt → Accepted size planes least
 unfolding size_tests layout_tests
 accepted size planes least e =
-    let t = passed (plane_tests size planes least) (plane_named size planes least) e in
+    let t = passed (plane_tests size planes least) e in
     record {
       sized = sized size least t.0 t.1.0 t.1.1.0;
       each = each_lawful size planes t.1.1.1.0 t.1.1.1.1.0 t.1.1.1.1.1.0;
@@ -118,7 +109,7 @@ module _ (size : Size) where
         ),
       )
 
-pub passes : (size : Size) (planes : List Plane) (least : ℕ) → Accepted size planes least → plane_refusal size planes least ≡ 0
+pub passes : (size : Size) (planes : List Plane) (least : ℕ) → Accepted size planes least → plane_refusal size planes least ≡ Ok tt
 unfolding size_tests layout_tests depth_suits sides_suit sides_reach
 passes size planes least a =
     let s = a.sized in

@@ -1,5 +1,8 @@
 -- Laws of `all_to` and of `none_above`. Assumes nothing.
-use mathlib.Core.Path.{◌≡◌, refl, ◌∙◌}
+use mathlib.Core.Path.{◌≡◌, refl, sym, ap, ◌∙◌}
+use mathlib.Core.List.{List, map}
+use lib.ListN.{length, get_or}
+use Rattle.std.proofs.lemmas.List.{get_or-map}
 use mathlib.Core.Bool.{Bool, true, false, ◌&&◌, and-false}
 use Prim.Native.Nat.{ℕ, zero, suc, ◌+◌, ◌≤◌, ◌<◌}
 use native.Mathlib.Nat.{not-suc-le-zero}
@@ -9,7 +12,7 @@ use native.Mathlib.Omega.{arith}
 use borrow.Author.Tests.{leb-true, le-leb}
 use lib.Dec.{leb}
 use Rattle.refusal.proofs.Chain.{and_left, and_right}
-use Rattle.plane.specs.Plane.{all_to}
+use Rattle.plane.specs.Plane.{at, all_to}
 use Rattle.plane.specs.Tests.{none_above}
 
 module _ (f : ℕ → Bool) where
@@ -76,3 +79,8 @@ none_ext max f g n h = all_ext _ _ n (λ (i : ℕ) (l : i < n). rw (h i l))
 pub none_holds : (max : ℕ) (f : ℕ → ℕ) (n : ℕ) → ((i : ℕ) → i < n → f i ≤ max) → none_above max f n ≡ true
 unfolding none_above
 none_holds max f n h = all_holds _ n (λ i l. le-leb (f i) max (h i l))
+
+-- what a walk reads from a list, as the number that it is
+module _ {A : Type 0} (value : A → ℕ) where
+  pub at_value : (xs : List A) (i : ℕ) {x : A} → x ≡ get_or xs i x → i < length xs → at (map value xs) i ≡ value x
+  at_value xs i {x} e l = get_or-map value xs i x 0 l ∙ ap value (sym e)

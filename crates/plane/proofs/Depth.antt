@@ -62,7 +62,3 @@ pub max_small : (wide : Bool) {depth : ℕ} → depth ≤ most_depth wide → ma
 unfolding max_of most_depth
 max_small true l = omega (arith, max_grows l)
 max_small false l = omega (arith, max_grows l)
-
-pub byte_small : {depth : ℕ} → depth ≤ most_depth false → max_of depth < 2 ^ 8
-unfolding max_of most_depth
-byte_small l = omega (arith, max_grows l)

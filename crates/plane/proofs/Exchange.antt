@@ -3,8 +3,7 @@ use mathlib.Core.Path.{◌≡◌, refl}
 use mathlib.Core.Bool.{Bool, true, false, ◌&&◌}
 use mathlib.Core.List.{[], ◌∷◌}
 use Prim.Native.Nat.{ℕ}
-use Rattle.plane.specs.declared.Size.{Size}
-use Rattle.plane.specs.Plane.{Plane, planes_of, every}
+use Rattle.plane.specs.Plane.{Size, Plane, planes_of, every}
 use Rattle.plane.specs.Tests.{layout_tests, pair_refusal, long_enough, row_suits, samples_suit, stride_suits}
 use Rattle.plane.specs.Inner.Lawful.{Alike, Equivalent}
 use Rattle.plane.proofs.All.{all_ext, none_ext}

@@ -1,23 +1,22 @@
--- The tests of several planes, taken apart: first those of what they share, then those of each plane, of which the lowest number counts.
+-- The tests of several planes, taken apart: first those of what they share, then those of each plane, of which the lowest counts.
 -- Assumes nothing.
-use mathlib.Core.Path.{◌≡◌, refl, sym, ◌∙◌}
+use mathlib.Core.Path.{◌≡◌, refl, ap, ◌∙◌}
 use mathlib.Core.Bool.{Bool, true, false, ◌&&◌, and-true}
-use mathlib.Core.List.{List, [], ◌∷◌, ◌++◌}
-use Prim.Native.Nat.{ℕ, zero, suc, min, ◌≤◌}
-use Rattle.refusal.specs.Numbers.{stride_no, short_no, sample_no}
-use Rattle.refusal.specs.First.{first_broken}
-use Rattle.refusal.proofs.Chain.{passed, go_on, stop}
-use Rattle.plane.specs.declared.Size.{Size}
-use Rattle.plane.specs.Plane.{Plane}
+use mathlib.Core.List.{List, [], ◌∷◌}
+use Prim.Native.Nat.{ℕ, ◌≤◌}
+use Rattle.std.specs.Prelude.{Ok}
+use Rattle.refusal.specs.declared.Refusal.TheVariants as no
+use Rattle.refusal.specs.First.{Verdict, first_broken, lower_of, unless_refused}
+use Rattle.refusal.proofs.Chain.{passed, together}
+use Rattle.plane.specs.Plane.{Size, Plane, Planes}
+use Rattle.plane.specs.Plane.{both as both_of}
 use Rattle.plane.specs.Tests.{depth_suits, stride_suits, long_enough, samples_suit}
-use Rattle.plane.specs.Tests.{size_tests, layout_tests, plane_tests, plane_refusal}
-use Rattle.plane.specs.Inner.Lent.{lower_of}
-use Rattle.plane.specs.Inner.Lawful.{Accepted}
-use Rattle.plane.proofs.Accept.{sides_say, size_named, plane_named, accepted}
+use Rattle.plane.specs.Tests.{size_tests, layout_tests, pair_refusal}
+use Rattle.plane.proofs.Accept.{sides_say}
 
 -- the lowest of 4, 5 and 6
-abbrev first : Bool → Bool → Bool → ℕ
-first stride long sample = first_broken ((stride_no, stride) ∷ (short_no, long) ∷ (sample_no, sample) ∷ [])
+abbrev first : Bool → Bool → Bool → Verdict
+first stride long sample = first_broken ((no.Stride, stride) ∷ (no.Short, long) ∷ (no.Sample, sample) ∷ [])
 
 -- of two planes, or of one and several others
 both : (s l m t k n : Bool) → first (s && t) (l && k) (m && n) ≡ lower_of (first s l m) (first t k n)
@@ -43,43 +42,15 @@ unfolding layout_tests
 one_more size p q more =
     simp and-true (both (stride_suits size.width p.stride) (long_enough size p) (samples_suit size p) _ _ _)
 
--- ---- after `size_refusal`, which answered n: `more` are the tests of the planes
-module _ {n : ℕ} (size : Size) (least : ℕ) (e : n ≡ first_broken (size_tests size least)) where
-  -- it refused: that is the answer
-  pub sizes_stop : (more : List (ℕ × Bool)) → (n ≡ 0 → ⊥) → n ≡ first_broken (size_tests size least ++ more)
-  sizes_stop more h = stop (size_tests size least) more e h
+-- ---- after `check_size`, which passed: what the tests of the planes may count on
+pub sizes_say : (size : Size) (least : ℕ) → first_broken (size_tests size least) ≡ Ok tt
+    → (depth_suits size.wide size.depth ≡ true) × (1 ≤ size.width)
+unfolding size_tests
+sizes_say size least e = let t = passed (size_tests size least) e in (t.0, (sides_say size.width size.height t.1.0).0.0)
 
-  -- it did not: the answer is theirs
-  pub sizes_pass : {m : ℕ} (more : List (ℕ × Bool)) → n ≡ 0 → m ≡ first_broken more → m ≡ first_broken (size_tests size least ++ more)
-  sizes_pass more z f = go_on (size_tests size least) more (size_named size least) e z f
-
-  -- and these may count on so much
-  pub sizes_say : n ≡ 0 → (depth_suits size.wide size.depth ≡ true) × (1 ≤ size.width)
-  unfolding size_tests
-  sizes_say z =
-      let t = passed (size_tests size least) (size_named size least) (sym e ∙ z) in
-      (t.0, (sides_say size.width size.height t.1.0).0.0)
-
--- ---- after the tests of so many planes, which gave n: a call whose own tests are `more`
-module _ {n : ℕ} (size : Size) (planes : List Plane) (least : ℕ) (e : n ≡ plane_refusal size planes least) where
-  -- they refused: that is the answer
-  pub planes_stop : (more : List (ℕ × Bool)) → (n ≡ 0 → ⊥) → n ≡ first_broken (plane_tests size planes least ++ more)
-  planes_stop more h = stop (plane_tests size planes least) more e h
-
-  -- they did not: the answer is that of the call's own tests
-  pub planes_pass : {m : ℕ} (more : List (ℕ × Bool)) → n ≡ 0 → m ≡ first_broken more → m ≡ first_broken (plane_tests size planes least ++ more)
-  planes_pass more z f = go_on (plane_tests size planes least) more (plane_named size planes least) e z f
-
-  -- and the planes are lawful
-  pub planes_say : n ≡ 0 → Accepted size planes least
-  planes_say z = accepted size planes least (sym e ∙ z)
-
--- ---- the lower of two
-pub lower_left : (a b : ℕ) → (a ≡ 0 → ⊥) → b ≡ 0 → a ≡ lower_of a b
-lower_left zero b h e = absurd (h refl)
-lower_left (suc a) b h e = rw e
-
-pub lower_least : (a b : ℕ) → (a ≡ 0 → ⊥) → (b ≡ 0 → ⊥) → min a b ≡ lower_of a b
-lower_least zero b h k = absurd (h refl)
-lower_least (suc a) zero h k = absurd (k refl)
-lower_least (suc a) (suc b) h k = refl
+-- the verdict of two planes: that of their sizes, and then the lower of each one's own
+pub pair_in_parts : (p : Planes) (least : ℕ) → pair_refusal p least ≡ unless_refused (first_broken (size_tests p.size least))
+    (lower_of (first_broken (layout_tests p.size (p.a ∷ []))) (first_broken (layout_tests p.size (p.b ∷ []))))
+pair_in_parts p least =
+    together (size_tests p.size least) (layout_tests p.size (both_of p))
+    ∙ ap (unless_refused (first_broken (size_tests p.size least))) (one_more p.size p.a p.b [])

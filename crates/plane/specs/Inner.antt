@@ -1,3 +1,3 @@
-pub mod Lent
+pub mod Seen
 pub mod Lawful
 pub mod Unread

@@ -1,8 +1,13 @@
 -- SCOPE, "What a plane may be". Definitions only.
 use Rattle.std.specs.Prelude.{Bool, true, ◌&&◌, List, [], ◌∷◌, ℕ, zero, suc, ◌+◌, ◌*◌, ◌-◌, ◌^◌, get_or}
-use Rattle.std.specs.Borrow.{Bor}
 use Rattle.plane.specs.Limits.{most_depth}
-use Rattle.plane.specs.declared.Size.{Size}
+
+-- what the planes of a call share: whether their samples are words, their sides in samples, and their depth
+pub record Size : Type 0 where
+  pub wide : Bool
+  pub width : ℕ
+  pub height : ℕ
+  pub depth : ℕ
 
 -- a plane as it is lent: its samples, one after another, and its stride
 pub record Plane : Type 0 where
@@ -26,10 +31,6 @@ planes_of size a b = record { size = size; a = a; b = b }
 
 abbrev pub both : Planes → List Plane
 both p = p.a ∷ p.b ∷ []
-
--- the planes of a call that is lent bytes or words, its parameters as they stand
-abbrev pub called : Bool → Bor (List ℕ) → Bor (List ℕ) → ℕ → ℕ → ℕ → ℕ → ℕ → Planes
-called wide a b width height stride_a stride_b depth = planes_of (size_of wide width height depth) (plane_of a.now stride_a) (plane_of b.now stride_b)
 
 -- sample_max, the largest sample of a depth
 unfoldable pub max_of : ℕ → ℕ

@@ -1,10 +1,10 @@
 -- SCOPE, "When the desk says no", 1 to 6: each test, true where the number is not given, and their list. Definitions only.
 use Rattle.std.specs.Prelude.{Bool, ◌&&◌, List, [], ◌∷◌, ◌++◌, ℕ, leb, length}
-use Rattle.refusal.specs.Numbers.{depth_no, size_no, side_no, stride_no, short_no, sample_no}
-use Rattle.refusal.specs.First.{first_broken}
+use Rattle.refusal.specs.declared.Refusal.{Refusal}
+use Rattle.refusal.specs.declared.Refusal.TheVariants as no
+use Rattle.refusal.specs.First.{Verdict, first_broken}
 use Rattle.plane.specs.Limits.{side_limit, stride_limit, least_depth, most_depth}
-use Rattle.plane.specs.declared.Size.{Size}
-use Rattle.plane.specs.Plane.{Plane, Planes, both, max_of, sample_at, needed, all_to, every}
+use Rattle.plane.specs.Plane.{Size, Plane, Planes, both, max_of, sample_at, needed, all_to, every}
 
 -- 1: the depth suits the sample width
 unfoldable pub depth_suits : Bool → ℕ → Bool
@@ -42,32 +42,32 @@ unfoldable pub samples_suit : Size → Plane → Bool
 samples_suit size p = all_to (row_suits (max_of size.depth) size.width p) size.height
 
 -- the tests of what all planes of a call share; `least` is the call's least side
-unfoldable pub size_tests : Size → ℕ → List (ℕ × Bool)
+unfoldable pub size_tests : Size → ℕ → List (Refusal × Bool)
 size_tests size least =
-    (depth_no, depth_suits size.wide size.depth)
-    ∷ (size_no, sides_suit size.width size.height)
-    ∷ (side_no, sides_reach least size.width size.height)
+    (no.Depth, depth_suits size.wide size.depth)
+    ∷ (no.Size, sides_suit size.width size.height)
+    ∷ (no.Side, sides_reach least size.width size.height)
     ∷ []
 
 -- the tests of each plane
-unfoldable pub layout_tests : Size → List Plane → List (ℕ × Bool)
+unfoldable pub layout_tests : Size → List Plane → List (Refusal × Bool)
 layout_tests size planes =
-    (stride_no, every (λ (p : Plane). stride_suits size.width p.stride) planes)
-    ∷ (short_no, every (long_enough size) planes)
-    ∷ (sample_no, every (samples_suit size) planes)
+    (no.Stride, every (λ (p : Plane). stride_suits size.width p.stride) planes)
+    ∷ (no.Short, every (long_enough size) planes)
+    ∷ (no.Sample, every (samples_suit size) planes)
     ∷ []
 
 -- 1 to 6 of so many planes, in ascending order
-abbrev pub plane_tests : Size → List Plane → ℕ → List (ℕ × Bool)
+abbrev pub plane_tests : Size → List Plane → ℕ → List (Refusal × Bool)
 plane_tests size planes least = size_tests size least ++ layout_tests size planes
 
--- the lowest of 1 to 6 that applies, and 0 where none does
-abbrev pub plane_refusal : Size → List Plane → ℕ → ℕ
+-- the lowest of 1 to 6 that applies
+abbrev pub plane_refusal : Size → List Plane → ℕ → Verdict
 plane_refusal size planes least = first_broken (plane_tests size planes least)
 
 -- the same of the two planes of a call
-abbrev pub pair_tests : Planes → ℕ → List (ℕ × Bool)
+abbrev pub pair_tests : Planes → ℕ → List (Refusal × Bool)
 pair_tests p least = plane_tests p.size (both p) least
 
-abbrev pub pair_refusal : Planes → ℕ → ℕ
+abbrev pub pair_refusal : Planes → ℕ → Verdict
 pair_refusal p least = plane_refusal p.size (both p) least

@@ -1,15 +1,16 @@
-// What a plane may be, after docs/SCOPE.md: its limits, the tests 1 to 6 of a call, and the samples of a plane of either width. A plane's
-// samples come as two slices, bytes and words: `wide` says which is the plane, and the other is not read.
+// What a plane may be, after docs/SCOPE.md: its limits, the tests 1 to 6 of a call, and the samples of a plane, whatever they are stored as.
 #![tactic(auto)]
 
-ghost use Rattle.std.specs.Prelude.{◌≡◌, true, false, [], ◌∷◌, ◌+◌, ◌*◌, ◌<◌, ◌≤◌, length};
+ghost use Rattle.std.specs.Prelude.{◌≡◌, ℕ, Bool, true, false, [], ◌∷◌, ◌+◌, ◌*◌, ◌<◌, ◌≤◌, length, map, leb};
 ghost use Rattle.refusal.specs.First.{first_broken};
 ghost use Rattle.plane.specs.Limits.{most_depth};
-ghost use Rattle.plane.specs.Plane.{called, max_of, at, all_to};
-ghost use Rattle.plane.specs.Inner.Lent.{samples_of, lent, planes, Long, lower_of};
+ghost use Rattle.plane.specs.Plane.{max_of, at, all_to};
+ghost use Rattle.plane.specs.Inner.Seen.{sized, seen, planes, row_in, Long};
 ghost use Rattle.plane.specs.Inner.Unread.{lent_tests, unread_refusal};
 ghost use Rattle.plane.specs.Tests.{depth_suits, sides_suit, sides_reach, stride_suits, long_enough};
 ghost use Rattle.plane.specs.Tests.{none_above, row_suits, samples_suit, size_tests, layout_tests, pair_refusal};
+
+use refusal::Refusal;
 
 // The largest width and the largest height.
 pub const SIDE_LIMIT: usize = 16384;
@@ -17,26 +18,125 @@ pub const SIDE_LIMIT: usize = 16384;
 pub const STRIDE_LIMIT: usize = 32768;
 // The largest depth of any sample, which is that of words.
 pub const DEPTH_LIMIT: u32 = 12;
+// The largest byte.
+pub const BYTE_MAX: u32 = 255;
 
-// What two planes share: whether their samples are words, their sides in samples, and their depth.
-#[derive(Clone, Copy)]
-pub struct Size {
-    pub wide: bool,
+// A sample: a byte or a word of a plane, or a 32-bit place of a scale.
+pub trait Sample: Copy {
+    // The number that it is.
+    ghost value: { Self → ℕ };
+
+    fn value(self) -> u32
+        ensures { result ≡ value self };
+
+    fn is_at_most(self, max: Self) -> bool
+        ensures { result ≡ leb (value self) (value max) };
+}
+
+impl Sample for u8 {
+    ghost value = { λ x. x };
+
+    fn value(self) -> u32 {
+        u32::from(self)
+    }
+
+    fn is_at_most(self, max: u8) -> bool {
+        self <= max
+    }
+}
+
+impl Sample for u16 {
+    ghost value = { λ x. x };
+
+    fn value(self) -> u32 {
+        u32::from(self)
+    }
+
+    fn is_at_most(self, max: u16) -> bool {
+        self <= max
+    }
+}
+
+impl Sample for u32 {
+    ghost value = { λ x. x };
+
+    fn value(self) -> u32 {
+        self
+    }
+
+    fn is_at_most(self, max: u32) -> bool {
+        self <= max
+    }
+}
+
+// What the samples of a lent plane are stored as.
+pub trait Stored: Sample {
+    // Whether they are words, and else bytes.
+    ghost WIDE: { Bool };
+
+    const WIDE: bool;
+
+    // Whether no sample of a row is above `max`.
+    fn row_suits(row: &[Self], max: u32) -> bool
+        requires { max ≤ max_of (most_depth WIDE) }
+        ensures { result ≡ none_above max (at (map Self.value row.now)) (length row.now) };
+}
+
+impl Stored for u8 {
+    ghost WIDE = { false };
+
+    const WIDE: bool = false;
+
+    // No byte can be above the sample_max of the largest depth of bytes, so those are not read.
+    fn row_suits(row: &[u8], max: u32) -> bool {
+        BYTE_MAX <= max || none_above(row, max as u8)
+    }
+}
+
+impl Stored for u16 {
+    ghost WIDE = { true };
+
+    const WIDE: bool = true;
+
+    fn row_suits(row: &[u16], max: u32) -> bool {
+        none_above(row, max as u16)
+    }
+}
+
+// Whether no sample of a row is above `max`. A row is walked to its end, whatever it holds: such a loop is vectorised.
+#[tactic(auto, using(crate::proofs::All::none_none, crate::proofs::All::none_more, crate::proofs::All::at_value))]
+pub fn none_above<S: Sample>(row: &[S], max: S) -> bool
+    ensures { result ≡ none_above (S.value max) (at (map S.value row.now)) (length row.now) }
+{
+    let mut ok = true;
+    for &x in row {
+        ok &= x.is_at_most(max);
+    }
+    ok
+}
+
+// What the planes of a call share: their sides in samples, and their depth.
+#[derive(Clone, Copy, Debug, PartialEq, Eq)]
+pub struct Format {
     pub width: usize,
     pub height: usize,
     pub depth: u32,
 }
 
-// Two planes as they are lent: what they share, and the stride of each.
+// A plane as it is lent: its samples, row after row, and how far a row is from the next.
 #[derive(Clone, Copy)]
-pub struct Layout {
-    pub size: Size,
-    pub stride_a: usize,
-    pub stride_b: usize,
+pub struct Plane<'a, S> {
+    pub samples: &'a [S],
+    pub stride: usize,
 }
 
-// The largest byte.
-pub const BYTE_MAX: u32 = 255;
+// The two planes of a call.
+#[derive(Clone, Copy)]
+pub struct Pair<'a, S> {
+    pub format: Format,
+    pub a: Plane<'a, S>,
+    pub b: Plane<'a, S>,
+}
 
 // Test 1. Bytes carry depths 1 to 8, words carry 9 to 12.
 pub fn depth_suits(wide: bool, depth: u32) -> bool
@@ -78,246 +178,106 @@ pub fn stride_suits(width: usize, stride: usize) -> bool
     (width <= stride) & (stride <= STRIDE_LIMIT)
 }
 
-// The sample at place `i`.
-pub fn sample(bytes: &[u8], words: &[u16], wide: bool, i: usize) -> u32
-    requires { i < length (samples_of wide bytes.now words.now) }
-    ensures { result ≡ at (samples_of wide bytes.now words.now) i }
-{
-    if wide {
-        words[i] as u32
-    } else {
-        bytes[i] as u32
-    }
-}
-
-// How many samples there are.
-pub fn count(bytes: &[u8], words: &[u16], wide: bool) -> usize
-    ensures { result ≡ length (samples_of wide bytes.now words.now) }
-{
-    if wide { words.len() } else { bytes.len() }
-}
-
 // Test 5, of one plane. It divides, so that no product of free numbers has to fit.
-pub fn long_enough(bytes: &[u8], words: &[u16], size: Size, stride: usize) -> bool
-    requires { (1 ≤ size.width) × (size.width ≤ stride) }
-    ensures { result ≡ long_enough size (lent size bytes.entry words.entry stride) }
+pub fn long_enough<S: Stored>(format: Format, p: Plane<'_, S>) -> bool
+    requires { (1 ≤ format.width) × (format.width ≤ p.stride) }
+    ensures { result ≡ long_enough (sized S.WIDE format) (seen S.Sample.value p.entry) }
 {
-    let width = size.width;
-    let height = size.height;
-    let n = count(bytes, words, size.wide);
-    if n < width {
+    let n = p.samples.len();
+    if n < format.width {
         return false;
     }
-    height <= (n - width) / stride + 1
+    format.height <= (n - format.width) / p.stride + 1
 }
 
-// Whether no sample of a row is above `max`. A row is walked to its end, whatever it holds: such a loop is vectorised.
-pub fn row_suits8(row: &[u8], max: u8) -> bool
-    ensures { result ≡ none_above max (at row.now) (length row.now) }
+// The visible samples of row y.
+pub fn row<'a, S>(p: Plane<'a, S>, width: usize, y: usize) -> &'a [S]
+    requires { y * p.stride + width ≤ length p.samples.now }
+    ensures { result.now ≡ row_in p.entry.samples.now p.entry.stride width y }
 {
+    let start = y * p.stride;
+    &p.samples[start..start + width]
+}
+
+// Test 6, of one plane. What stands between rows is never read.
+pub fn samples_suit<S: Stored>(format: Format, p: Plane<'_, S>) -> bool
+    requires depth_value { depth_suits S.WIDE format.depth ≡ true }
+    requires long { Long (sized S.WIDE format) (seen S.Sample.value p) }
+    ensures { result ≡ samples_suit (sized S.WIDE format) (seen S.Sample.value p.entry) }
+{
+    let max = sample_max(format.depth);
     let mut ok = true;
-    for x in 0..row.len() {
-        ok = ok & (row[x] <= max);
+    // by index: rows stand a stride apart, and the last may end before the next stride
+    for y in 0..format.height {
+        ok &= S::row_suits(row(p, format.width, y), max);
     }
     ok
 }
 
-fn row_suits16(row: &[u16], max: u16) -> bool
-    ensures { result ≡ none_above max (at row.now) (length row.now) }
+// The lowest of 1, 2 and 3 that applies. `least` is the call's least side, 0 where 3 does not belong to it.
+#[tactic(auto, unfolding(crate::specs::Tests::size_tests))]
+pub fn check_size<S: Stored>(format: Format, least: usize) -> Result<(), Refusal>
+    ensures { result ≡ first_broken (size_tests (sized S.WIDE format) least) }
 {
-    let mut ok = true;
-    for x in 0..row.len() {
-        ok = ok & (row[x] <= max);
+    if !depth_suits(S::WIDE, format.depth) {
+        return Err(Refusal::Depth);
     }
-    ok
+    if !sides_suit(format.width, format.height) {
+        return Err(Refusal::Size);
+    }
+    if !sides_reach(least, format.width, format.height) {
+        return Err(Refusal::Side);
+    }
+    Ok(())
 }
 
-// The same of row `y` of a plane.
-fn row_suits(bytes: &[u8], words: &[u16], size: Size, stride: usize, y: usize, max: u32) -> bool
-    requires width_in_bounds { y * stride + size.width ≤ length (samples_of size.wide bytes.now words.now) }
-    requires max_bound { max ≤ max_of (most_depth size.wide) }
-    ensures { result ≡ row_suits max size.width (lent size bytes.entry words.entry stride) y }
+// The lowest of 4 and 5 that applies to one plane.
+#[tactic(auto, using(crate::proofs::Accept::stride_says), unfolding(crate::specs::Inner::Unread::lent_tests))]
+fn check_lent<S: Stored>(format: Format, p: Plane<'_, S>) -> Result<(), Refusal>
+    requires { 1 ≤ format.width }
+    ensures { result ≡ first_broken (lent_tests (sized S.WIDE format) (seen S.Sample.value p.entry ∷ [])) }
 {
-    let width = size.width;
-    let start = y * stride;
-    let end = start + width;
-    if size.wide {
-        row_suits16(&words[start..end], max as u16)
-    } else {
-        row_suits8(&bytes[start..end], max as u8)
+    if !stride_suits(format.width, p.stride) {
+        return Err(Refusal::Stride);
     }
+    if !long_enough(format, p) {
+        return Err(Refusal::Short);
+    }
+    Ok(())
 }
 
-// The same of every row. What stands between rows is never read.
-fn rows_suit(bytes: &[u8], words: &[u16], size: Size, stride: usize, max: u32) -> bool
-    requires long { Long size (lent size bytes words stride) }
-    requires max_bound { max ≤ max_of (most_depth size.wide) }
-    ensures { result ≡ all_to (row_suits max size.width (lent size bytes.entry words.entry stride)) size.height }
+// The lowest of 4, 5 and 6 that applies to one plane.
+#[tactic(auto, using(crate::proofs::Unread::layout_by, crate::proofs::Unread::lent_says))]
+pub fn check_layout<S: Stored>(format: Format, p: Plane<'_, S>) -> Result<(), Refusal>
+    requires depth_value { depth_suits S.WIDE format.depth ≡ true }
+    requires le_width { 1 ≤ format.width }
+    ensures { result ≡ first_broken (layout_tests (sized S.WIDE format) (seen S.Sample.value p.entry ∷ [])) }
 {
-    let mut ok = true;
-    for y in 0..size.height {
-        ok = ok & row_suits(bytes, words, size, stride, y, max);
+    check_lent(format, p)?;
+    if !samples_suit(format, p) {
+        return Err(Refusal::Sample);
     }
-    ok
+    Ok(())
 }
 
-// Test 6, of one plane. No byte can be above the sample_max of the largest depth of bytes, so those are not read.
-pub fn samples_suit(bytes: &[u8], words: &[u16], size: Size, stride: usize) -> bool
-    requires depth_value { depth_suits size.wide size.depth ≡ true }
-    requires long { Long size (lent size bytes words stride) }
-    ensures { result ≡ samples_suit size (lent size bytes.entry words.entry stride) }
+// The lowest of 1 to 6 that applies to two planes. `least` is the least side of the call, 0 where 3 is not among its refusals.
+#[tactic(auto, using(crate::proofs::Several::pair_in_parts, crate::proofs::Several::sizes_say))]
+pub fn check<S: Stored>(p: Pair<'_, S>, least: usize) -> Result<(), Refusal>
+    ensures { result ≡ pair_refusal (planes S.Sample.value S.WIDE p.entry) least }
 {
-    let wide = size.wide;
-    let max = sample_max(size.depth);
-    if !wide & (BYTE_MAX <= max) {
-        return true;
-    }
-    rows_suit(bytes, words, size, stride, max)
+    check_size::<S>(p.format, least)?;
+    let own = check_layout(p.format, p.a);
+    let other = check_layout(p.format, p.b);
+    refusal::lower(own, other)
 }
 
-// The lowest of 1, 2 and 3 that applies, and 0 where none does. `least` is the call's least side, 0 where 3 does not belong to it.
-pub fn size_refusal(size: Size, least: usize) -> u8
-    ensures { result ≡ first_broken (size_tests size least) }
+// The lowest of 1 to 5 that applies to them: for a call that judges 6 while it reads.
+#[tactic(auto, using(crate::proofs::Unread::unread_in_parts, crate::proofs::Several::sizes_say))]
+pub fn check_unread<S: Stored>(p: Pair<'_, S>, least: usize) -> Result<(), Refusal>
+    ensures { result ≡ unread_refusal (planes S.Sample.value S.WIDE p.entry) least }
 {
-    if !depth_suits(size.wide, size.depth) {
-        return refusal::DEPTH;
-    }
-    if !sides_suit(size.width, size.height) {
-        return refusal::SIZE;
-    }
-    if !sides_reach(least, size.width, size.height) {
-        return refusal::SIDE;
-    }
-    0
-}
-
-// The lowest of 4 and 5 that applies to one plane, and 0 where none does.
-fn lent_refusal(bytes: &[u8], words: &[u16], size: Size, stride: usize) -> u8
-    requires { 1 ≤ size.width }
-    ensures { result ≡ first_broken (lent_tests size (lent size bytes.entry words.entry stride ∷ [])) }
-{
-    if !stride_suits(size.width, stride) {
-        return refusal::STRIDE;
-    }
-    if !long_enough(bytes, words, size, stride) {
-        return refusal::SHORT;
-    }
-    0
-}
-
-// The lowest of 4, 5 and 6 that applies to one plane, and 0 where none does.
-pub fn layout_refusal(bytes: &[u8], words: &[u16], size: Size, stride: usize) -> u8
-    requires depth_value { depth_suits size.wide size.depth ≡ true }
-    requires le_width { 1 ≤ size.width }
-    ensures { result ≡ first_broken (layout_tests size (lent size bytes.entry words.entry stride ∷ [])) }
-{
-    let no = lent_refusal(bytes, words, size, stride);
-    if no != 0 {
-        return no;
-    }
-    if !samples_suit(bytes, words, size, stride) {
-        return refusal::SAMPLE;
-    }
-    0
-}
-
-// Of two refusals the lower, where 0 is none.
-pub fn lower(a: u8, b: u8) -> u8
-    ensures { result ≡ lower_of a b }
-{
-    if a == 0 {
-        return b;
-    }
-    if b == 0 {
-        return a;
-    }
-    if a <= b { a } else { b }
-}
-
-// The lowest of 1 to 6 that applies to two planes of either width, and 0 where none does.
-pub fn check(a8: &[u8], a16: &[u16], b8: &[u8], b16: &[u16], layout: Layout, least: usize) -> u8
-    ensures { result ≡ pair_refusal (planes layout a8.entry a16.entry b8.entry b16.entry) least }
-{
-    let no = size_refusal(layout.size, least);
-    if no != 0 {
-        return no;
-    }
-    let no_a = layout_refusal(a8, a16, layout.size, layout.stride_a);
-    let no_b = layout_refusal(b8, b16, layout.size, layout.stride_b);
-    lower(no_a, no_b)
-}
-
-// The lowest of 1 to 5 that applies to them, and 0 where none does: for a call that judges 6 while it reads.
-pub fn check_unread(
-    a8: &[u8],
-    a16: &[u16],
-    b8: &[u8],
-    b16: &[u16],
-    layout: Layout,
-    least: usize,
-) -> u8
-    ensures { result ≡ unread_refusal (planes layout a8.entry a16.entry b8.entry b16.entry) least }
-{
-    let no = size_refusal(layout.size, least);
-    if no != 0 {
-        return no;
-    }
-    let first = lent_refusal(a8, a16, layout.size, layout.stride_a);
-    let second = lent_refusal(b8, b16, layout.size, layout.stride_b);
-    lower(first, second)
-}
-
-// The lowest of 1 to 6 that applies to two planes of bytes, and 0 where none does. `least` is the least side of the call, 0 where 3 is
-// not among its refusals.
-pub fn check8(
-    a: &[u8],
-    b: &[u8],
-    width: usize,
-    height: usize,
-    stride_a: usize,
-    stride_b: usize,
-    depth: u32,
-    least: usize,
-) -> u8
-    ensures { result ≡ pair_refusal (called false a.entry b.entry width height stride_a stride_b depth) least }
-{
-    let size = Size {
-        wide: false,
-        width,
-        height,
-        depth,
-    };
-    let layout = Layout {
-        size,
-        stride_a,
-        stride_b,
-    };
-    check(a, &[0u16; 0], b, &[0u16; 0], layout, least)
-}
-
-// The same of words.
-pub fn check16(
-    a: &[u16],
-    b: &[u16],
-    width: usize,
-    height: usize,
-    stride_a: usize,
-    stride_b: usize,
-    depth: u32,
-    least: usize,
-) -> u8
-    ensures { result ≡ pair_refusal (called true a.entry b.entry width height stride_a stride_b depth) least }
-{
-    let size = Size {
-        wide: true,
-        width,
-        height,
-        depth,
-    };
-    let layout = Layout {
-        size,
-        stride_a,
-        stride_b,
-    };
-    check(&[0u8; 0], a, &[0u8; 0], b, layout, least)
+    check_size::<S>(p.format, least)?;
+    let first = check_lent(p.format, p.a);
+    let second = check_lent(p.format, p.b);
+    refusal::lower(first, second)
 }

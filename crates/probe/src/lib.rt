@@ -3,55 +3,52 @@
 #![tactic(auto)]
 
 ghost use Rattle.std.specs.Prelude.{◌≡◌, true, false, length};
-ghost use Rattle.plane.specs.Plane.{at};
-ghost use Rattle.plane.specs.Tests.{none_above};
-ghost use Rattle.window.specs.Moments.{most_sample};
-ghost use Rattle.better.specs.Better.{contest, winner_of};
+ghost use Rattle.refusal.specs.First.{answer_number};
 ghost use Rattle.probe.specs.Downscale.{downscale_refusal, Later};
-ghost use Rattle.probe.specs.Winner.{sample_written};
+ghost use Rattle.probe.specs.Winner.{winning, sample_written};
+
+use plane::{Format, Plane};
+use refusal::Refusal;
 
 // The largest sample that the sums of a scale are made for.
 const MOST_SAMPLE: u32 = 1048576;
 
-// Whether no place is above that.
-fn none_above(longs: &[u32]) -> bool
-    ensures { result ≡ none_above most_sample (at longs.now) (length longs.now) }
-{
-    let mut ok = true;
-    for i in 0..longs.len() {
-        ok = ok & (longs[i] <= MOST_SAMPLE);
-    }
-    ok
-}
-
-// The lowest of 2, 5 and 6 that applies, and 0 where none does.
-fn refusal(longs: &[u32], width: usize, height: usize) -> u8
+// The lowest of 2, 5 and 6 that applies.
+fn check(longs: &[u32], width: usize, height: usize) -> Result<(), Refusal>
     ensures { result ≡ downscale_refusal width height longs.now }
 {
     if !plane::sides_suit(width, height) {
-        return refusal::SIZE;
+        return Err(Refusal::Size);
     }
     if longs.len() < height * width {
-        return refusal::SHORT;
+        return Err(Refusal::Short);
     }
-    if !none_above(longs) {
-        return refusal::SAMPLE;
+    if !plane::none_above(longs, MOST_SAMPLE) {
+        return Err(Refusal::Sample);
     }
-    0
+    Ok(())
 }
 
 // The scale below, in place; or 2, 5 or 6, and the places are as they were.
 #[unsafe(no_mangle)]
 pub extern "C" fn probe_downscale(longs: &mut [u32], width: usize, height: usize) -> u8
-    ensures value { result ≡ downscale_refusal width height longs.old }
+    ensures value { result ≡ answer_number (downscale_refusal width height longs.old) }
     ensures later { Later (downscale_refusal width height longs.old) width height longs.old longs.new }
 {
-    let no = refusal(longs, width, height);
-    if no != 0 {
-        return no;
+    match check(longs, width, height) {
+        Ok(()) => {
+            downscale::downscale(longs, width, height);
+            0
+        }
+        Err(no) => no.number(),
     }
-    downscale::downscale(longs, width, height);
-    0
+}
+
+// A plane of a call.
+fn plane_of<'a, S>(samples: &'a [S], stride: usize) -> Plane<'a, S>
+    ensures { result ≡ (record { samples = samples.entry; stride = stride }) }
+{
+    Plane { samples, stride }
 }
 
 // How long the better of two planes of bytes is, as it is handed back, and its sample `at`, where it has one.
@@ -69,12 +66,21 @@ pub extern "C" fn probe_winner8<'o, 'c>(
     at: usize,
     sample: &mut u8,
 ) -> usize
-    ensures value { result ≡ length (winner_of
-        (contest false o.entry a.entry b.entry width height stride_o stride_a stride_b depth)) }
-    ensures sample_after { sample.new ≡ sample_written (winner_of
-        (contest false o.entry a.entry b.entry width height stride_o stride_a stride_b depth)) at sample.old }
+    ensures value { result ≡ length (winning false o.entry a.entry b.entry width height stride_o stride_a stride_b depth) }
+    ensures sample_after { sample.new ≡ sample_written
+        (winning false o.entry a.entry b.entry width height stride_o stride_a stride_b depth) at sample.old }
 {
-    let winner = better::winner8(o, a, b, width, height, stride_o, stride_a, stride_b, depth);
+    let format = Format {
+        width,
+        height,
+        depth,
+    };
+    let winner = better::winner(
+        format,
+        plane_of(o, stride_o),
+        plane_of(a, stride_a),
+        plane_of(b, stride_b),
+    );
     if at < winner.len() {
         *sample = winner[at];
     }
@@ -96,12 +102,21 @@ pub extern "C" fn probe_winner16<'o, 'c>(
     at: usize,
     sample: &mut u16,
 ) -> usize
-    ensures value { result ≡ length (winner_of
-        (contest true o.entry a.entry b.entry width height stride_o stride_a stride_b depth)) }
-    ensures sample_after { sample.new ≡ sample_written (winner_of
-        (contest true o.entry a.entry b.entry width height stride_o stride_a stride_b depth)) at sample.old }
+    ensures value { result ≡ length (winning true o.entry a.entry b.entry width height stride_o stride_a stride_b depth) }
+    ensures sample_after { sample.new ≡ sample_written
+        (winning true o.entry a.entry b.entry width height stride_o stride_a stride_b depth) at sample.old }
 {
-    let winner = better::winner16(o, a, b, width, height, stride_o, stride_a, stride_b, depth);
+    let format = Format {
+        width,
+        height,
+        depth,
+    };
+    let winner = better::winner(
+        format,
+        plane_of(o, stride_o),
+        plane_of(a, stride_a),
+        plane_of(b, stride_b),
+    );
     if at < winner.len() {
         *sample = winner[at];
     }

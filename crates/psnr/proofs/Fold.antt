@@ -1,11 +1,15 @@
 -- The walk over a run of records gives the answer that Series.antt defines (`series_is`), and it does not matter where a run is cut in
 -- two (`fold_cut`). Assumes nothing.
 use Rattle.std.proofs.Common.{◌≡◌, ℕ, ◌+◌, ◌*◌, ◌≤◌, min, Bool, true, false, ◌&&◌, ltb, leb, List, [], ◌∷◌, ◌++◌, length, sym, refl, ap, ◌∙◌, ap₂, le_trans, mul-le-mul_right, arith, ltb-false, ltb-true, ne_eqb, le-leb, leb-true}
+use Rattle.std.proofs.lemmas.List.Sums.{fold-append}
 use mathlib.Core.Bool.{and-false}
 use native.Mathlib.Decide.{dec_le}
 use borrow.Author.Tests.{lt-leb}
-use Rattle.refusal.specs.Numbers.{total_no}
-use Rattle.refusal.specs.First.{unless}
+use Rattle.std.specs.Prelude.{Result, Ok}
+use Rattle.refusal.specs.declared.Refusal.{Refusal}
+use Rattle.refusal.specs.declared.Refusal.TheVariants as no
+use Rattle.refusal.specs.First.{unless, unless_refused}
+use Rattle.psnr.specs.declared.Summed.{Summed}
 use Rattle.refusal.proofs.Chain.{and_left, and_right}
 use Rattle.psnr.specs.declared.Record.{Record}
 use Rattle.psnr.specs.declared.Tally.{Tally}
@@ -19,9 +23,7 @@ use Rattle.psnr.proofs.Records.{joins_suits, suits_count}
 
 -- ---- a run cut in two: the second part goes on from what the first left
 pub fold_cut : (s : Run) (xs ys : List Record) → run_from s (xs ++ ys) ≡ run_from (run_from s xs) ys
-unfolding run_from
-fold_cut s [] ys = refl
-fold_cut s (x ∷ xs) ys = fold_cut (run_step s x) xs ys
+fold_cut s xs ys = fold-append run_step s xs ys
 
 pub error_cut : (xs ys : List Record) → error_total (xs ++ ys) ≡ error_total xs + error_total ys
 unfolding error_total
@@ -35,7 +37,7 @@ count_cut (x ∷ xs) ys = omega (arith, count_cut xs ys)
 
 -- ---- what is spoiled stays so
 fold_spoiled : (rs : List Record) → run_from Spoiled rs ≡ Spoiled
-unfolding run_from run_step
+unfolding run_step
 fold_spoiled [] = refl
 fold_spoiled (r ∷ rs) = fold_spoiled rs
 
@@ -95,7 +97,7 @@ goes_next s r (t ∷ ts) = rw (ne_eqb (s.records + 1) 0 (λ z. omega arith))
 -- the run is sound while no record is bad, none too many, and each comes after the one before it
 fold_is : (rs : List Record) (s : Tally) → Capped s
     → run_from (Sound s) rs ≡ run_if (leb (s.records + length rs) record_limit && all_join s.sample_max rs && goes_on s rs) (tally_all s rs)
-unfolding run_from run_step run_with all_join goes_on
+unfolding run_step run_with all_join goes_on
 fold_is [] s h = rw (le-leb (s.records + 0) record_limit (omega (arith, h.few))) (ap Sound (sym (tally_all_none s h)))
 fold_is (r ∷ rs) s h =
     go (fold_is rs (tally_more s r)) (ltb s.records record_limit) refl (joins s.sample_max r) refl (rises s r)
@@ -138,8 +140,10 @@ module _ (E N max cap : ℕ) (l : N ≤ cap) where
   abbrev kept : ℕ
   kept = min (0 + E) (total_limit + 1)
 
-  capped : Dec (E ≤ total_limit)
-      → series_answer (unless (leb kept total_limit) total_no 0) kept (min (0 + N) cap) max ≡ series_answer (unless (leb E total_limit) total_no 0) E N max
+  abbrev answer : ℕ → ℕ → Result Summed Refusal
+  answer error n = unless_refused (unless (leb error total_limit) no.Total (Ok tt)) (Ok (series_answer error n max))
+
+  capped : Dec (E ≤ total_limit) → answer kept (min (0 + N) cap) ≡ answer E N
   capped (yes m) =
       let e : kept ≡ E = omega arith in
       let n : min (0 + N) cap ≡ N = omega arith in
@@ -174,6 +178,6 @@ module _ (r : Record) (rs : List Record) where
 
 -- the walk gives the answer of the definition, of every run
 pub series_is : (rs : List Record) → run_finish (run_from run_start rs) ≡ series_of rs
-unfolding run_finish run_from run_step series_of run_suits
+unfolding run_finish run_step series_of run_suits
 series_is [] = refl
 series_is (r ∷ rs) = ap run_finish (fold_is (r ∷ rs) (tally_none r.sample_max) (capped_none r.sample_max)) ∙ ended r rs _ refl

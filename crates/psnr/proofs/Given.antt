@@ -2,6 +2,7 @@
 -- of frames from 0 on. Assumes nothing.
 use Rattle.std.proofs.Common.{◌≡◌, ℕ, zero, suc, ◌+◌, ◌-◌, ◌*◌, ◌/◌, ◌%◌, ◌<◌, ◌≤◌, min, true, List, [], ◌∷◌, length, refl, ap, ◌∙◌, le_trans, le_of_lt, mod-lt, suc-mul}
 use Rattle.std.proofs.Common.{add-mul, lt_of_mul-lt-mul_right, div-add-mod', arith, eq-eqb, le-leb}
+use Rattle.std.specs.Prelude.{Ok}
 use Rattle.number.specs.Steps.{double}
 use Rattle.psnr.specs.declared.Record.{Record}
 use Rattle.psnr.specs.Limits.{count_limit, most_plane, record_limit, total_limit}
@@ -20,7 +21,7 @@ FramesBelow m (r ∷ rs) = (r.frame < m) × FramesBelow m rs
 -- a run with these sums, that is taken; its frames' numbers are far below what they may be
 pub record Given (error n max : ℕ) : Type 0 where
   pub run : List Record
-  pub taken : series_refusal run ≡ 0
+  pub taken : series_refusal run ≡ Ok tt
   pub errors : error_total run ≡ error
   pub counts : count_total run ≡ n
   pub its_max : first_max run ≡ max

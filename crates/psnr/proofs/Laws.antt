@@ -1,11 +1,11 @@
 -- What a user may count on, stated about the definitions: equal planes differ by 0, only visible samples count, it does not matter which
 -- plane comes first, and the record that a call answers is never bad. Assumes nothing.
-use Rattle.std.proofs.Common.{◌≡◌, ℕ, ◌+◌, ◌-◌, ◌*◌, ◌<◌, ◌≤◌, Bool, true, false, sym, refl, le_trans, le_refl, le_of_lt, mul_assoc, mul_comm, mul-pos, arith, lit≤, eq-eqb, le-leb}
+use Rattle.std.proofs.Common.{◌≡◌, ℕ, ◌+◌, ◌-◌, ◌*◌, ◌<◌, ◌≤◌, Bool, true, false, refl, le_trans, le_refl, le_of_lt, mul_assoc, mul_comm, mul-pos, arith, lit≤, eq-eqb, le-leb}
 use borrow.Author.Tests.{lt-leb}
-use Rattle.refusal.specs.Numbers.{record_no}
+use Rattle.std.specs.Prelude.{Ok, Err}
+use Rattle.refusal.specs.declared.Refusal.TheVariants as no
 use Rattle.plane.specs.Limits.{side_limit, least_depth, most_depth}
-use Rattle.plane.specs.declared.Size.{Size}
-use Rattle.plane.specs.Plane.{Plane, Planes, planes_of, max_of, sample_at}
+use Rattle.plane.specs.Plane.{Size, Plane, Planes, planes_of, max_of, sample_at}
 use Rattle.plane.specs.Sums.{sum_to}
 use Rattle.plane.specs.Tests.{pair_refusal}
 use Rattle.plane.specs.Inner.Lawful.{AcceptedPair, Alike, Equivalent}
@@ -15,7 +15,6 @@ use Rattle.plane.proofs.Limits.{deepest, area_le}
 use Rattle.number.specs.Limits.{exact_limit}
 use Rattle.number.specs.Steps.{double}
 use Rattle.psnr.specs.Limits.{count_limit, most_plane, total_limit}
-use Rattle.psnr.specs.declared.SquaredError.TheVariants.{Refused}
 use Rattle.psnr.specs.Squared.{square_of, row_error, error_to, squared_error_score, record_of, squared_error_of}
 use Rattle.psnr.specs.Record.{count_suits, max_suits, error_suits, plane_suits, record_suits}
 use Rattle.psnr.proofs.Squares.{error_le, error_below, walkable}
@@ -68,9 +67,9 @@ module _ (size : Size) where
 
 -- ---- whose they are
 -- planes that are taken, with a number that no plane has
-pub number_refused : (p : Planes) (frame plane : ℕ) → pair_refusal p 0 ≡ 0 → most_plane < plane → squared_error_of p frame plane ≡ Refused record_no
+pub number_refused : (p : Planes) (frame plane : ℕ) → pair_refusal p 0 ≡ Ok tt → most_plane < plane → squared_error_of p frame plane ≡ Err no.Record
 unfolding squared_error_of plane_suits
-number_refused p frame plane e l = rw (← (number_refuses plane p (sym e) refl (lt-leb plane most_plane l)))
+number_refused p frame plane e l = rw (number_refuses plane p e (lt-leb plane most_plane l)) refl
 
 -- ---- the record
 -- no plane has more samples than a record may count: said of the limits, whatever they are

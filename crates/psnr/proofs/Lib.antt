@@ -5,6 +5,7 @@ pub mod Whole
 pub mod Records
 pub mod Rising
 pub mod Accept
+mod Answered
 pub mod Fold
 pub mod Laws
 pub mod Room

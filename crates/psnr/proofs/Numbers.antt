@@ -2,8 +2,10 @@
 -- totals, bit for bit (`renumbered`). Assumes nothing.
 use Rattle.std.proofs.Common.{◌≡◌, ℕ, ◌+◌, ◌*◌, Bool, true, false, ◌&&◌, eqb, leb, List, [], ◌∷◌, map, length, sym, refl, ◌∙◌, ap₂}
 use mathlib.Core.Bool.{and-false}
-use Rattle.refusal.specs.Numbers.{record_no, total_no}
-use Rattle.refusal.specs.First.{first_broken}
+use Rattle.std.specs.Prelude.{Result, Ok}
+use Rattle.refusal.specs.declared.Refusal.{Refusal}
+use Rattle.refusal.specs.declared.Refusal.TheVariants as no
+use Rattle.refusal.specs.First.{first_broken, unless_refused}
 use Rattle.psnr.specs.declared.Record.{Record}
 use Rattle.psnr.specs.declared.Total.{Total}
 use Rattle.psnr.specs.declared.Summed.{Summed}
@@ -42,11 +44,11 @@ all_suit max [] = true
 all_suit max (t ∷ ts) = figures_suit max t && all_suit max ts
 
 -- the answer that figures have, where their numbers are right or are not
-pub figures_answer : List Total → Bool → Summed
+pub figures_answer : List Total → Bool → Result Summed Refusal
 figures_answer ts right =
     let few = leb 1 (length ts) && leb (length ts) record_limit in
-    series_answer (first_broken ((record_no, few && all_suit (figures_max ts) ts && right) ∷ (total_no, leb (errors_of ts) total_limit) ∷ []))
-    (errors_of ts) (counts_of ts) (figures_max ts)
+    unless_refused (first_broken ((no.Record, few && all_suit (figures_max ts) ts && right) ∷ (no.Total, leb (errors_of ts) total_limit) ∷ []))
+    (Ok (series_answer (errors_of ts) (counts_of ts) (figures_max ts)))
 
 -- ---- they are those of the records
 max_is : (rs : List Record) → first_max rs ≡ figures_max (map figures_of rs)

@@ -1,7 +1,10 @@
 -- Laws of the sums and bits of two rows, of their parts, and of what a walk over them finds. Assumes nothing.
-use Rattle.std.proofs.Common.{◌≡◌, ℕ, zero, suc, ◌+◌, ◌-◌, ◌*◌, ◌%◌, ◌^◌, ◌<◌, ◌≤◌, Bool, true, false, List, length, sym, refl, ap, ◌∙◌, subst, ap₂, le_refl}
+use Rattle.std.proofs.Common.{◌≡◌, ℕ, zero, suc, ◌+◌, ◌-◌, ◌*◌, ◌%◌, ◌^◌, ◌<◌, ◌≤◌, min, Bool, true, false, List, [], ◌++◌, length, get_or, take, drop, sym, refl, ap, ◌∙◌, subst, ap₂, le_refl}
 use Rattle.std.proofs.Common.{lt_of_le_of_lt, mul-le-mul_right, mod-eq_of_lt, mul-le-mul, mul-lt-mul_of_pos_right, one-mul, add-one, arith, lit<, pow_pos, pow_mono}
 use Rattle.std.proofs.Common.{pow-add, shl_exact, lt_of_le_ones}
+use Rattle.std.proofs.lemmas.List.{drop-drop, length-append, length-drop, take_all}
+use Rattle.std.proofs.Math.Seq.{take-append_seam, drop-append_seam}
+use Rattle.std.specs.Simd.{first_chunks}
 use native.Mathlib.Nat.{mul-lt-mul_of_pos_left, mod-add-mod}
 use native.Mathlib.Decide.{dec_lt}
 use lib.Bits.{bit_or, or_lt, or_add_and, and_le_l, and_le_r}
@@ -14,12 +17,92 @@ use Rattle.plane.specs.Tests.{none_above}
 use Rattle.plane.proofs.All.{none_none, none_at, none_holds}
 use Rattle.plane.proofs.Depth.{max_small}
 use Rattle.plane.proofs.Limits.{side_small}
-use Rattle.plane.proofs.Rows.{cut, cut_length, cut_at}
+use lib.Seq.{length-take-le, get_or-take, get_or-drop}
 use Rattle.plane.proofs.Sums.{sum_none, sum_more, sum_ext, sum_split, sum_bound}
-use Rattle.psnr.specs.declared.walk.Walked.TheVariants.{Sum, Above}
+use Rattle.std.specs.Prelude.{Ok, Err}
+use Rattle.refusal.specs.declared.Refusal.TheVariants as no
 use Rattle.psnr.specs.Squared.{square_of}
 use Rattle.psnr.specs.Inner.Walk.{squares_in, bits_in, part_length, walked_if, pair_suits}
 use Rattle.psnr.proofs.Squares.{square_le}
+
+-- ---- the parts of a row
+-- that from one place up to another
+abbrev cut : List ℕ → ℕ → ℕ → List ℕ
+cut samples from to = take (to - from) (drop from samples)
+
+module _ (samples : List ℕ) (from to : ℕ) where
+  cut_length : from ≤ to → to ≤ length samples → length (cut samples from to) ≡ to - from
+  cut_length l m = length-take-le (to - from) (drop from samples) (simp length-drop (omega arith))
+
+  cut_at : (i : ℕ) → i < to - from → at (cut samples from to) i ≡ at samples (from + i)
+  cut_at i l = get_or-take (to - from) (drop from samples) i 0 l ∙ get_or-drop from samples i 0
+
+-- the k-th of its whole parts of n samples
+chunk_cut : (n m k : ℕ) (xs : List ℕ) → k < m → get_or (first_chunks n m xs) k [] ≡ cut xs (k * n) (k * n + n)
+chunk_cut n zero k xs l = absurd (omega arith)
+chunk_cut n (suc m) zero xs l =
+    let count : n ≡ 0 * n + n - 0 * n = omega arith in
+    let from : 0 ≡ 0 * n = omega arith in
+    ap₂ (λ (i : ℕ) (t : List ℕ). take i t) count (ap (λ (i : ℕ). drop i xs) from)
+chunk_cut n (suc m) (suc k) xs l =
+    let count : k * n + n - k * n ≡ suc k * n + n - suc k * n = omega arith in
+    let from : n + k * n ≡ suc k * n = omega arith in
+    chunk_cut n m k (drop n xs) (omega arith)
+    ∙ ap₂ (λ (i : ℕ) (t : List ℕ). take i t) count (drop-drop (k * n) n xs ∙ ap (λ (i : ℕ). drop i xs) from)
+
+pub chunk_length : (n m k : ℕ) (xs : List ℕ) {p : List ℕ} → k < m → k * n + n ≤ length xs → p ≡ get_or (first_chunks n m xs) k [] → length p ≡ n
+chunk_length n m k xs l inside e =
+    let count : k * n + n - k * n ≡ n = omega arith in
+    rw (e, chunk_cut n m k xs l) (cut_length xs (k * n) (k * n + n) (omega arith) inside ∙ count)
+
+-- and what is left after it
+rest_cut : (from : ℕ) (xs : List ℕ) → drop from xs ≡ cut xs from (length xs)
+rest_cut from xs = sym (take_all (length xs - from) (drop from xs) (rw length-drop (omega arith)))
+
+-- a part that comes off the front of what is left from place x on, up to place `to`
+part_cut : (xs : List ℕ) (x to : ℕ) {rest more p : List ℕ} → x + length p ≡ to → rest ≡ drop x xs → rest ≡ p ++ more
+    → (p ≡ cut xs x to) × (more ≡ drop to xs)
+part_cut xs x to {rest} {more} {p} e r s =
+    let whole : p ++ more ≡ drop x xs = sym s ∙ r in
+    let count : length p ≡ to - x = omega arith in (
+      sym (take-append_seam p more) ∙ ap₂ (λ (i : ℕ) (t : List ℕ). take i t) count whole,
+      sym (drop-append_seam p more)
+          ∙ ap (λ (t : List ℕ). drop (length p) t) whole
+          ∙ drop-drop (length p) x xs
+          ∙ ap (λ (i : ℕ). drop i xs) e,
+    )
+
+-- and off two rows of one length at once, each no longer than the size
+pub record PartTaken (a b p q more more' : List ℕ) (x to size : ℕ) : Type 0 where
+  pub rising : x ≤ to
+  pub inside : to ≤ length a
+  pub short : to - x ≤ size
+  pub first : p ≡ cut a x to
+  pub second : q ≡ cut b x to
+  pub first_left : more ≡ drop to a
+  pub second_left : more' ≡ drop to b
+
+pub part_taken : (a b : List ℕ) {rest rest' more more' p q : List ℕ} {size n n' : ℕ} → length a ≡ length b → n ≡ size → n' ≡ size
+    → rest ≡ drop (length a - length rest) a → rest' ≡ drop (length a - length rest) b → rest ≡ p ++ more → rest' ≡ q ++ more'
+    → length p ≡ min n (length rest) → length q ≡ min n' (length rest')
+    → PartTaken a b p q more more' (length a - length rest) (length a - length more) size
+part_taken a b {rest} {rest'} {more} {more'} {p} {q} e size size' r r' s s' k k' =
+    let x = length a - length rest in
+    let to = length a - length more in
+    let left : length rest ≡ length a - x = ap length r ∙ length-drop x a in
+    let left' : length rest' ≡ length b - x = ap length r' ∙ length-drop x b in
+    let parts : length rest ≡ length p + length more = ap length s ∙ length-append p more in
+    let first : x + length p ≡ to = omega arith in
+    let second : x + length q ≡ to = omega arith in
+    record {
+      rising = omega arith;
+      inside = omega arith;
+      short = omega arith;
+      first = (part_cut a x to first r s).0;
+      second = (part_cut b x to second r' s').0;
+      first_left = (part_cut a x to first r s).1;
+      second_left = (part_cut b x to second r' s').1;
+    }
 
 -- ---- the sum
 module _ (a b : List ℕ) where
@@ -36,7 +119,7 @@ module _ (a b : List ℕ) where
   in_next x s q = ap₂ (λ (t u : ℕ). t + u) s q ∙ sym (in_more x)
 
   -- with a part more
-  pub in_cut : (from to : ℕ) {sum part : ℕ} → from ≤ to → to ≤ length a → sum ≡ squares_in a b from
+  in_cut : (from to : ℕ) {sum part : ℕ} → from ≤ to → to ≤ length a → sum ≡ squares_in a b from
       → part ≡ squares_in (cut a from to) (cut b from to) (length (cut a from to)) → sum + part ≡ squares_in a b to
   unfolding squares_in
   in_cut from to l m s q =
@@ -45,6 +128,18 @@ module _ (a b : List ℕ) where
       let part = sum_ext _ (λ (x : ℕ). square_of (at a (from + x)) (at b (from + x))) (to - from)
       (λ i k. ap₂ square_of (cut_at a from to i k) (cut_at b from to i k)) in
       ap₂ (λ (t u : ℕ). t + u) s (q ∙ ap (sum_to _) (cut_length a from to l m) ∙ part) ∙ sym whole ∙ ap (sum_to _) n
+
+  -- with a whole part of n samples more, or with what is left after them
+  pub in_chunk : (n k : ℕ) {m m' to : ℕ} {p q : List ℕ} {sum part : ℕ} → k < m → k < m' → k * n + n ≡ to → to ≤ length a
+      → p ≡ get_or (first_chunks n m a) k [] → q ≡ get_or (first_chunks n m' b) k []
+      → sum ≡ squares_in a b (k * n) → part ≡ squares_in p q (length p) → sum + part ≡ squares_in a b to
+  in_chunk n k {m} {m'} {to} l l' e inside ep eq s v =
+      in_cut (k * n) to (omega arith) inside s (rw (ep, eq, chunk_cut n m k a l, chunk_cut n m' k b l', e) at v)
+
+  pub in_rest : (from : ℕ) {p q : List ℕ} {sum part : ℕ} → from ≤ length a → length a ≡ length b → p ≡ drop from a → q ≡ drop from b
+      → sum ≡ squares_in a b from → part ≡ squares_in p q (length p) → sum + part ≡ squares_in a b (length a)
+  in_rest from l e ep eq s v =
+      in_cut from (length a) l (le_refl _) s (rw (ep, eq, rest_cut from a, rest_cut from b, ← e) at v)
 
   -- with a sample more, in a word that wraps round
   pub in_wrapped : (x : ℕ) {sum square more : ℕ} → sum ≡ squares_in a b x % 2 ^ 32 → square ≡ square_of (at a x) (at b x)
@@ -101,7 +196,7 @@ next_square m =
     let l : m ≤ m + 1 = omega arith in
     lt_of_le_of_lt (mul-le-mul (le_refl m) l) (mul-lt-mul_of_pos_right {m = m} {n = m + 1} {k = m + 1} (omega arith) (omega arith))
 
-pub depth_half : {depth : ℕ} → depth ≤ most_depth true → 2 * depth ≤ 32
+depth_half : {depth : ℕ} → depth ≤ most_depth true → 2 * depth ≤ 32
 unfolding most_depth
 depth_half l = omega arith
 
@@ -164,7 +259,7 @@ module _ (depth : ℕ) (a b : List ℕ) (from to : ℕ) (l : from ≤ to) (m : t
       let second = rw (cut_at b from to (i - from) (omega arith), e) at low.1 in
       (le_ones depth first, le_ones depth second)
 
-  pub cut_suits : pair_suits depth a b from ≡ true → bits_of ≤ max_of depth → pair_suits depth a b to ≡ true
+  cut_suits : pair_suits depth a b from ≡ true → bits_of ≤ max_of depth → pair_suits depth a b to ≡ true
   cut_suits before h = suits_holds depth a b to (λ i n. go i n (dec_lt i from))
     where
       go : (i : ℕ) → i < to → Dec (i < from) → (at a i ≤ max_of depth) × (at b i ≤ max_of depth)
@@ -172,7 +267,7 @@ module _ (depth : ℕ) (a b : List ℕ) (from to : ℕ) (l : from ≤ to) (m : t
       go i n (no k) = cut_low h i (omega arith) n
 
   -- one is: so is a sample of the row
-  pub cut_breaks : max_of depth < bits_of → pair_suits depth a b (length a) ≡ true → ⊥
+  cut_breaks : max_of depth < bits_of → pair_suits depth a b (length a) ≡ true → ⊥
   unfolding max_of
   cut_breaks h e =
       let small = suits_at depth a b (length a) e in
@@ -183,7 +278,7 @@ module _ (depth : ℕ) (a b : List ℕ) (from to : ℕ) (l : from ≤ to) (m : t
       absurd (omega (arith, low, h))
 
   -- and where no bit is too high and the part is short enough, 32 bits hold its sum
-  pub cut_whole : 2 * depth ≤ 32 → to - from ≤ part_length depth → bits_of ≤ max_of depth → sum_of % 2 ^ 32 ≡ sum_of
+  cut_whole : 2 * depth ≤ 32 → to - from ≤ part_length depth → bits_of ≤ max_of depth → sum_of % 2 ^ 32 ≡ sum_of
   cut_whole d n h =
       let max = max_of depth in
       let same = cut_length a from to l m in
@@ -193,13 +288,28 @@ module _ (depth : ℕ) (a b : List ℕ) (from to : ℕ) (l : from ≤ to) (m : t
       (rw (cut_at a from to i n) at_i.0, rw (cut_at b from to i n) at_i.1)) in
       mod-eq_of_lt (lt_of_le_of_lt le (lt_of_le_of_lt (mul-le-mul_right (max * max) (rw same n)) (part_room depth d)))
 
+-- a part taken off both rows
+module _ (depth : ℕ) {a b p q more more' : List ℕ} {x to size bits : ℕ} (t : PartTaken a b p q more more' x to size)
+    (e : bits ≡ bits_in p q (length p)) where
+  pub taken_suits : pair_suits depth a b x ≡ true → bits ≤ max_of depth → pair_suits depth a b to ≡ true
+  taken_suits before h = cut_suits depth a b x to t.rising t.inside before (rw (← t.first, ← t.second, ← e) h)
+
+  pub taken_breaks : max_of depth < bits → pair_suits depth a b (length a) ≡ true → ⊥
+  taken_breaks h = cut_breaks depth a b x to t.rising t.inside (rw (← t.first, ← t.second, ← e) h)
+
+  pub taken_adds : depth ≤ most_depth true → size ≡ part_length depth → bits ≤ max_of depth → {sum part : ℕ} → sum ≡ squares_in a b x
+      → part ≡ squares_in p q (length p) % 2 ^ 32 → sum + part ≡ squares_in a b to
+  taken_adds d n h s v =
+      let whole = cut_whole depth a b x to t.rising t.inside (depth_half d) (omega (arith, t.short, n)) (rw (← t.first, ← t.second, ← e) h) in
+      in_cut a b x to t.rising t.inside s (rw (t.first, t.second) at v ∙ whole)
+
 -- ---- the answer
-pub found_above : (suit : Bool) (sum : ℕ) → (suit ≡ true → ⊥) → Above ≡ walked_if suit sum
+pub found_above : (suit : Bool) (sum : ℕ) → (suit ≡ true → ⊥) → Err no.Sample ≡ walked_if suit sum
 found_above true sum h = absurd (h refl)
 found_above false sum h = refl
 
-pub found_sum : {suit : Bool} {sum whole : ℕ} → suit ≡ true → sum ≡ whole → Sum sum ≡ walked_if suit whole
-found_sum {suit} {sum} {whole} s e = ap Sum e ∙ ap (λ (t : Bool). walked_if t whole) (sym s)
+pub found_sum : {suit : Bool} {sum whole : ℕ} → suit ≡ true → sum ≡ whole → Ok sum ≡ walked_if suit whole
+found_sum {suit} {sum} {whole} s e = ap Ok e ∙ ap (λ (t : Bool). walked_if t whole) (sym s)
 
 -- a sum and its bits, counted up
 pub ruleset part_steps = (in_none, in_next, in_wrapped, bits_none, bits_next)

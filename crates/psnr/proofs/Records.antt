@@ -1,6 +1,8 @@
 -- What the tests of a record say where they pass, and that n × max² then stays below the largest total. Assumes nothing.
-use Rattle.std.proofs.Common.{◌≡◌, ℕ, zero, suc, ◌+◌, ◌*◌, ◌^◌, ◌<◌, ◌≤◌, Bool, true, false, ◌&&◌, ◌||◌, eqb, leb, refl, not-suc-le-zero, lt_of_le_of_lt, mul-le-mul, add-one, arith, lit<, eqb-true, leb-true}
-use mathlib.Core.Bool.{or-true}
+use Rattle.std.proofs.Common.{◌≡◌, ℕ, zero, suc, ◌+◌, ◌*◌, ◌^◌, ◌<◌, ◌≤◌, Bool, true, false, ◌&&◌, ◌||◌, eqb, leb, List, [], ◌∷◌, ◌++◌, refl, ap, ◌∙◌, not-suc-le-zero, lt_of_le_of_lt, mul-le-mul, arith, lit<, eqb-true, leb-true}
+use Rattle.std.specs.List.{list_any, range_with_len}
+use Rattle.std.proofs.lemmas.List.Folds.{list_any-append}
+use mathlib.Core.Bool.{or-true, or-false}
 use native.Mathlib.Decide.{dec_lt}
 use Rattle.refusal.proofs.Chain.{and_left, and_right}
 use Rattle.plane.specs.Limits.{most_depth}
@@ -12,14 +14,21 @@ use Rattle.psnr.specs.Record.{is_whole, whole_of, some_to, count_suits, max_suit
 use Rattle.psnr.proofs.Squares.{total_fits}
 
 -- ---- some index below n
-module _ (f : ℕ → Bool) where
-  pub some_none : some_to f 0 ≡ false
-  unfolding some_to
-  some_none = refl
+range_more : (a n : ℕ) → range_with_len a (suc n) ≡ range_with_len a n ++ ((a + n) ∷ [])
+range_more a zero = let e : a ≡ a + 0 = omega arith in ap (λ (x : ℕ). x ∷ []) e
+range_more a (suc n) =
+    let e : a + 1 + n ≡ a + suc n = omega arith in
+    ap (λ (t : List ℕ). a ∷ t) (range_more (a + 1) n ∙ ap (λ (x : ℕ). range_with_len (a + 1) n ++ (x ∷ [])) e)
 
-  pub some_more : (i : ℕ) → some_to f (i + 1) ≡ (some_to f i || f i)
-  unfolding some_to
-  some_more i = rw add-one
+-- as std's `any` of a range tells it
+pub some_range : (f : ℕ → Bool) (n : ℕ) → list_any f (range_with_len 0 n) ≡ some_to f n
+unfolding some_to
+some_range f zero = refl
+some_range f (suc n) =
+    let e : 0 + n ≡ n = omega arith in
+    ap (list_any f) (range_more 0 n)
+    ∙ list_any-append f (range_with_len 0 n) ((0 + n) ∷ [])
+    ∙ rw (some_range f n, e, or-false) refl
 
 -- f holds at an index below n
 pub some_true : (f : ℕ → Bool) (n i : ℕ) → i < n → f i ≡ true → some_to f n ≡ true
@@ -112,6 +121,3 @@ module _ (r : Record) (e : record_suits r ≡ true) where
   pub suits_most : whole_of r.sq_err ≤ r.n * (r.sample_max * r.sample_max)
   unfolding error_suits
   suits_most = leb-true _ _ (and_right (is_whole r.sq_err) _ suits_error)
-
--- counted up
-pub ruleset some_steps = (some_none, some_more)

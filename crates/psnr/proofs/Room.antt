@@ -3,7 +3,8 @@
 -- depth (`shallow_fits`). Three records of the largest error it does meet (`three_refused`). Assumes nothing.
 use Rattle.std.proofs.Common.{◌≡◌, ℕ, ◌+◌, ◌-◌, ◌*◌, ◌<◌, ◌≤◌, true, ◌&&◌, leb, List, [], ◌∷◌, length, refl, le_trans, le_refl, le_of_lt, add-mul, mul-le-mul, arith, lit<, lit≤, eq-eqb, eqb-true, le-leb}
 use borrow.Author.Tests.{lt-leb}
-use Rattle.refusal.specs.Numbers.{total_no}
+use Rattle.std.specs.Prelude.{Ok, Err}
+use Rattle.refusal.specs.declared.Refusal.TheVariants as no
 use Rattle.refusal.proofs.Chain.{and_left, and_right}
 use Rattle.plane.specs.Limits.{most_depth}
 use Rattle.plane.specs.Plane.{Planes, max_of, sample_limit}
@@ -60,7 +61,7 @@ errors_most max (r ∷ rs) j =
     (omega (arith, error_most max r (and_left (joins max r) (all_join max rs) j), errors_most max rs (and_right (joins max r) (all_join max rs) j)))
 
 -- 11 does not meet a series whose largest error fits
-pub room_enough : (rs : List Record) → run_suits rs ≡ true → count_total rs * (first_max rs * first_max rs) ≤ total_limit → series_refusal rs ≡ 0
+pub room_enough : (rs : List Record) → run_suits rs ≡ true → count_total rs * (first_max rs * first_max rs) ≤ total_limit → series_refusal rs ≡ Ok tt
 unfolding run_suits
 room_enough rs e l =
     let few = leb 1 (length rs) && leb (length rs) record_limit in
@@ -69,14 +70,14 @@ room_enough rs e l =
 
 -- ---- a frame: the records that three calls answered at one depth
 module _ (number : ℕ) (y u v : Planes) (du : u.size.depth ≡ y.size.depth) (dv : v.size.depth ≡ y.size.depth)
-    (ey : squared_error_refusal y 0 ≡ 0) (eu : squared_error_refusal u 1 ≡ 0) (ev : squared_error_refusal v 2 ≡ 0) where
+    (ey : squared_error_refusal y 0 ≡ Ok tt) (eu : squared_error_refusal u 1 ≡ Ok tt) (ev : squared_error_refusal v 2 ≡ Ok tt) where
   abbrev frame : List Record
   frame = record_of y number 0 ∷ record_of u number 1 ∷ record_of v number 2 ∷ []
 
   abbrev max : ℕ
   max = max_of y.size.depth
 
-  module _ (p : Planes) (plane : ℕ) (e : squared_error_refusal p plane ≡ 0) where
+  module _ (p : Planes) (plane : ℕ) (e : squared_error_refusal p plane ≡ Ok tt) where
     sound : record_suits (record_of p number plane) ≡ true
     sound = let taken = error_taken plane p e in record_suits_lem taken.0 number plane taken.1
 
@@ -92,7 +93,7 @@ module _ (number : ℕ) (y u v : Planes) (du : u.size.depth ≡ y.size.depth) (d
   frame_suits = rw (joined y 0 ey refl, joined u 1 eu du, joined v 2 ev dv, next_plane number 0 1 (lit< tt), next_plane number 1 2 (lit< tt))
 
   -- 11 does not meet it where both chroma planes together have no more samples than one plane may have
-  pub frame_fits : u.size.width * u.size.height + v.size.width * v.size.height ≤ count_limit → series_refusal frame ≡ 0
+  pub frame_fits : u.size.width * u.size.height + v.size.width * v.size.height ≤ count_limit → series_refusal frame ≡ Ok tt
   unfolding count_total
   frame_fits l =
       let few : count_total frame ≤ 2 * count_limit = omega (arith, l, count_most y 0 ey) in
@@ -100,7 +101,7 @@ module _ (number : ℕ) (y u v : Planes) (du : u.size.depth ≡ y.size.depth) (d
       room_enough frame frame_suits (le_trans (mul-le-mul few (mul-le-mul small small)) two_fit)
 
   -- nor, whatever its planes, below the largest depth
-  pub shallow_fits : y.size.depth < most_depth true → series_refusal frame ≡ 0
+  pub shallow_fits : y.size.depth < most_depth true → series_refusal frame ≡ Ok tt
   unfolding count_total
   shallow_fits l =
       let few : count_total frame ≤ 3 * count_limit = omega (arith, count_most y 0 ey, count_most u 1 eu, count_most v 2 ev) in
@@ -132,7 +133,7 @@ unfolding most_plane
 three_planes = lit≤ tt
 
 -- 11 meets them
-pub three_refused : (frame : ℕ) → series_refusal (largest frame 0 ∷ largest frame 1 ∷ largest frame 2 ∷ []) ≡ total_no
+pub three_refused : (frame : ℕ) → series_refusal (largest frame 0 ∷ largest frame 1 ∷ largest frame 2 ∷ []) ≡ Err no.Total
 unfolding run_suits all_join rising error_total record_limit
 three_refused frame =
     rw (

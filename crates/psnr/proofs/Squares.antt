@@ -1,26 +1,16 @@
 -- How large the squared error can be, and that planes which no test refuses can be walked. Assumes nothing.
-use Rattle.std.proofs.Common.{◌≡◌, ℕ, ◌+◌, ◌*◌, ◌^◌, ◌<◌, ◌≤◌, true, List, le_trans, lt_of_le_of_lt, mul-le-mul_right, mul-le-mul, arith, lit<}
+use Rattle.std.proofs.Common.{◌≡◌, ℕ, ◌+◌, ◌*◌, ◌^◌, ◌<◌, ◌≤◌, true, le_trans, lt_of_le_of_lt, mul-le-mul_right, mul-le-mul, arith, lit<}
 use Rattle.plane.specs.Limits.{side_limit, most_depth}
-use Rattle.plane.specs.declared.Size.{Size}
-use Rattle.plane.specs.Plane.{Plane, Planes, max_of, sample_limit, at, sample_at}
+use Rattle.plane.specs.Plane.{Size, Plane, Planes, max_of, sample_limit, sample_at}
 use Rattle.plane.specs.Inner.Lawful.{Bounded, Lawful, AcceptedPair}
 use Rattle.plane.proofs.Depth.{max_grows}
 use Rattle.plane.proofs.Sums.{sum_none, sum_more, sum_bound}
 use Rattle.plane.proofs.Limits.{deepest}
 use Rattle.psnr.specs.Limits.{total_limit}
 use Rattle.psnr.specs.Squared.{apart, square_of, row_error, error_to}
-use Rattle.psnr.specs.Inner.Walk.{Walkable, squares_from}
+use Rattle.psnr.specs.Inner.Walk.{Walkable}
 
 -- ---- a sum counted up
-module _ (a b : List ℕ) (i j : ℕ) where
-  pub squares_none : squares_from a b i j 0 ≡ 0
-  unfolding squares_from
-  squares_none = sum_none _
-
-  pub squares_more : (x : ℕ) → squares_from a b i j (x + 1) ≡ squares_from a b i j x + square_of (at a (i + x)) (at b (j + x))
-  unfolding squares_from
-  squares_more x = sum_more _ x
-
 module _ (p : Planes) where
   pub error_none : error_to p 0 ≡ 0
   unfolding error_to

@@ -1,6 +1,7 @@
 -- What a series that is taken may be counted on for: no frame and plane occur twice in it (`no_two_alike`), and it may be cut anywhere: both parts are
 -- taken (`parts_taken`), and their sums add up to its own (Fold, `error_cut`, `count_cut`). Assumes nothing.
 use Rattle.std.proofs.Common.{◌≡◌, ℕ, ◌+◌, ◌<◌, ◌≤◌, true, ◌&&◌, leb, ◌⊎◌, List, [], ◌∷◌, ◌++◌, length, get_or, refl, inl, inr, arith, length-append, eqb-true, le-leb, leb-true}
+use Rattle.std.specs.Prelude.{Ok}
 use Rattle.refusal.proofs.Chain.{and_left, and_right, passed}
 use Rattle.psnr.specs.declared.Record.{Record}
 use Rattle.psnr.specs.Limits.{record_limit, total_limit}
@@ -8,16 +9,15 @@ use Rattle.psnr.specs.Record.{record_suits, joins, before}
 use Rattle.psnr.specs.Series.{first_max, all_join, rising, run_suits, error_total, series_tests, series_refusal}
 use Rattle.psnr.proofs.Rising.{earlier_says, rising_rest, rising_says}
 use Rattle.psnr.proofs.Fold.{error_cut}
-use Rattle.psnr.proofs.Totals.{series_named}
 
 -- ---- no frame and plane occur twice
-series_rises : (rs : List Record) → series_refusal rs ≡ 0 → rising rs ≡ true
+series_rises : (rs : List Record) → series_refusal rs ≡ Ok tt → rising rs ≡ true
 unfolding run_suits
 series_rises rs e =
-    let tests = passed (series_tests rs) (series_named rs) e in
+    let tests = passed (series_tests rs) e in
     and_right (leb 1 (length rs) && leb (length rs) record_limit && all_join (first_max rs) rs) (rising rs) tests.0
 
-module _ (none : Record) (rs : List Record) (e : series_refusal rs ≡ 0) (i j : ℕ) (l : i < j) (m : j < length rs) where
+module _ (none : Record) (rs : List Record) (e : series_refusal rs ≡ Ok tt) (i j : ℕ) (l : i < j) (m : j < length rs) where
   abbrev one : Record
   one = get_or rs i none
 
@@ -53,18 +53,18 @@ first_max_lem max (r ∷ rs) l e = eqb-true r.sample_max max (and_right (record_
 
 -- a part of a run that is taken
 part_taken : (max : ℕ) (rs : List Record) → 1 ≤ length rs → length rs ≤ record_limit → all_join max rs ≡ true → rising rs ≡ true
-    → error_total rs ≤ total_limit → series_refusal rs ≡ 0
+    → error_total rs ≤ total_limit → series_refusal rs ≡ Ok tt
 unfolding run_suits
 part_taken max rs some few join up fits =
     rw (le-leb 1 (length rs) some, le-leb (length rs) record_limit few, first_max_lem max rs some join, join, up, le-leb (error_total rs) total_limit fits)
 
-pub parts_taken : (xs ys : List Record) → 1 ≤ length xs → 1 ≤ length ys → series_refusal (xs ++ ys) ≡ 0
-    → (series_refusal xs ≡ 0) × (series_refusal ys ≡ 0)
+pub parts_taken : (xs ys : List Record) → 1 ≤ length xs → 1 ≤ length ys → series_refusal (xs ++ ys) ≡ Ok tt
+    → (series_refusal xs ≡ Ok tt) × (series_refusal ys ≡ Ok tt)
 unfolding run_suits
 parts_taken xs ys some more e =
     let all = xs ++ ys in
     let max = first_max all in
-    let tests = passed (series_tests all) (series_named all) e in
+    let tests = passed (series_tests all) e in
     let a = leb 1 (length all) && leb (length all) record_limit in
     let joined = and_left (a && all_join max all) (rising all) tests.0 in
     let join = join_cut max xs ys (and_right a (all_join max all) joined) in

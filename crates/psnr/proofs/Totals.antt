@@ -1,6 +1,7 @@
 -- What the total of a series that is not refused is known to be. Assumes nothing.
-use Rattle.std.proofs.Common.{◌≡◌, ◌*◌, ◌≤◌, true, ◌&&◌, leb, List, [], ◌∷◌, length, le_trans, mul-le-mul_right, arith, lit≤, leb-true}
-use Rattle.refusal.proofs.Chain.{Named, and_left, and_right, passed}
+use Rattle.std.proofs.Common.{◌≡◌, ◌*◌, ◌≤◌, true, ◌&&◌, leb, List, [], ◌∷◌, length, le_trans, mul-le-mul_right, arith, leb-true}
+use Rattle.std.specs.Prelude.{Ok}
+use Rattle.refusal.proofs.Chain.{and_left, and_right, passed}
 use Rattle.psnr.specs.declared.Record.{Record}
 use Rattle.psnr.specs.Limits.{count_limit, record_limit, total_limit}
 use Rattle.psnr.specs.Record.{max_suits, joins}
@@ -16,9 +17,6 @@ pub record Adds (rs : List Record) : Type 0 where
   pub most : error_total rs ≤ count_total rs * (first_max rs * first_max rs)
   pub whole : error_total rs ≤ total_limit
 
-pub series_named : (rs : List Record) → Named (series_tests rs)
-series_named rs = (lit≤ tt, (lit≤ tt, tt))
-
 -- a run that has a first record
 first_some : (rs : List Record) → 1 ≤ length rs → all_join (first_max rs) rs ≡ true → (1 ≤ count_total rs) × (max_suits (first_max rs) ≡ true)
 unfolding all_join count_total
@@ -27,10 +25,10 @@ first_some (r ∷ rs) l j =
     let first = and_left (joins r.sample_max r) (all_join r.sample_max rs) j in
     (omega (arith, suits_some r (joins_suits r.sample_max r first)), max_suits_lem r.sample_max r first)
 
-pub series_adds : (rs : List Record) → series_refusal rs ≡ 0 → Adds rs
+pub series_adds : (rs : List Record) → series_refusal rs ≡ Ok tt → Adds rs
 unfolding run_suits
 series_adds rs e =
-    let all = passed (series_tests rs) (series_named rs) e in
+    let all = passed (series_tests rs) e in
     let a = leb 1 (length rs) in
     let b = leb (length rs) record_limit in
     let joined = and_left (a && b && all_join (first_max rs) rs) (rising rs) all.0 in

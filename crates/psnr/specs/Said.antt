@@ -1,6 +1,8 @@
 -- SCOPE, "Squared error": what each case of an answer says in numbers. Beside an error of 0 that is "identical", and 100: the decibels that
 -- stand for it, since its own would be without end. Definitions only.
-use Rattle.std.specs.Prelude.{ℕ, List, [], ◌∷◌}
+use Rattle.std.specs.Prelude.{ℕ, List, [], ◌∷◌, Result, Ok, Err}
+use Rattle.refusal.specs.declared.Refusal.{Refusal}
+use Rattle.refusal.specs.Numbers.{number_of}
 use Rattle.psnr.specs.declared.Record.{Record}
 use Rattle.psnr.specs.declared.SquaredError.{SquaredError}
 use Rattle.psnr.specs.declared.SquaredError.TheVariants as compared
@@ -39,12 +41,12 @@ abbrev pub figures_of : Record → Total
 figures_of r = record { sq_err = r.sq_err; n = r.n; sample_max = r.sample_max }
 
 -- what the two answers say, case by case
-abbrev pub error_said : SquaredError → Said Record
-error_said (compared.Differs r) = said_differs r
-error_said (compared.Identical r) = said_identical r
-error_said (compared.Refused k) = said_refused k
+abbrev pub error_said : Result SquaredError Refusal → Said Record
+error_said (Ok (compared.Differs r)) = said_differs r
+error_said (Ok (compared.Identical r)) = said_identical r
+error_said (Err k) = said_refused (number_of k)
 
-abbrev pub series_said : Summed → Said Total
-series_said (summed.Differs t) = said_differs t
-series_said (summed.Identical t) = said_identical t
-series_said (summed.Refused k) = said_refused k
+abbrev pub series_said : Result Summed Refusal → Said Total
+series_said (Ok (summed.Differs t)) = said_differs t
+series_said (Ok (summed.Identical t)) = said_identical t
+series_said (Err k) = said_refused (number_of k)

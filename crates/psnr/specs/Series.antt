@@ -1,13 +1,14 @@
 -- SCOPE, "Squared error": the total of a run of records, their errors and counts added under their one max, and its refusals, 10
 -- and 11. Definitions only.
-use Rattle.std.specs.Prelude.{ℕ, zero, suc, ◌+◌, Bool, true, ◌&&◌, List, [], ◌∷◌, length, nat_le}
-use Rattle.refusal.specs.Numbers.{record_no, total_no}
-use Rattle.refusal.specs.First.{first_broken}
+use Rattle.std.specs.Prelude.{ℕ, zero, suc, ◌+◌, Bool, true, ◌&&◌, List, [], ◌∷◌, length, nat_le, Result, Ok}
+use Rattle.refusal.specs.declared.Refusal.{Refusal}
+use Rattle.refusal.specs.declared.Refusal.TheVariants as no
+use Rattle.refusal.specs.First.{Verdict, first_broken, unless_refused}
 use Rattle.number.specs.Steps.{double}
 use Rattle.psnr.specs.declared.Record.{Record}
 use Rattle.psnr.specs.declared.Total.{Total}
 use Rattle.psnr.specs.declared.Summed.{Summed}
-use Rattle.psnr.specs.declared.Summed.TheVariants.{Differs, Identical, Refused}
+use Rattle.psnr.specs.declared.Summed.TheVariants.{Differs, Identical}
 use Rattle.psnr.specs.Limits.{record_limit, total_limit}
 use Rattle.psnr.specs.Record.{whole_of, joins, before}
 
@@ -42,21 +43,20 @@ count_total [] = 0
 count_total (r ∷ rs) = r.n + count_total rs
 
 -- 10 and 11, in ascending order
-abbrev pub series_tests : List Record → List (ℕ × Bool)
-series_tests rs = (record_no, run_suits rs) ∷ (total_no, nat_le (error_total rs) total_limit) ∷ []
+abbrev pub series_tests : List Record → List (Refusal × Bool)
+series_tests rs = (no.Record, run_suits rs) ∷ (no.Total, nat_le (error_total rs) total_limit) ∷ []
 
-abbrev pub series_refusal : List Record → ℕ
+abbrev pub series_refusal : List Record → Verdict
 series_refusal rs = first_broken (series_tests rs)
 
 -- the total of so large an error and count, under one max
 abbrev pub series_total : ℕ → ℕ → ℕ → Total
 series_total error n max = record { sq_err = double error; n = n; sample_max = max }
 
--- the answer, from the refusal, the error, the count and the max: a total error of 0 is told apart
-abbrev pub series_answer : ℕ → ℕ → ℕ → ℕ → Summed
-series_answer zero zero n max = Identical (series_total 0 n max)
-series_answer zero (suc e) n max = Differs (series_total (suc e) n max)
-series_answer (suc k) e n max = Refused (suc k)
+-- what is told of it: a total error of 0 is told apart
+abbrev pub series_answer : ℕ → ℕ → ℕ → Summed
+series_answer zero n max = Identical (series_total 0 n max)
+series_answer (suc e) n max = Differs (series_total (suc e) n max)
 
-unfoldable pub series_of : List Record → Summed
-series_of rs = series_answer (series_refusal rs) (error_total rs) (count_total rs) (first_max rs)
+unfoldable pub series_of : List Record → Result Summed Refusal
+series_of rs = unless_refused (series_refusal rs) (Ok (series_answer (error_total rs) (count_total rs) (first_max rs)))

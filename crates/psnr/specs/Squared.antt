@@ -1,14 +1,15 @@
 -- SCOPE, "Squared error": the sum, the record and the answer of a call. Definitions only.
-use Rattle.std.specs.Prelude.{ℕ, zero, suc, ◌+◌, ◌-◌, ◌*◌, Bool, List, [], ◌∷◌, ◌++◌}
-use Rattle.refusal.specs.Numbers.{record_no}
-use Rattle.refusal.specs.First.{first_broken, by_refusal}
+use Rattle.std.specs.Prelude.{ℕ, zero, suc, ◌+◌, ◌-◌, ◌*◌, Bool, List, [], ◌∷◌, ◌++◌, Result, Ok}
+use Rattle.refusal.specs.declared.Refusal.{Refusal}
+use Rattle.refusal.specs.declared.Refusal.TheVariants as no
+use Rattle.refusal.specs.First.{Verdict, first_broken, unless_refused}
 use Rattle.number.specs.Steps.{double}
 use Rattle.plane.specs.Plane.{Planes, max_of, sample_at}
 use Rattle.plane.specs.Sums.{sum_to}
 use Rattle.plane.specs.Tests.{pair_tests}
 use Rattle.psnr.specs.declared.Record.{Record}
 use Rattle.psnr.specs.declared.SquaredError.{SquaredError}
-use Rattle.psnr.specs.declared.SquaredError.TheVariants.{Differs, Identical, Refused}
+use Rattle.psnr.specs.declared.SquaredError.TheVariants.{Differs, Identical}
 use Rattle.psnr.specs.Record.{plane_suits}
 
 -- how far a and b are apart: one of the two differences is 0
@@ -42,18 +43,18 @@ record_of p frame plane =
       plane = plane;
     }
 
--- the answer, from the error and the record: an error of 0 is told apart
+-- what is told of them, from the error and the record: an error of 0 is told apart
 abbrev pub error_answer : ℕ → Record → SquaredError
 error_answer zero r = Identical r
 error_answer (suc e) r = Differs r
 
 -- 1 2 4 5 6 and 10, in ascending order: 3 does not belong to this call, so that the least side is 0
-abbrev pub squared_error_tests : Planes → ℕ → List (ℕ × Bool)
-squared_error_tests p plane = pair_tests p 0 ++ (record_no, plane_suits plane) ∷ []
+abbrev pub squared_error_tests : Planes → ℕ → List (Refusal × Bool)
+squared_error_tests p plane = pair_tests p 0 ++ (no.Record, plane_suits plane) ∷ []
 
-abbrev pub squared_error_refusal : Planes → ℕ → ℕ
+abbrev pub squared_error_refusal : Planes → ℕ → Verdict
 squared_error_refusal p plane = first_broken (squared_error_tests p plane)
 
-unfoldable pub squared_error_of : Planes → ℕ → ℕ → SquaredError
+unfoldable pub squared_error_of : Planes → ℕ → ℕ → Result SquaredError Refusal
 squared_error_of p frame plane =
-    let n = squared_error_refusal p plane in by_refusal n (error_answer (squared_error_score p) (record_of p frame plane)) (Refused n)
+    unless_refused (squared_error_refusal p plane) (Ok (error_answer (squared_error_score p) (record_of p frame plane)))

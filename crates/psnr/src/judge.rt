@@ -14,13 +14,7 @@ pub const MOST_PLANE: u32 = 2;
 pub fn capped_sum(a: u64, b: u64, cap: u64) -> u64
     ensures { result ≡ min (a + b) cap }
 {
-    if a > cap {
-        return cap;
-    }
-    if b > cap - a {
-        return cap;
-    }
-    a + b
+    a.saturating_add(b).min(cap)
 }
 
 // Whether e is a whole number, small enough that all are doubles, and not minus zero: one that comes back, bit for bit, when its fraction
@@ -43,10 +37,7 @@ pub fn is_whole(e: f64) -> bool
 pub fn error_suits(most: u64, e: f64) -> bool
     ensures { result ≡ error_suits most e }
 {
-    if !is_whole(e) {
-        return false;
-    }
-    (e as u64) <= most
+    is_whole(e) && e as u64 <= most
 }
 
 // Whether n is from 1 to its limit.
@@ -54,19 +45,14 @@ pub fn error_suits(most: u64, e: f64) -> bool
 pub fn count_suits(n: u64) -> bool
     ensures { result ≡ count_suits n }
 {
-    (1 <= n) & (n <= COUNT_LIMIT)
+    (1..=COUNT_LIMIT).contains(&n)
 }
 
 // Whether max is the sample_max of a depth.
-#[tactic(auto, using(crate::proofs::Records::some_steps), unfolding(plane::specs::Limits::most_depth, crate::specs::Record::max_suits))]
 pub fn max_suits(max: u32) -> bool
     ensures { result ≡ max_suits max }
 {
-    let mut ok = false;
-    for i in 0..plane::DEPTH_LIMIT {
-        ok = ok | (max == plane::sample_max(i + 1));
-    }
-    ok
+    (0..plane::DEPTH_LIMIT).any(|i| max == plane::sample_max(i + 1))
 }
 
 // Whether the plane's number is 0, 1 or 2.
@@ -82,15 +68,11 @@ pub fn plane_suits(plane: u32) -> bool
 pub fn record_suits(r: Record) -> bool
     ensures { result ≡ record_suits r }
 {
-    let n = r.n;
-    let max = r.sample_max;
-    if !count_suits(n) {
+    if !count_suits(r.n) || !max_suits(r.sample_max) {
         return false;
     }
-    if !max_suits(max) {
-        return false;
-    }
-    error_suits(n * ((max as u64) * (max as u64)), r.sq_err) & plane_suits(r.plane)
+    let max = u64::from(r.sample_max);
+    error_suits(r.n * (max * max), r.sq_err) && plane_suits(r.plane)
 }
 
 // Whether it is not bad in a series whose first record has this max.
@@ -98,7 +80,7 @@ pub fn record_suits(r: Record) -> bool
 pub fn joins(max: u32, r: Record) -> bool
     ensures { result ≡ joins max r }
 {
-    record_suits(r) & (r.sample_max == max)
+    record_suits(r) && r.sample_max == max
 }
 
 // Whether a frame and plane come before others: by frame, then by plane.
@@ -106,5 +88,5 @@ pub fn joins(max: u32, r: Record) -> bool
 pub fn is_earlier(frame: u32, plane: u32, next_frame: u32, next_plane: u32) -> bool
     ensures { result ≡ earlier frame plane next_frame next_plane }
 {
-    (frame < next_frame) | ((frame == next_frame) & (plane < next_plane))
+    (frame, plane) < (next_frame, next_plane)
 }

@@ -1,15 +1,15 @@
 // Squared error of two planes, the record that keeps it, and a series of records; after psnr.rs. SCOPE, "Squared error".
 #![tactic(auto)]
 
-ghost use Rattle.std.specs.Prelude.{◌≡◌, true, false};
-ghost use Rattle.plane.specs.Plane.{called};
-ghost use Rattle.plane.specs.Inner.Lent.{planes};
+ghost use Rattle.std.specs.Prelude.{◌≡◌};
+ghost use Rattle.plane.specs.Inner.Seen.{planes};
 ghost use Rattle.psnr.specs.Squared.{squared_error_of};
 ghost use Rattle.psnr.specs.Series.{series_of};
 ghost use Rattle.psnr.specs.Inner.Fold.{rises, run_with, run_start, run_step, run_finish};
 
-use plane::{Layout, Size};
-use walk::Walked;
+use plane::Pair;
+use refusal::Refusal;
+use walk::Compared;
 
 pub mod judge;
 pub mod walk;
@@ -21,7 +21,7 @@ pub const TOTAL_LIMIT: u64 = number::EXACT_LIMIT;
 
 // What a comparison of two planes leaves, and whose they are. The error is a whole number, and exact.
 #[repr(C)]
-#[derive(Clone, Copy)]
+#[derive(Clone, Copy, Debug, PartialEq)]
 pub struct Record {
     pub sq_err: f64,
     pub n: u64,
@@ -30,33 +30,31 @@ pub struct Record {
     pub plane: u32,
 }
 
-// What asking for a squared error answers. Identical says "identical, 100" beside its record.
-#[derive(Clone, Copy)]
+// A squared error. Identical says "identical, 100" beside its record.
+#[derive(Clone, Copy, Debug, PartialEq)]
 pub enum SquaredError {
     Differs(Record),
     Identical(Record),
-    Refused(u8),
 }
 
 // The errors and counts of a series, under its one max.
-#[derive(Clone, Copy)]
+#[derive(Clone, Copy, Debug, PartialEq)]
 pub struct Total {
     pub sq_err: f64,
     pub n: u64,
     pub sample_max: u32,
 }
 
-// What a series answers. Identical says "identical, 100" beside its total.
-#[derive(Clone, Copy)]
+// A series summed up. Identical says "identical, 100" beside its total.
+#[derive(Clone, Copy, Debug, PartialEq)]
 pub enum Summed {
     Differs(Total),
     Identical(Total),
-    Refused(u8),
 }
 
 // A series so far, in whole numbers: how many records, what they add up to, and the last one's frame and plane. An error above
 // TOTAL_LIMIT is kept as one above it.
-#[derive(Clone, Copy)]
+#[derive(Clone, Copy, Debug, PartialEq, Eq)]
 pub struct Tally {
     pub records: u64,
     pub error: u64,
@@ -67,107 +65,39 @@ pub struct Tally {
 }
 
 // No record yet; sound ones only; or one among them that is bad, out of order or too many.
-#[derive(Clone, Copy)]
+#[derive(Clone, Copy, Debug, PartialEq, Eq)]
 pub enum Run {
     Empty,
     Sound(Tally),
     Spoiled,
 }
 
-// The answer for two planes of either width, the samples of each as bytes and as words. 6 is judged on the walk, and 10 after it.
-fn answer(
-    a8: &[u8],
-    a16: &[u16],
-    b8: &[u8],
-    b16: &[u16],
-    layout: Layout,
+// The squared error of two planes, recorded as that of this plane of this frame. 6 is judged on the walk, and 10 after it.
+pub fn squared_error<S: Compared>(
+    p: Pair<'_, S>,
     frame: u32,
     plane: u32,
-) -> SquaredError
-    ensures { result ≡ squared_error_of (planes layout a8.entry a16.entry b8.entry b16.entry) frame plane }
+) -> Result<SquaredError, Refusal>
+    ensures { result ≡ squared_error_of (planes S.Sample.value S.WIDE p.entry) frame plane }
 {
-    let no = plane::check_unread(a8, a16, b8, b16, layout, 0);
-    if no != 0 {
-        return SquaredError::Refused(no);
+    plane::check_unread(p, 0)?;
+    let error = walk::rows(p)?;
+    let suits = judge::plane_suits(plane);
+    if !suits {
+        return Err(Refusal::Record);
     }
-    let width = layout.size.width;
-    let height = layout.size.height;
-    match walk::rows(a8, a16, b8, b16, layout) {
-        Walked::Sum(error) => {
-            if !judge::plane_suits(plane) {
-                return SquaredError::Refused(refusal::RECORD);
-            }
-            let record = Record {
-                sq_err: number::exact(error),
-                n: (width * height) as u64,
-                sample_max: plane::sample_max(layout.size.depth),
-                frame,
-                plane,
-            };
-            if error == 0 {
-                SquaredError::Identical(record)
-            } else {
-                SquaredError::Differs(record)
-            }
-        }
-        Walked::Above => SquaredError::Refused(refusal::SAMPLE),
+    let record = Record {
+        sq_err: number::exact(error),
+        n: (p.format.width * p.format.height) as u64,
+        sample_max: plane::sample_max(p.format.depth),
+        frame,
+        plane,
+    };
+    if error == 0 {
+        Ok(SquaredError::Identical(record))
+    } else {
+        Ok(SquaredError::Differs(record))
     }
-}
-
-// The squared error of two planes of bytes, recorded as that of this plane of this frame.
-pub fn squared_error8(
-    a: &[u8],
-    b: &[u8],
-    width: usize,
-    height: usize,
-    stride_a: usize,
-    stride_b: usize,
-    depth: u32,
-    frame: u32,
-    plane: u32,
-) -> SquaredError
-    ensures { result ≡ squared_error_of (called false a.entry b.entry width height stride_a stride_b depth) frame plane }
-{
-    let size = Size {
-        wide: false,
-        width,
-        height,
-        depth,
-    };
-    let layout = Layout {
-        size,
-        stride_a,
-        stride_b,
-    };
-    answer(a, &[0u16; 0], b, &[0u16; 0], layout, frame, plane)
-}
-
-// The same of words.
-pub fn squared_error16(
-    a: &[u16],
-    b: &[u16],
-    width: usize,
-    height: usize,
-    stride_a: usize,
-    stride_b: usize,
-    depth: u32,
-    frame: u32,
-    plane: u32,
-) -> SquaredError
-    ensures { result ≡ squared_error_of (called true a.entry b.entry width height stride_a stride_b depth) frame plane }
-{
-    let size = Size {
-        wide: true,
-        width,
-        height,
-        depth,
-    };
-    let layout = Layout {
-        size,
-        stride_a,
-        stride_b,
-    };
-    answer(&[0u8; 0], a, &[0u8; 0], b, layout, frame, plane)
 }
 
 // Whether the record comes after the last one, where there is one.
@@ -175,11 +105,11 @@ pub fn squared_error16(
 fn rises(t: Tally, r: Record) -> bool
     ensures { result ≡ rises t r }
 {
-    (t.records == 0) | judge::is_earlier(t.frame, t.plane, r.frame, r.plane)
+    t.records == 0 || judge::is_earlier(t.frame, t.plane, r.frame, r.plane)
 }
 
 // One record more, whatever the tally so far may be.
-#[tactic(auto, unfolding(crate::specs::Inner::Fold::run_with, crate::specs::Limits::record_limit))]
+#[tactic(auto, unfolding(crate::specs::Inner::Fold::run_with, crate::specs::Limits::record_limit, crate::specs::Limits::count_limit, crate::specs::Limits::total_limit))]
 pub fn add_record(t: Tally, r: Record) -> Run
     ensures { result ≡ run_with t r }
 {
@@ -233,14 +163,13 @@ pub fn step(s: Run, r: Record) -> Run
 
 // What the series answers once its last record has come.
 #[tactic(auto, unfolding(crate::specs::Limits::total_limit, crate::specs::Inner::Fold::run_finish))]
-pub fn finish(s: Run) -> Summed
+pub fn finish(s: Run) -> Result<Summed, Refusal>
     ensures { result ≡ run_finish s }
 {
     match s {
-        Run::Empty => Summed::Refused(refusal::RECORD),
         Run::Sound(t) => {
             if t.error > TOTAL_LIMIT {
-                return Summed::Refused(refusal::TOTAL);
+                return Err(Refusal::Total);
             }
             let total = Total {
                 sq_err: number::exact(t.error),
@@ -248,25 +177,18 @@ pub fn finish(s: Run) -> Summed
                 sample_max: t.sample_max,
             };
             if t.error == 0 {
-                Summed::Identical(total)
+                Ok(Summed::Identical(total))
             } else {
-                Summed::Differs(total)
+                Ok(Summed::Differs(total))
             }
         }
-        Run::Spoiled => Summed::Refused(refusal::RECORD),
+        Run::Empty | Run::Spoiled => Err(Refusal::Record),
     }
 }
 
 // The total of a lent run of records.
-pub fn series(records: &[Record]) -> Summed
+pub fn series(records: &[Record]) -> Result<Summed, Refusal>
     ensures { result ≡ series_of records.now }
 {
-    let mut a = start();
-    let mut i = 0;
-    while i < records.len() {
-        let r = records[i];
-        a = step(a, r);
-        i += 1;
-    }
-    finish(a)
+    finish(records.iter().copied().fold(start(), step))
 }

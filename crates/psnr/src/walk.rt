@@ -1,36 +1,62 @@
 // The sum of the squared differences over the visible samples of two planes, and test 6 on the way: words are read once for both. Nobody
 // above knows how the rows are walked.
-ghost use Rattle.std.specs.Prelude.{◌≡◌, ◌*◌, ◌%◌, ◌^◌, ◌<◌, ◌≤◌, min, true, false, length};
+ghost use Rattle.std.specs.Prelude.{◌≡◌, ℕ, ◌*◌, ◌%◌, ◌^◌, ◌≤◌, true, false, length, map};
 ghost use Rattle.plane.specs.Limits.{side_limit, most_depth};
-ghost use Rattle.plane.specs.Inner.Lent.{planes};
+ghost use Rattle.plane.specs.Inner.Seen.{planes};
 ghost use Rattle.psnr.specs.Squared.{square_of};
 ghost use Rattle.psnr.specs.Inner.Walk.{word_most, Readable, squares_in, bits_in, part_length};
 ghost use Rattle.psnr.specs.Inner.Walk.{pair_suits, row_walked, walked_at, walked_of};
 
-use plane::Layout;
+use plane::{Pair, Stored};
+use refusal::Refusal;
 
-// What a walk over samples finds: the sum of their squared differences, or that one of them is above sample_max.
-#[derive(Clone, Copy)]
-pub enum Walked {
-    Sum(u64),
-    Above,
+// Samples whose rows can be compared: bytes and words have each their own way to add up squares.
+pub trait Compared: Stored {
+    // No square is larger.
+    ghost most_square: { ℕ };
+
+    // (a - b)²
+    fn square(self, other: Self) -> u32
+        ensures value { result ≡ square_of (Self.value self) (Self.value other) }
+        ensures upper_bound { result ≤ most_square };
+
+    // The sum over two rows, or that a sample is above sample_max.
+    fn row(a: &[Self], b: &[Self], depth: u32) -> Result<u64, Refusal>
+        requires { (length a.now ≡ length b.now) × (length a.now ≤ side_limit) × (depth ≤ most_depth Self.WIDE) }
+        ensures { result ≡ row_walked depth (map Self.value a.now) (map Self.value b.now) (length a.now) };
 }
 
-// (a - b)², of bytes and of words.
-#[tactic(auto, unfolding(crate::specs::Squared::square_of))]
-pub fn square8(a: u8, b: u8) -> u32
-    ensures { (result ≡ square_of a b) × (result ≤ word_most) }
-{
-    let d = if a < b { b - a } else { a - b };
-    (d as u32) * (d as u32)
+impl Compared for u8 {
+    ghost most_square = { word_most };
+
+    #[tactic(auto, unfolding(crate::specs::Squared::square_of))]
+    fn square(self, other: u8) -> u32 {
+        let d = u32::from(self.abs_diff(other));
+        d * d
+    }
+
+    #[tactic(auto, unfolding(crate::specs::Inner::Walk::row_walked))]
+    fn row(a: &[u8], b: &[u8], depth: u32) -> Result<u64, Refusal> {
+        if suit8(a, b, depth) {
+            Ok(u64::from(sum8(a, b)))
+        } else {
+            Err(Refusal::Sample)
+        }
+    }
 }
 
-#[tactic(auto, unfolding(crate::specs::Squared::square_of))]
-pub fn square16(a: u16, b: u16) -> u32
-    ensures { (result ≡ square_of a b) × (result ≤ word_most * word_most) }
-{
-    let d = if a < b { b - a } else { a - b };
-    (d as u32) * (d as u32)
+impl Compared for u16 {
+    ghost most_square = { word_most * word_most };
+
+    #[tactic(auto, unfolding(crate::specs::Squared::square_of))]
+    fn square(self, other: u16) -> u32 {
+        let d = u32::from(self.abs_diff(other));
+        d * d
+    }
+
+    fn row(a: &[u16], b: &[u16], depth: u32) -> Result<u64, Refusal> {
+        row16(a, b, depth)
+    }
 }
 
 // ---- bytes
@@ -45,9 +71,9 @@ fn part8(a: &[u8], b: &[u8]) -> u32
     ensures value { result ≡ squares_in a.now b.now (length a.now) }
     ensures upper_bound { result ≤ length a.now * word_most }
 {
-    let mut sum: u32 = 0;
-    for x in 0..a.len() {
-        sum += square8(a[x], b[x]);
+    let mut sum = 0;
+    for (p, q) in a.iter().zip(b) {
+        sum += p.square(*q);
     }
     sum
 }
@@ -58,14 +84,13 @@ fn sum8(a: &[u8], b: &[u8]) -> u32
     requires { (length a.now ≡ length b.now) × (length a.now ≤ side_limit) }
     ensures { result ≡ squares_in a.now b.now (length a.now) }
 {
-    let n = a.len();
-    let mut sum: u32 = 0;
-    let mut x: usize = 0;
-    while STRETCH <= n - x {
-        sum += part8(&a[x..x + STRETCH], &b[x..x + STRETCH]);
-        x += STRETCH;
+    let (whole_a, rest_a) = a.as_chunks::<STRETCH>();
+    let (whole_b, rest_b) = b.as_chunks::<STRETCH>();
+    let mut sum = 0;
+    for (p, q) in whole_a.iter().zip(whole_b) {
+        sum += part8(p, q);
     }
-    sum + part8(&a[x..n], &b[x..n])
+    sum + part8(rest_a, rest_b)
 }
 
 // Whether no sample of two rows of bytes is above sample_max. None can be at the largest depth of bytes, so those are not read.
@@ -78,37 +103,18 @@ fn suit8(a: &[u8], b: &[u8], depth: u32) -> bool
     if plane::BYTE_MAX <= max {
         return true;
     }
-    plane::row_suits8(a, max as u8) & plane::row_suits8(b, max as u8)
-}
-
-// What is found in two rows of bytes.
-#[tactic(auto, unfolding(crate::specs::Inner::Walk::row_walked))]
-fn row8(a: &[u8], b: &[u8], depth: u32) -> Walked
-    requires { (length a.now ≡ length b.now) × (length a.now ≤ side_limit) × (depth ≤ most_depth false) }
-    ensures { result ≡ row_walked depth a.now b.now (length a.now) }
-{
-    if !suit8(a, b, depth) {
-        return Walked::Above;
-    }
-    Walked::Sum(sum8(a, b) as u64)
+    plane::none_above(a, max as u8) && plane::none_above(b, max as u8)
 }
 
 // ---- words
 
 // How many squares fit 32 bits, where no sample has more bits than the depth.
-#[tactic(auto, using(crate::proofs::Parts::depth_half, crate::proofs::Parts::part_shifted))]
+#[tactic(auto, using(crate::proofs::Parts::part_shifted), unfolding(plane::specs::Limits::most_depth))]
 fn part_length(depth: u32) -> usize
     requires { depth ≤ most_depth true }
     ensures { result ≡ part_length depth }
 {
     1usize << (32 - 2 * depth)
-}
-
-// Of two places the nearer.
-fn least(a: usize, b: usize) -> usize
-    ensures { result ≡ min a b }
-{
-    if a < b { a } else { b }
 }
 
 // Of two parts of rows of words: the sum, modulo 2^32, and every bit that is in some sample.
@@ -125,77 +131,48 @@ fn part16(a: &[u16], b: &[u16]) -> Part
     ensures sum_value { result.sum ≡ squares_in a.now b.now (length a.now) % 2 ^ 32 }
     ensures bits_value { result.bits ≡ bits_in a.now b.now (length a.now) }
 {
-    let mut sum: u32 = 0;
-    let mut bits: u16 = 0;
-    for x in 0..a.len() {
-        let p = a[x];
-        let q = b[x];
-        sum = std::num::wrapping_add_u32(sum, square16(p, q));
-        bits = bits | (p | q);
+    let mut sum = 0u32;
+    let mut bits = 0u16;
+    for (p, q) in a.iter().zip(b) {
+        sum = sum.wrapping_add(p.square(*q));
+        bits |= *p | *q;
     }
     Part { sum, bits }
 }
 
-// What is found in two rows of words, part by part.
-#[tactic(auto, unfolding(crate::specs::Inner::Walk::row_walked))]
-fn row16(a: &[u16], b: &[u16], depth: u32) -> Walked
+// The sum over two rows of words, part by part, or that a sample is above sample_max.
+#[tactic(auto, using(plane::proofs::Depth::depth_small, crate::proofs::Parts::part_some), unfolding(crate::specs::Inner::Walk::row_walked))]
+fn row16(a: &[u16], b: &[u16], depth: u32) -> Result<u64, Refusal>
     requires { (length a.now ≡ length b.now) × (length a.now ≤ side_limit) × (depth ≤ most_depth true) }
     ensures { result ≡ row_walked depth a.now b.now (length a.now) }
 {
     let max = plane::sample_max(depth);
-    let part = part_length(depth);
-    let mut sum: u64 = 0;
-    let mut x: usize = 0;
-    while x < a.len() {
-        let end = least(x + part, a.len());
-        let found = part16(&a[x..end], &b[x..end]);
-        if (found.bits as u32) > max {
-            return Walked::Above;
+    let size = part_length(depth);
+    let mut sum = 0u64;
+    for (p, q) in a.chunks(size).zip(b.chunks(size)) {
+        let found = part16(p, q);
+        if u32::from(found.bits) > max {
+            return Err(Refusal::Sample);
         }
-        sum += found.sum as u64;
-        x = end;
+        sum += u64::from(found.sum);
     }
-    Walked::Sum(sum)
+    Ok(sum)
 }
 
 // ---- planes
 
-// What is found in row y.
-fn row(a8: &[u8], a16: &[u16], b8: &[u8], b16: &[u16], layout: Layout, y: usize) -> Walked
-    requires readable { Readable (planes layout a8 a16 b8 b16) }
-    requires y_lt_height { y < layout.size.height }
-    ensures { result ≡ walked_at (planes layout a8.entry a16.entry b8.entry b16.entry) y }
+// The sum over all rows, or that a sample is above sample_max; no row is read after one in which a sample is.
+pub fn rows<S: Compared>(p: Pair<'_, S>) -> Result<u64, Refusal>
+    requires { Readable (planes S.Sample.value S.WIDE p) }
+    ensures { result ≡ walked_of (planes S.Sample.value S.WIDE p.entry) }
 {
-    let width = layout.size.width;
-    let depth = layout.size.depth;
-    let stride_a = layout.stride_a;
-    let stride_b = layout.stride_b;
-    let from_a = y * stride_a;
-    let from_b = y * stride_b;
-    let end_a = from_a + width;
-    let end_b = from_b + width;
-    if layout.size.wide {
-        row16(&a16[from_a..end_a], &b16[from_b..end_b], depth)
-    } else {
-        row8(&a8[from_a..end_a], &b8[from_b..end_b], depth)
+    let width = p.format.width;
+    let mut sum = 0u64;
+    // by index: a row begins at y times each plane's own stride
+    for y in 0..p.format.height {
+        let first = plane::row(p.a, width, y);
+        let second = plane::row(p.b, width, y);
+        sum += S::row(first, second, p.format.depth)?;
     }
-}
-
-// What is found in all rows; no row is read after one in which a sample is above sample_max.
-pub fn rows(a8: &[u8], a16: &[u16], b8: &[u8], b16: &[u16], layout: Layout) -> Walked
-    requires { Readable (planes layout a8 a16 b8 b16) }
-    ensures { result ≡ walked_of (planes layout a8.entry a16.entry b8.entry b16.entry) }
-{
-    let mut sum: u64 = 0;
-    for y in 0..layout.size.height {
-        match row(a8, a16, b8, b16, layout, y) {
-            Walked::Sum(error) => {
-                sum += error;
-            }
-            Walked::Above => {
-                return Walked::Above;
-            }
-        }
-    }
-    Walked::Sum(sum)
+    Ok(sum)
 }

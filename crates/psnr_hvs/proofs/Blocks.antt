@@ -1,17 +1,20 @@
 -- The blocks of a plane: where they begin, how large their numbers are, and one more of them. Assumes nothing.
-use mathlib.Core.Path.{◌≡◌, refl, sym, ◌∙◌}
+use mathlib.Core.Path.{◌≡◌, refl, sym, ap, ◌∙◌}
 use mathlib.Core.Bool.{Bool, true, false}
-use mathlib.Core.List.{List, [], ◌∷◌, ◌++◌}
-use Prim.Native.Nat.{ℕ, zero, suc, ◌+◌, ◌-◌, ◌*◌, ◌/◌, ◌%◌, ◌≤◌, ◌<◌}
+use mathlib.Core.List.{List, [], ◌∷◌, ◌++◌, map}
+use Prim.Native.Nat.{ℕ, zero, suc, ◌+◌, ◌-◌, ◌*◌, ◌/◌, ◌%◌, ◌≤◌, ◌<◌, ◌^◌}
 use native.Mathlib.Omega.{arith}
 use borrow.Author.Tests.{lt-ltb, le-ltb, ltb-true, ltb-false}
-use lib.Dec.{ltb}
+use native.Mathlib.Nat.{le_trans, lt_of_le_of_lt, mul-le-mul_left}
+use lib.Dec.{ltb, lit<}
 use lib.IntN.{ℤ}
-use lib.ListN.{length}
+use lib.ListN.{length, get_or}
 use lib.Ieee.{Float}
-use Rattle.plane.specs.declared.Size.{Size}
-use Rattle.plane.specs.Plane.{Plane, Planes, sample_limit}
+use Rattle.plane.specs.Plane.{Size, Plane, Planes, at, sample_at, sample_limit}
 use Rattle.plane.specs.Inner.Lawful.{Bounded}
+use Rattle.plane.proofs.All.{at_value}
+use Rattle.plane.proofs.Rows.{inside}
+use Rattle.hvs_block.proofs.Numbers.{limit_small}
 use Rattle.number.specs.Steps.{list_to}
 use Rattle.number.proofs.Folds.{fold_more}
 use Rattle.number.proofs.Lists.{list_length}
@@ -54,6 +57,29 @@ unfolding block_at
 block_samples size p x y h i =
     samples_list (sample_in p x y) block_size
     (λ (k : ℕ) (l : k < block_size). record { above = tt; small = h.small (y + k / block_side) (x + k % block_side) (omega arith) (omega arith) })
+
+-- the plane as far as a block that ends inside it
+pub block_bounded : {size : Size} {p : Plane} {x y : ℕ} → Bounded sample_limit size.width size.height p → BlockFits size x y
+    → Bounded sample_limit (x + block_side) (y + block_side) p
+block_bounded {size} {p} {x} {y} h i =
+    let rows : p.stride * (y + block_side - 1) ≤ p.stride * (size.height - 1) = mul-le-mul_left p.stride (omega (arith, i.down)) in
+    record {
+      long = omega (arith, h.long, rows, i.across);
+      small = λ r c lr lc. h.small r c (omega (arith, i.down, lr)) (omega (arith, i.across, lc));
+    }
+
+-- place k of it
+module _ {p : Plane} (x y k : ℕ) (b : Bounded sample_limit (x + block_side) (y + block_side) p) (l : k < 64) where
+  pub place_inside : (y + k / 8) * p.stride + (x + k % 8) < length p.samples
+  place_inside = inside p.stride b.long (omega arith) (omega arith)
+
+  pub place_small : sample_at p (y + k / 8) (x + k % 8) < 2 ^ 31
+  place_small = lt_of_le_of_lt (le_trans (b.small (y + k / 8) (x + k % 8) (omega arith) (omega arith)) limit_small) (lit< tt)
+
+-- what a read of a sample gives
+pub place_read : {S : Type 0} (value : S → ℕ) (samples : List S) {v : ℕ} {x : S} (i : ℕ) → x ≡ get_or samples i x → v ≡ value (get_or samples i x)
+    → i < length samples → v ≡ at (map value samples) i
+place_read value samples i e w l = w ∙ ap value (sym e) ∙ sym (at_value value samples i e l)
 
 -- ---- one more block, and one more row of them
 module _ (p : Planes) (csf mask : List (List Float)) where

@@ -1,37 +1,36 @@
 -- Padding is never read: the score, and the whole answer, are the same for planes whose visible samples agree. Assumes nothing.
 use mathlib.Core.Path.{◌≡◌, refl, ap}
 use mathlib.Core.List.{List}
-use Prim.Native.Nat.{ℕ, zero, suc, ◌+◌, ◌*◌, ◌/◌, ◌%◌, ◌≤◌}
+use Prim.Native.Nat.{ℕ, ◌+◌, ◌*◌, ◌/◌, ◌%◌, ◌≤◌}
 use native.Mathlib.Omega.{arith}
 use lib.IntN.{pos}
 use lib.Ieee.{Float}
 use lib.Ieee.Scale.{finite}
-use Rattle.refusal.specs.First.{by_refusal}
+use Rattle.std.specs.Prelude.{Result, Ok, Err}
+use Rattle.refusal.specs.declared.Refusal.{Refusal}
+use Rattle.refusal.specs.First.{Verdict, unless_refused}
 use Rattle.number.specs.Steps.{◌⊘◌, double}
 use Rattle.number.proofs.Folds.{fold_ext}
 use Rattle.number.proofs.Lists.{list_ext}
-use Rattle.plane.specs.declared.Size.{Size}
-use Rattle.plane.specs.Plane.{Plane, planes_of, both, max_of}
+use Rattle.plane.specs.Plane.{Size, Plane, planes_of, both, max_of}
 use Rattle.plane.specs.Inner.Lawful.{Alike, Equivalent}
 use Rattle.plane.proofs.Exchange.{refusal_equivalent}
-use Rattle.plane.proofs.Several.{planes_say}
+use Rattle.plane.proofs.Accept.{accepted}
 use Rattle.dct.specs.Limits.{block_side, block_size}
 use Rattle.hvs_block.specs.Tables.{csf_of, masks_of}
 use Rattle.hvs_block.specs.declared.Kind.{Kind}
-use Rattle.psnr_hvs.specs.declared.Hvs.{Hvs}
-use Rattle.psnr_hvs.specs.declared.Hvs.TheVariants.{Refused}
 use Rattle.psnr_hvs.specs.Score.{block_step, blocks_per_side, sample_in, block_at, along_row, down_rows}
 use Rattle.psnr_hvs.specs.Score.{hvs_refusal, hvs_score, score_or9, hvs_of}
 use Rattle.psnr_hvs.proofs.Blocks.{ends}
 
--- the answer of a refusal's number and a score
-abbrev answered : ℕ → Float → Hvs
-answered n s = by_refusal n (score_or9 (finite s) s) (Refused n)
+-- the answer of a verdict and a score
+abbrev answered : Verdict → Float → Result Float Refusal
+answered v s = unless_refused v (score_or9 (finite s) s)
 
--- the score counts where the number is 0
-answered_ext : (n : ℕ) (s t : Float) → (n ≡ 0 → s ≡ t) → answered n s ≡ answered n t
-answered_ext zero s t h = ap (answered 0) (h refl)
-answered_ext (suc n) s t h = refl
+-- the score counts where nothing is refused
+answered_ext : (v : Verdict) (s t : Float) → (v ≡ Ok tt → s ≡ t) → answered v s ≡ answered v t
+answered_ext (Ok tt) s t h = ap (answered (Ok tt)) (h refl)
+answered_ext (Err r) s t h = refl
 
 module _ (size : Size) where
   -- a block that ends inside its plane
@@ -69,5 +68,5 @@ module _ (size : Size) where
       let q' = planes_of size a' b' in
       rw (refusal_equivalent size block_side p q)
       (answered_ext (hvs_refusal q') (hvs_score (planes_of size a b) kind) (hvs_score q' kind) (λ z.
-      let c = planes_say size (both q') block_side refl z in
+      let c = accepted size (both q') block_side z in
       score_visible kind a b a' b' c.sized.width_reaches c.sized.height_reaches p.alike q.alike))

@@ -1,8 +1,9 @@
 -- SCOPE, "HVS, SSIM and scales", HVS: the blocks of two planes, the score, and the answer. Definitions only.
-use Rattle.std.specs.Prelude.{Bool, true, false, List, ℕ, ◌+◌, ◌-◌, ◌*◌, ◌/◌, ◌%◌, ℤ, pos, Float}
+use Rattle.std.specs.Prelude.{Bool, true, false, List, ℕ, ◌+◌, ◌-◌, ◌*◌, ◌/◌, ◌%◌, ℤ, pos, Float, Result, Ok, Err}
 use Rattle.std.specs.Float.Ieee.Scale.{finite}
-use Rattle.refusal.specs.Numbers.{not_finite_no}
-use Rattle.refusal.specs.First.{by_refusal}
+use Rattle.refusal.specs.declared.Refusal.{Refusal}
+use Rattle.refusal.specs.declared.Refusal.TheVariants.{NotFinite}
+use Rattle.refusal.specs.First.{Verdict, unless_refused}
 use Rattle.plane.specs.Plane.{Plane, Planes, sample_at, max_of}
 use Rattle.plane.specs.Tests.{pair_refusal}
 use Rattle.number.specs.Steps.{fold_to, list_to, ◌⊘◌, double}
@@ -11,8 +12,6 @@ use Rattle.dct.specs.Limits.{block_side, block_size}
 use Rattle.hvs_block.specs.Tables.{csf_of, masks_of}
 use Rattle.hvs_block.specs.Block.{with_block}
 use Rattle.hvs_block.specs.declared.Kind.{Kind}
-use Rattle.psnr_hvs.specs.declared.Hvs.{Hvs}
-use Rattle.psnr_hvs.specs.declared.Hvs.TheVariants.{Score, Refused}
 
 -- the step from one block to the next
 abbrev pub block_step : ℕ
@@ -52,17 +51,14 @@ hvs_score p kind =
 -- ---- the answer
 
 -- the lowest of 1 to 6 that applies: 3 by the side of a block
-abbrev pub hvs_refusal : Planes → ℕ
+abbrev pub hvs_refusal : Planes → Verdict
 hvs_refusal p = pair_refusal p block_side
 
 -- 9 where the score is not finite
-abbrev pub score_or9 : Bool → Float → Hvs
-score_or9 true s = Score s
-score_or9 false s = Refused not_finite_no
+abbrev pub score_or9 : Bool → Float → Result Float Refusal
+score_or9 true s = Ok s
+score_or9 false s = Err NotFinite
 
 -- the lowest of 1 to 6 that applies; where none does the score, or 9
-unfoldable pub hvs_of : Planes → Kind → Hvs
-hvs_of p kind =
-    let n = hvs_refusal p in
-    let s = hvs_score p kind in
-    by_refusal n (score_or9 (finite s) s) (Refused n)
+unfoldable pub hvs_of : Planes → Kind → Result Float Refusal
+hvs_of p kind = let s = hvs_score p kind in unless_refused (hvs_refusal p) (score_or9 (finite s) s)

@@ -4,27 +4,22 @@
 mod block;
 
 // A caller names the kind of a plane as `psnr_hvs::Kind`.
-ghost use Rattle.std.specs.Prelude.{◌≡◌, true, false, ◌+◌, ◌≤◌};
-ghost use Rattle.plane.specs.Plane.{called, sample_limit};
-ghost use Rattle.plane.specs.Inner.Lent.{planes};
+ghost use Rattle.std.specs.Prelude.{◌≡◌, ◌+◌, ◌≤◌};
+ghost use Rattle.plane.specs.Plane.{sample_limit};
+ghost use Rattle.plane.specs.Inner.Seen.{planes};
 ghost use Rattle.plane.specs.Inner.Lawful.{BoundedPair, AcceptedPair};
 ghost use Rattle.dct.specs.Limits.{block_side};
 ghost use Rattle.psnr_hvs.specs.Score.{blocks_per_side, along_row, down_rows};
-ghost use Rattle.psnr_hvs.specs.Score.{hvs_refusal, hvs_score, hvs_of};
+ghost use Rattle.psnr_hvs.specs.Score.{hvs_score, hvs_of};
 
 use dct::{BLOCK_SIDE, BLOCK_SIZE};
 pub use hvs_block::Kind;
-use plane::{Layout, Size};
+use hvs_block::tables::Tables;
+use plane::{Pair, Stored};
+use refusal::Refusal;
 
 // The step from one block to the next.
 const STEP: usize = 7;
-
-// What asking for a score answers.
-#[derive(Clone, Copy)]
-pub enum Hvs {
-    Score(f64),
-    Refused(u8),
-}
 
 // How many blocks stand beside each other on a side.
 fn blocks_per_side(side: usize) -> usize
@@ -34,141 +29,60 @@ fn blocks_per_side(side: usize) -> usize
     (side - BLOCK_SIDE) / STEP + 1
 }
 
-// One row of blocks, which begins at row y of the planes, added to `res`.
-fn along_row(
-    a8: &[u8],
-    a16: &[u16],
-    b8: &[u8],
-    b16: &[u16],
-    layout: Layout,
-    y: usize,
-    csf: &[[f64; BLOCK_SIDE]; BLOCK_SIDE],
-    mask: &[[f64; BLOCK_SIDE]; BLOCK_SIDE],
-    res: f64,
-) -> f64
-    requires block_side_le_width { (block_side ≤ layout.size.width) × (y + block_side ≤ layout.size.height) }
-    requires bounded_pair { BoundedPair sample_limit (planes layout a8 a16 b8 b16) }
-    ensures { result ≡ along_row (planes layout a8.entry a16.entry b8.entry b16.entry) y
-        csf.now mask.now res (blocks_per_side layout.size.width) }
+// One row of blocks, which begins at row y of the planes, added to `so_far`.
+fn along_row<S: Stored>(p: Pair<'_, S>, y: usize, tables: &Tables, so_far: f64) -> f64
+    requires block_side_le_width { (block_side ≤ p.format.width) × (y + block_side ≤ p.format.height) }
+    requires bounded_pair { BoundedPair sample_limit (planes S.Sample.value S.WIDE p) }
+    ensures { result ≡ along_row (planes S.Sample.value S.WIDE p.entry) y
+        tables.now.csf tables.now.mask so_far (blocks_per_side p.entry.format.width) }
 {
-    let n = blocks_per_side(layout.size.width);
-    let mut s = res;
+    let n = blocks_per_side(p.format.width);
+    let mut s = so_far;
+    // by number: a block stands seven samples after the one before, and no list holds them
     for x in 0..n {
-        s = block::block_at(a8, a16, b8, b16, layout, STEP * x, y, csf, mask, s);
+        s = block::block_at(p, STEP * x, y, tables, s);
     }
     s
 }
 
 // Every row of blocks.
-fn down_rows(
-    a8: &[u8],
-    a16: &[u16],
-    b8: &[u8],
-    b16: &[u16],
-    layout: Layout,
-    csf: &[[f64; BLOCK_SIDE]; BLOCK_SIDE],
-    mask: &[[f64; BLOCK_SIDE]; BLOCK_SIDE],
-) -> f64
-    requires block_side_le_width { (block_side ≤ layout.size.width) × (block_side ≤ layout.size.height) }
-    requires bounded_pair { BoundedPair sample_limit (planes layout a8 a16 b8 b16) }
-    ensures { result ≡ down_rows (planes layout a8.entry a16.entry b8.entry b16.entry)
-        csf.now mask.now (blocks_per_side layout.size.height) }
+fn down_rows<S: Stored>(p: Pair<'_, S>, tables: &Tables) -> f64
+    requires block_side_le_width { (block_side ≤ p.format.width) × (block_side ≤ p.format.height) }
+    requires bounded_pair { BoundedPair sample_limit (planes S.Sample.value S.WIDE p) }
+    ensures { result ≡ down_rows (planes S.Sample.value S.WIDE p.entry)
+        tables.now.csf tables.now.mask (blocks_per_side p.entry.format.height) }
 {
-    let n = blocks_per_side(layout.size.height);
+    let n = blocks_per_side(p.format.height);
     let mut s = 0.0;
+    // by number: as in `along_row`
     for y in 0..n {
-        s = along_row(a8, a16, b8, b16, layout, STEP * y, csf, mask, s);
+        s = along_row(p, STEP * y, tables, s);
     }
     s
 }
 
-// The lowest of 1 to 6 that applies, or 0.
-fn refusal(a8: &[u8], a16: &[u16], b8: &[u8], b16: &[u16], layout: Layout) -> u8
-    ensures { result ≡ hvs_refusal (planes layout a8.entry a16.entry b8.entry b16.entry) }
-{
-    plane::check(a8, a16, b8, b16, layout, BLOCK_SIDE)
-}
-
 // The score of two planes that no test refuses.
-fn score(a8: &[u8], a16: &[u16], b8: &[u8], b16: &[u16], layout: Layout, kind: Kind) -> f64
-    requires { AcceptedPair (planes layout a8 a16 b8 b16) block_side }
-    ensures { result ≡ hvs_score (planes layout a8.entry a16.entry b8.entry b16.entry) kind }
+fn score<S: Stored>(p: Pair<'_, S>, kind: Kind) -> f64
+    requires { AcceptedPair (planes S.Sample.value S.WIDE p) block_side }
+    ensures { result ≡ hvs_score (planes S.Sample.value S.WIDE p.entry) kind }
 {
-    let csf = hvs_block::tables::csf_of(kind);
-    let mask = hvs_block::tables::masks(csf);
-    let sum = down_rows(a8, a16, b8, b16, layout, &csf, &mask);
-    let blocks = (blocks_per_side(layout.size.width) * blocks_per_side(layout.size.height)) as u64;
-    let max = plane::sample_max(layout.size.depth) as u64;
+    let tables = hvs_block::tables::tables_of(kind);
+    let sum = down_rows(p, &tables);
+    let blocks = (blocks_per_side(p.format.width) * blocks_per_side(p.format.height)) as u64;
+    let max = plane::sample_max(p.format.depth) as u64;
     sum / number::exact(BLOCK_SIZE as u64 * blocks) / number::exact(max * max)
 }
 
-// The answer for two planes of either width.
+// The score of two planes, or the lowest refusal that applies.
 #[tactic(auto, unfolding(crate::specs::Score::hvs_of))]
-fn answer(a8: &[u8], a16: &[u16], b8: &[u8], b16: &[u16], layout: Layout, kind: Kind) -> Hvs
-    ensures { result ≡ hvs_of (planes layout a8.entry a16.entry b8.entry b16.entry) kind }
+pub fn psnr_hvs<S: Stored>(p: Pair<'_, S>, kind: Kind) -> Result<f64, Refusal>
+    ensures { result ≡ hvs_of (planes S.Sample.value S.WIDE p.entry) kind }
 {
-    let no = refusal(a8, a16, b8, b16, layout);
-    if no != 0 {
-        return Hvs::Refused(no);
-    }
-    let s = score(a8, a16, b8, b16, layout, kind);
+    plane::check(p, BLOCK_SIDE)?;
+    let s = score(p, kind);
     if number::finite(s) {
-        Hvs::Score(s)
+        Ok(s)
     } else {
-        Hvs::Refused(refusal::NOT_FINITE)
+        Err(Refusal::NotFinite)
     }
-}
-
-// The score of two planes of bytes, or the lowest refusal that applies.
-pub fn psnr_hvs8(
-    a: &[u8],
-    b: &[u8],
-    width: usize,
-    height: usize,
-    stride_a: usize,
-    stride_b: usize,
-    depth: u32,
-    kind: Kind,
-) -> Hvs
-    ensures { result ≡ hvs_of (called false a.entry b.entry width height stride_a stride_b depth) kind }
-{
-    let size = Size {
-        wide: false,
-        width,
-        height,
-        depth,
-    };
-    let layout = Layout {
-        size,
-        stride_a,
-        stride_b,
-    };
-    answer(a, &[0u16; 0], b, &[0u16; 0], layout, kind)
-}
-
-// The same of words.
-pub fn psnr_hvs16(
-    a: &[u16],
-    b: &[u16],
-    width: usize,
-    height: usize,
-    stride_a: usize,
-    stride_b: usize,
-    depth: u32,
-    kind: Kind,
-) -> Hvs
-    ensures { result ≡ hvs_of (called true a.entry b.entry width height stride_a stride_b depth) kind }
-{
-    let size = Size {
-        wide: true,
-        width,
-        height,
-        depth,
-    };
-    let layout = Layout {
-        size,
-        stride_a,
-        stride_b,
-    };
-    answer(&[0u8; 0], a, &[0u8; 0], b, layout, kind)
 }

@@ -1,11 +1,11 @@
--- Laws of `first_broken`, and of a chain of tests in code that returns the first number whose test fails. Assumes nothing.
+-- Laws of `first_broken`, and of a chain of tests in code that returns the first refusal whose test fails. Assumes nothing.
 use mathlib.Core.Path.{◌≡◌, refl, sym, ◌∙◌}
 use mathlib.Core.Bool.{Bool, true, false, not, ◌&&◌}
 use mathlib.Core.List.{List, [], ◌∷◌, ◌++◌}
-use Prim.Native.Nat.{ℕ, zero, suc, ◌≤◌}
-use native.Mathlib.Omega.{arith}
 use borrow.Author.Tests.{not-true, not-false}
-use Rattle.refusal.specs.First.{first_broken, by_refusal}
+use Rattle.std.specs.Prelude.{Ok, Err}
+use Rattle.refusal.specs.declared.Refusal.{Refusal}
+use Rattle.refusal.specs.First.{Verdict, first_broken, unless_refused}
 
 -- ---- two tests that both passed
 pub and_left : (a b : Bool) → (a && b) ≡ true → a ≡ true
@@ -24,51 +24,36 @@ pub holds : {r b : Bool} → r ≡ b → not r ≡ false → b ≡ true
 holds {r} e h = sym e ∙ not-false r h
 
 -- ---- lists of tests
--- no test has the number 0, which says that none is broken
-abbrev pub Named : List (ℕ × Bool) → Type 0
-Named [] = Unit {0}
-Named (t ∷ later) = (1 ≤ t.0) × Named later
-
 -- every test passed
-abbrev pub Passed : List (ℕ × Bool) → Type 0
+abbrev pub Passed : List (Refusal × Bool) → Type 0
 Passed [] = Unit {0}
 Passed (t ∷ later) = (t.1 ≡ true) × Passed later
 
-pub passed : (ts : List (ℕ × Bool)) → Named ts → first_broken ts ≡ 0 → Passed ts
-passed [] named e = tt
-passed ((n, true) ∷ later) named e = (refl, passed later named.1 e)
-passed ((n, false) ∷ later) named e = absurd (omega (arith, named.0, e))
+pub passed : (ts : List (Refusal × Bool)) → first_broken ts ≡ Ok tt → Passed ts
+passed [] e = tt
+passed ((r, true) ∷ later) e = (refl, passed later e)
+passed ((r, false) ∷ later) e = cc
 
-pub none_broken : (ts : List (ℕ × Bool)) → Passed ts → first_broken ts ≡ 0
+pub none_broken : (ts : List (Refusal × Bool)) → Passed ts → first_broken ts ≡ Ok tt
 none_broken [] p = refl
-none_broken ((n, b) ∷ later) p = rw p.0 (none_broken later p.1)
+none_broken ((r, b) ∷ later) p = rw p.0 (none_broken later p.1)
 
--- a call's tests go on after those of another call, which answered n
-rest : (ts more : List (ℕ × Bool)) → Named ts → first_broken ts ≡ 0 → first_broken (ts ++ more) ≡ first_broken more
-rest [] more named e = refl
-rest ((n, true) ∷ later) more named e = rest later more named.1 e
-rest ((n, false) ∷ later) more named e = absurd (omega (arith, named.0, e))
-
-head : (ts more : List (ℕ × Bool)) → (first_broken ts ≡ 0 → ⊥) → first_broken ts ≡ first_broken (ts ++ more)
-head [] more h = absurd (h refl)
-head ((n, true) ∷ later) more h = head later more h
-head ((n, false) ∷ later) more h = refl
+-- a call's tests go on after those of another call: the verdict of the second where the first passed, and that of the first where not
+pub together : (ts more : List (Refusal × Bool)) → first_broken (ts ++ more) ≡ unless_refused (first_broken ts) (first_broken more)
+together [] more = refl
+together ((r, true) ∷ later) more = together later more
+together ((r, false) ∷ later) more = refl
 
 -- neither list has a broken test where the two together have none
-pub halves : (ts more : List (ℕ × Bool)) → Named ts → first_broken (ts ++ more) ≡ 0 → (first_broken ts ≡ 0) × (first_broken more ≡ 0)
-halves [] more named e = (refl, e)
-halves ((n, true) ∷ later) more named e = halves later more named.1 e
-halves ((n, false) ∷ later) more named e = absurd (omega (arith, named.0, e))
+pub halves : (ts more : List (Refusal × Bool)) → first_broken (ts ++ more) ≡ Ok tt → (first_broken ts ≡ Ok tt) × (first_broken more ≡ Ok tt)
+halves [] more e = (refl, e)
+halves ((r, true) ∷ later) more e = halves later more e
+halves ((r, false) ∷ later) more e = cc
 
 -- it refused: that is the answer
-pub stop : {n : ℕ} (ts more : List (ℕ × Bool)) → n ≡ first_broken ts → (n ≡ 0 → ⊥) → n ≡ first_broken (ts ++ more)
-stop ts more e h = e ∙ head ts more (λ z. h (e ∙ z))
+pub stop : {r : Refusal} (ts more : List (Refusal × Bool)) → first_broken ts ≡ Err r → first_broken (ts ++ more) ≡ Err r
+stop ts more e = together ts more ∙ rw e refl
 
 -- it did not: the answer is that of the other tests
-pub go_on : {n m : ℕ} (ts more : List (ℕ × Bool)) → Named ts → n ≡ first_broken ts → n ≡ 0 → m ≡ first_broken more → m ≡ first_broken (ts ++ more)
-go_on ts more named e z f = f ∙ sym (rest ts more named (sym e ∙ z))
-
--- ---- a refused call gives, and leaves, what it does where it refuses
-pub refused : {A : Type 0} (n : ℕ) (a r : A) → (n ≡ 0 → ⊥) → r ≡ by_refusal n a r
-refused zero a r h = absurd (h refl)
-refused (suc n) a r h = refl
+pub go_on : {v : Verdict} (ts more : List (Refusal × Bool)) → first_broken ts ≡ Ok tt → v ≡ first_broken more → v ≡ first_broken (ts ++ more)
+go_on ts more e f = f ∙ sym (together ts more ∙ rw e refl)

@@ -19,10 +19,11 @@ pub fn put(i: usize, a: u32, b: u32, s: &mut [i64])
 fn plain(z: i64) -> u64
     ensures { result ≡ plain_of z }
 {
-    if z < 0 { 0 } else { z as u64 }
+    z.max(0) as u64
 }
 
 // The first of the pair at place i.
+#[tactic(auto, unfolding(crate::specs::Ring::pair_base))]
 pub fn first(s: &[i64], i: usize) -> u64
     requires { i < length s.now }
     ensures { result ≡ first_of (at_z s.now i) }
@@ -31,6 +32,7 @@ pub fn first(s: &[i64], i: usize) -> u64
 }
 
 // The second.
+#[tactic(auto, unfolding(crate::specs::Ring::pair_base))]
 pub fn second(s: &[i64], i: usize) -> u64
     requires { i < length s.now }
     ensures { result ≡ second_of (at_z s.now i) }

@@ -1,25 +1,24 @@
--- What holds where no test of a call refuses, and which number it gives where one does. Assumes nothing.
-use mathlib.Core.Path.{◌≡◌, refl, sym, ◌∙◌}
+-- The verdict of each call in parts, and what holds where no test refuses. Assumes nothing.
+use mathlib.Core.Path.{◌≡◌, refl, sym, ap}
 use mathlib.Core.Bool.{Bool, true, false, ◌&&◌, ◌||◌, and-true}
 use mathlib.Core.List.{List, [], ◌∷◌}
 use Prim.Native.Nat.{ℕ, ◌+◌, ◌≤◌, ◌<◌}
 use native.Mathlib.Nat.{mul_comm, mul_assoc}
 use native.Mathlib.Omega.{arith}
-use borrow.Author.Tests.{leb-true, le-leb, lt-leb, eqb-true, ne_eqb}
-use lib.Dec.{lit≤, eqb, leb}
+use borrow.Author.Tests.{leb-true, eqb-true, ne_eqb}
+use lib.Dec.{eqb, leb}
 use lib.ListN.{length}
 use lib.Seq.{length-take-le}
-use Rattle.refusal.specs.Numbers.{kernel_no, scratch_no, state_no, stride_no}
-use Rattle.refusal.specs.First.{first_broken, unless}
-use Rattle.refusal.proofs.Chain.{and_left, and_right, Named, passed, stop, go_on}
+use Rattle.std.specs.Prelude.{Ok}
+use Rattle.refusal.specs.declared.Refusal.TheVariants as no
+use Rattle.refusal.specs.First.{first_broken, unless, unless_refused, lower_of}
+use Rattle.refusal.proofs.Chain.{and_left, and_right, passed, together}
 use Rattle.plane.specs.Limits.{side_limit}
-use Rattle.plane.specs.declared.Size.{Size}
-use Rattle.plane.specs.Plane.{Plane, Planes, both, every, all_to}
+use Rattle.plane.specs.Plane.{Size, Plane, Planes, both, every, all_to}
 use Rattle.plane.specs.Tests.{depth_suits, sides_suit, stride_suits, long_enough, samples_suit, size_tests, layout_tests}
-use Rattle.plane.specs.Inner.Lent.{lower_of}
 use Rattle.plane.proofs.Accept.{sides_say, long_says}
 use Rattle.plane.proofs.Depth.{depth_says, depth_small}
-use Rattle.plane.proofs.Several.{one_more, sizes_stop, sizes_pass}
+use Rattle.plane.proofs.Several.{one_more}
 use Rattle.kernel.specs.Kernel.{lawful, lent_total}
 use Rattle.kernel.proofs.Says.{kernel_says, lent_total_lem}
 use Rattle.window.proofs.Serves.{kernel_serves}
@@ -85,29 +84,17 @@ module _ (wide : Bool) (s : State) (e : possible wide s ≡ true) where
         used_few = omega (arith, columns, count, mul_assoc 6 s.width (next_power s.taps), mul_comm s.width (next_power s.taps));
       }
 
--- ---- begin: 7 and 8, after what the planes will share
-module _ (size : Size) (ker : List ℕ) (lent : ℕ) {n : ℕ} (e : n ≡ first_broken (size_tests size 0)) where
-  pub size_refuses : (n ≡ 0 → ⊥) → n ≡ begin_refusal size ker lent
-  unfolding begin_tests
-  size_refuses h = sizes_stop size 0 e (lent_tests size.width ker lent) h
-
-  pub kernel_refuses : n ≡ 0 → lawful lent_total ker ≡ false → kernel_no ≡ begin_refusal size ker lent
-  unfolding begin_tests lent_tests
-  kernel_refuses z f = sizes_pass size 0 e (lent_tests size.width ker lent) z (rw f)
-
-  pub scratch_refuses : n ≡ 0 → lawful lent_total ker ≡ true → lent < scratch_places size.width (length ker) → scratch_no ≡ begin_refusal size ker lent
-  unfolding begin_tests lent_tests
-  scratch_refuses z f l = sizes_pass size 0 e (lent_tests size.width ker lent) z (rw (f, lt-leb _ _ l))
-
-  pub none_refuses : n ≡ 0 → lawful lent_total ker ≡ true → scratch_places size.width (length ker) ≤ lent → 0 ≡ begin_refusal size ker lent
-  unfolding begin_tests lent_tests
-  none_refuses z f l = sizes_pass size 0 e (lent_tests size.width ker lent) z (rw (f, le-leb _ _ l))
+-- ---- begin: the verdict of what the planes will share, then 7 and 8
+pub begin_in_parts : (size : Size) (ker : List ℕ) (lent : ℕ) → begin_refusal size ker lent
+    ≡ unless_refused (first_broken (size_tests size 0)) (first_broken (lent_tests size.width ker lent))
+unfolding begin_tests
+begin_in_parts size ker lent = together (size_tests size 0) (lent_tests size.width ker lent)
 
 -- sides that pass are not too large
-pub sides_few : (size : Size) → first_broken (size_tests size 0) ≡ 0 → size.width ≤ side_limit
+pub sides_few : (size : Size) → first_broken (size_tests size 0) ≡ Ok tt → size.width ≤ side_limit
 unfolding size_tests
 sides_few size z =
-    let t = passed (size_tests size 0) (lit≤ tt, (lit≤ tt, (lit≤ tt, tt))) z in
+    let t = passed (size_tests size 0) z in
     (sides_say size.width size.height t.1.0).0.1
 
 -- none of them refuses
@@ -117,16 +104,16 @@ pub record Begun (size : Size) (ker : List ℕ) (lent : ℕ) : Type 0 where
   pub kernel : lawful lent_total ker ≡ true
   pub lent_enough : scratch_places size.width (length ker) ≤ lent
 
-pub begun : (size : Size) (ker : List ℕ) (lent : ℕ) {n : ℕ} → n ≡ begin_refusal size ker lent → n ≡ 0 → Begun size ker lent
+pub begun : (size : Size) (ker : List ℕ) (lent : ℕ) → begin_refusal size ker lent ≡ Ok tt → Begun size ker lent
 unfolding begin_tests size_tests lent_tests
-begun size ker lent e z =
-    let t = passed (begin_tests size ker lent) (lit≤ tt, (lit≤ tt, (lit≤ tt, (lit≤ tt, (lit≤ tt, tt))))) (sym e ∙ z) in
+begun size ker lent e =
+    let t = passed (begin_tests size ker lent) e in
     record { depth = t.0; sides = t.1.0; kernel = t.1.1.1.0; lent_enough = leb-true _ _ t.1.1.1.1.0 }
 
 -- ---- feed: 4 5 6 of the rows
 -- no rows: the strides alone are judged
 pub no_rows : (g : Planes) → g.size.height ≡ 0
-    → first_broken (rows_tests g) ≡ unless (stride_suits g.size.width g.a.stride && stride_suits g.size.width g.b.stride) stride_no 0
+    → first_broken (rows_tests g) ≡ unless (stride_suits g.size.width g.a.stride && stride_suits g.size.width g.b.stride) no.Stride (Ok tt)
 unfolding rows_tests samples_suit all_to
 no_rows g e = simp (e, and-true)
 
@@ -136,24 +123,11 @@ pub some_rows : (g : Planes) → (g.size.height ≡ 0 → ⊥)
 unfolding rows_tests layout_tests
 some_rows g h = rw (ne_eqb g.size.height 0 h) (sym (one_more g.size g.a g.b []))
 
-rows_named : (g : Planes) → Named (rows_tests g)
-unfolding rows_tests
-rows_named g = (lit≤ tt, (lit≤ tt, (lit≤ tt, tt)))
-
--- ---- 15 before all, and 8 and 15 after the rows
-module _ (s : State) (g : Planes) (lent : ℕ) where
-  pub state_refuses : possible g.size.wide s ≡ false → state_no ≡ feed_refusal s g lent
-  unfolding feed_tests
-  state_refuses f = rw f
-
-  module _ {n : ℕ} (ok : possible g.size.wide s ≡ true) (e : n ≡ first_broken (rows_tests g)) where
-    pub rows_refuse : (n ≡ 0 → ⊥) → n ≡ feed_refusal s g lent
-    unfolding feed_tests
-    rows_refuse h = rw ok (stop (rows_tests g) (late_tests s g.size.height lent) e h)
-
-    pub rows_pass : {m : ℕ} → n ≡ 0 → m ≡ first_broken (late_tests s g.size.height lent) → m ≡ feed_refusal s g lent
-    unfolding feed_tests
-    rows_pass z f = rw ok (go_on (rows_tests g) (late_tests s g.size.height lent) (rows_named g) e z f)
+-- ---- the verdict of a feed: 15 before all, then that of the rows, then 8 and 15
+pub feed_in_parts : (s : State) (g : Planes) (lent : ℕ) → feed_refusal s g lent
+    ≡ unless (possible g.size.wide s) no.State (unless_refused (first_broken (rows_tests g)) (first_broken (late_tests s g.size.height lent)))
+unfolding feed_tests
+feed_in_parts s g lent = ap (unless (possible g.size.wide s) no.State) (together (rows_tests g) (late_tests s g.size.height lent))
 
 -- none of them refuses
 pub record Taken (s : State) (g : Planes) (lent : ℕ) : Type 0 where
@@ -167,10 +141,10 @@ pub record Taken (s : State) (g : Planes) (lent : ℕ) : Type 0 where
 not_none : (n : ℕ) (b : Bool) → 0 < n → (eqb n 0 || b) ≡ true → b ≡ true
 not_none n b l e = rw (ne_eqb n 0 (λ z. absurd (omega arith))) at e
 
-pub taken : (s : State) (g : Planes) (lent : ℕ) {n : ℕ} → n ≡ feed_refusal s g lent → n ≡ 0 → Taken s g lent
+pub taken : (s : State) (g : Planes) (lent : ℕ) → feed_refusal s g lent ≡ Ok tt → Taken s g lent
 unfolding feed_tests rows_tests late_tests
-taken s g lent e z =
-    let t = passed (feed_tests s g lent) (lit≤ tt, (lit≤ tt, (lit≤ tt, (lit≤ tt, (lit≤ tt, (lit≤ tt, tt)))))) (sym e ∙ z) in
+taken s g lent e =
+    let t = passed (feed_tests s g lent) e in
     record {
       state = t.0;
       strides = t.1.0;
@@ -207,8 +181,8 @@ pub record Finished (s : State) (lent : ℕ) : Type 0 where
   pub lent_enough : places_of s ≤ lent
   pub all : s.rows ≡ s.height
 
-pub finished : (s : State) (lent : ℕ) {n : ℕ} → n ≡ finish_refusal s lent → n ≡ 0 → Finished s lent
+pub finished : (s : State) (lent : ℕ) → finish_refusal s lent ≡ Ok tt → Finished s lent
 unfolding finish_tests
-finished s lent e z =
-    let t = passed (finish_tests s lent) (lit≤ tt, (lit≤ tt, (lit≤ tt, tt))) (sym e ∙ z) in
+finished s lent e =
+    let t = passed (finish_tests s lent) e in
     record { state = t.0; lent_enough = leb-true _ _ t.1.0; all = eqb-true _ _ t.1.1.0 }

@@ -9,10 +9,10 @@ use lib.Dec.{lit<}
 use lib.IntN.{ℤ}
 use lib.ListN.{length, replicate, length-append}
 use lib.Seq.{take-append_seam, drop-append_seam}
-use Rattle.refusal.specs.First.{by_refusal}
+use Rattle.std.specs.Prelude.{Ok, Err}
+use Rattle.refusal.specs.First.{Verdict, by_refusal}
 use Rattle.plane.specs.Limits.{least_depth}
-use Rattle.plane.specs.declared.Size.{Size}
-use Rattle.plane.specs.Plane.{Planes, at}
+use Rattle.plane.specs.Plane.{Size, Planes, at}
 use Rattle.plane.proofs.All.{all_true}
 use Rattle.plane.proofs.Accept.{sides_say}
 use Rattle.plane.proofs.Depth.{depth_says, byte_depth, below_depths}
@@ -21,11 +21,9 @@ use Rattle.ssim.specs.declared.Totals.{Totals}
 use Rattle.row_ring.specs.Taken.{scored_after}
 use Rattle.row_ring.proofs.Rows.{scored_before}
 use Rattle.rowfed.specs.declared.State.{State}
-use Rattle.rowfed.specs.declared.Fed.{Fed}
-use Rattle.rowfed.specs.declared.Took.TheVariants.{Yes, Refused}
 use Rattle.rowfed.specs.State.{held_kernel, zeros, places_suit, counts_suit, possible, no_state}
 use Rattle.rowfed.specs.Begin.{begin_refusal}
-use Rattle.rowfed.specs.Feed.{feed_refusal, taken_in, with_rows, feed_of}
+use Rattle.rowfed.specs.Feed.{feed_refusal, taken_in, with_rows, state_fed}
 use Rattle.rowfed.specs.Runs.{Between, fed_once, fed_all, begun_with, SameNumbers, Reached}
 use Rattle.rowfed.proofs.Accept.{depth_suits_lem, sides_suit_lem, places_suit_lem, begun, taken}
 
@@ -48,14 +46,14 @@ held_suits ker e =
     (all_true _ (length pad) (λ i. eq-eqb _ _ (zeros_at (most_taps - length ker) i)))
 
 -- ---- each call
-pub begin_possible : (size : Size) (ker : List ℕ) (scratch : List ℤ) → begin_refusal size ker (length scratch) ≡ 0
+pub begin_possible : (size : Size) (ker : List ℕ) (scratch : List ℤ) → begin_refusal size ker (length scratch) ≡ Ok tt
     → possible size.wide (begun_with size ker scratch).state ≡ true
 unfolding possible counts_suit
 begin_possible size ker scratch z =
-    let t = begun size ker (length scratch) refl z in
+    let t = begun size ker (length scratch) z in
     let high = (sides_say size.width size.height t.sides).1.0 in
     let none : 0 ≡ scored_after 0 size.height (length ker / 2) = omega (arith, scored_before 0 size.height (length ker / 2) high) in
-    rw (z, t.depth, t.sides, held_suits ker t.kernel, le-leb 0 size.height (omega arith), eq-eqb _ _ none)
+    rw (t.depth, t.sides, held_suits ker t.kernel, le-leb 0 size.height (omega arith), eq-eqb _ _ none)
 
 grown_possible : (wide : Bool) (s : State) (rows : ℕ) (t : Totals) → possible wide s ≡ true → s.rows + rows ≤ s.height
     → possible wide (with_rows s rows t) ≡ true
@@ -64,16 +62,13 @@ grown_possible wide s rows t e l = rw (depth_suits_lem wide s e, sides_suit_lem 
 
 -- a feed keeps it so, refused or not, of whatever sample width
 feed_possible : (wide : Bool) (s : State) (g : Planes) (scratch : List ℤ) → possible wide s ≡ true
-    → possible wide (feed_of s g scratch).state ≡ true
+    → possible wide (state_fed s g scratch) ≡ true
 feed_possible wide s g scratch e = go (feed_refusal s g (length scratch)) refl
   where
-    go : (n : ℕ) → n ≡ feed_refusal s g (length scratch)
-        → possible wide
-        (by_refusal {A = Fed} n (record { answer = Yes; state = with_rows s g.size.height (taken_in s g scratch).totals })
-        (record { answer = Refused n; state = s })).state
-        ≡ true
-    go zero z = grown_possible wide s g.size.height _ e (taken s g (length scratch) z refl).room
-    go (suc n) z = e
+    go : (v : Verdict) → v ≡ feed_refusal s g (length scratch)
+        → possible wide (by_refusal {A = State} v (with_rows s g.size.height (taken_in s g scratch).totals) s) ≡ true
+    go (Ok tt) z = grown_possible wide s g.size.height _ e (taken s g (length scratch) (sym z)).room
+    go (Err r) z = e
 
 -- ---- one after another
 pub feeds_possible : (wide : Bool) (h : Between) (feeds : List Planes) → possible wide h.state ≡ true
@@ -93,7 +88,7 @@ reached_possible wide s r =
     same_possible wide s _ r.same (feeds_possible wide h r.feeds first)
 
 -- ---- what is not
--- the state beside a refused begin: no call takes it
+-- the state of zeros: no call takes it
 pub no_state_impossible : (wide : Bool) → possible wide no_state ≡ false
 unfolding possible least_depth
 no_state_impossible wide = rw (sym (below_depths wide 0 (lit< tt)))

@@ -13,11 +13,12 @@ use lib.Ieee.{Float}
 use lib.IntN.{ℤ, pos}
 use lib.ListN.{length, take, drop, replicate, length-append, length-drop, length-replicate, get_or-replicate, get_or-append}
 use lib.Seq.{length-take-le, get_or-take, take-append_seam, drop_at, drop-drop, drop-append-add}
+use Rattle.std.specs.Prelude.{Ok}
 use Rattle.refusal.proofs.Chain.{halves, none_broken, go_on}
 use Rattle.plane.specs.Plane.{Planes, both, every, sample_at}
 use Rattle.plane.specs.Tests.{samples_suit, row_suits, long_enough, size_tests, layout_tests, pair_tests}
 use Rattle.plane.specs.Inner.Lawful.{AcceptedPair}
-use Rattle.plane.proofs.Accept.{accepted, plane_named, size_named}
+use Rattle.plane.proofs.Accept.{accepted}
 use Rattle.plane.proofs.All.{all_holds, none_holds}
 use Rattle.plane.proofs.Depth.{max_small}
 use Rattle.kernel.specs.Kernel.{most_taps}
@@ -34,7 +35,7 @@ use Rattle.row_ring.proofs.Rows.{scored_before}
 use Rattle.row_ring.proofs.Taken.{Fed, fed_none, fed_same, fed_all_lem, group_fed, taken_length}
 use Rattle.rowfed.specs.declared.State.{State}
 use Rattle.rowfed.specs.State.{held_kernel, max2_of, counts_suit, possible}
-use Rattle.rowfed.specs.Begin.{begin_tests, begin_refusal}
+use Rattle.rowfed.specs.Begin.{begin_tests, begin_refusal, begin_of}
 use Rattle.rowfed.specs.Feed.{rows_tests, late_tests, feed_tests, feed_refusal, taken_in}
 use Rattle.rowfed.specs.Finish.{finish_tests, finish_refusal, finish_of, scratch_finished}
 use Rattle.rowfed.specs.Runs.{fed_once, fed_all, RowsOf, Groups, begun_with, TakenAll}
@@ -49,7 +50,7 @@ unfolding pair_base
 word_max l = omega arith
 
 -- ---- two planes that SSIM accepts
-module _ (p : Planes) (ker : List ℕ) (lent : List ℤ) (ok : ssim_refusal p ker (length lent) ≡ 0) where
+module _ (p : Planes) (ker : List ℕ) (lent : List ℤ) (ok : ssim_refusal p ker (length lent) ≡ Ok tt) where
   abbrev height : ℕ
   height = p.size.height
 
@@ -59,17 +60,17 @@ module _ (p : Planes) (ker : List ℕ) (lent : List ℤ) (ok : ssim_refusal p ke
   planes : AcceptedPair p 0
   planes =
       accepted p.size (both p) 0
-      (halves (pair_tests p 0) (lent_tests p.size.width ker (length lent)) (plane_named p.size (both p) 0) ok).0
+      (halves (pair_tests p 0) (lent_tests p.size.width ker (length lent)) ok).0
 
-  begins : begin_refusal p.size ker (length lent) ≡ 0
+  begins : begin_refusal p.size ker (length lent) ≡ Ok tt
   unfolding begin_tests size_tests layout_tests
   begins =
-      let h = halves (pair_tests p 0) (lent_tests p.size.width ker (length lent)) (plane_named p.size (both p) 0) ok in
-      let first = (halves (size_tests p.size 0) (layout_tests p.size (both p)) (size_named p.size 0) h.0).0 in
-      sym (go_on (size_tests p.size 0) (lent_tests p.size.width ker (length lent)) (size_named p.size 0) (sym first) refl (sym h.1))
+      let h = halves (pair_tests p 0) (lent_tests p.size.width ker (length lent)) ok in
+      let first = (halves (size_tests p.size 0) (layout_tests p.size (both p)) h.0).0 in
+      sym (go_on (size_tests p.size 0) (lent_tests p.size.width ker (length lent)) first (sym h.1))
 
   start : Begun p.size ker (length lent)
-  start = begun p.size ker (length lent) (sym begins) refl
+  start = begun p.size ker (length lent) begins
 
   -- the state once r rows have come, with these sums
   abbrev after : ℕ → Totals → State
@@ -199,7 +200,7 @@ module _ (p : Planes) (ker : List ℕ) (lent : List ℤ) (ok : ssim_refusal p ke
         go (yes l) = rw (rows.long_a l, rows.long_b l, or-true)
         go (no l) = rw (eq-eqb g.size.height 0 (omega arith))
 
-    taken_all : feed_refusal (after r t) g (length s) ≡ 0
+    taken_all : feed_refusal (after r t) g (length s) ≡ Ok tt
     unfolding feed_tests rows_tests late_tests
     taken_all =
         none_broken (feed_tests (after r t) g (length s)) (
@@ -282,7 +283,7 @@ module _ (p : Planes) (ker : List ℕ) (lent : List ℤ) (ok : ssim_refusal p ke
       go true f = rw (f, or-true)
 
   module _ (t : Totals) (s : List ℤ) (h : Going height t s) where
-    finishes : finish_refusal (after height t) (length s) ≡ 0
+    finishes : finish_refusal (after height t) (length s) ≡ Ok tt
     unfolding finish_tests
     finishes =
         none_broken (finish_tests (after height t) (length s)) (
@@ -300,12 +301,13 @@ module _ (p : Planes) (ker : List ℕ) (lent : List ℤ) (ok : ssim_refusal p ke
     same_scratch = rw (finishes, ok) (ap (λ (q : List ℤ). replicate need (pos 0) ++ q) h.rest)
 
   pub rows_grouped : (gs : List Planes) → Groups p 0 gs
-      → TakenAll p.size.wide (begun_with p.size ker lent) gs
+      → (begin_of p.size ker lent ≡ Ok (begun_with p.size ker lent).state)
+      × (TakenAll p.size.wide (begun_with p.size ker lent) gs
       × ((finish_of (fed_all (begun_with p.size ker lent) gs).state (fed_all (begun_with p.size ker lent) gs).scratch ≡ ssim_of p ker lent)
-      × (scratch_finished (fed_all (begun_with p.size ker lent) gs).state (fed_all (begun_with p.size ker lent) gs).scratch ≡ scratch_after p ker lent))
+      × (scratch_finished (fed_all (begun_with p.size ker lent) gs).state (fed_all (begun_with p.size ker lent) gs).scratch ≡ scratch_after p ker lent)))
   rows_grouped gs e =
       let all = groups_going gs 0 no_totals (cleared (pos 0) need lent) begun_going e in
       let t = all.1.0 in
       let s = all.1.1.0 in
       let h = all.1.1.1.0 in
-      rw begun_is (all.0, rw all.1.1.1.1 (same_pair t s h, same_scratch t s h))
+      (rw begins, rw begun_is (all.0, rw all.1.1.1.1 (same_pair t s h, same_scratch t s h)))

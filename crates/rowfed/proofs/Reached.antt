@@ -11,10 +11,10 @@ use lib.Dec.{lit≤, leb}
 use lib.IntN.{ℤ, pos}
 use lib.ListN.{length, drop, replicate, length-append, length-drop, length-replicate, take-append-drop}
 use lib.Seq.{ext_get_or}
+use Rattle.std.specs.Prelude.{Ok}
 use Rattle.refusal.proofs.Chain.{and_right, none_broken}
 use Rattle.plane.specs.Limits.{side_limit, stride_limit}
-use Rattle.plane.specs.declared.Size.{Size}
-use Rattle.plane.specs.Plane.{Plane, Planes, plane_of, size_of, planes_of, needed}
+use Rattle.plane.specs.Plane.{Size, Plane, Planes, plane_of, size_of, planes_of, needed}
 use Rattle.plane.specs.Tests.{sides_reach, stride_suits, long_enough, row_suits, samples_suit, size_tests}
 use Rattle.plane.proofs.All.{all_at, all_true, none_true}
 use Rattle.kernel.specs.Kernel.{most_taps, lent_total, lawful}
@@ -94,7 +94,7 @@ module _ (wide : Bool) (s : State) where
     count : length (kernel_of s) ≡ s.taps
     count = (sound_state wide s e).count
 
-    begins : begin_refusal whole (kernel_of s) (length room) ≡ 0
+    begins : begin_refusal whole (kernel_of s) (length room) ≡ Ok tt
     unfolding begin_tests size_tests lent_tests sides_reach
     begins =
         let lent : scratch_places s.width (length (kernel_of s)) ≤ length room = rw (count, length-replicate (places_of s) (pos 0)) (le_refl _) in
@@ -106,7 +106,7 @@ module _ (wide : Bool) (s : State) where
           ),
         )
 
-    feeds : feed_refusal start.state feed (length start.scratch) ≡ 0
+    feeds : feed_refusal start.state feed (length start.scratch) ≡ Ok tt
     unfolding feed_tests rows_tests late_tests
     feeds =
         let sound = sound_state wide s e in
@@ -114,7 +114,7 @@ module _ (wide : Bool) (s : State) where
         let lent = length-append (replicate need (pos 0)) (drop need room) in
         rw (
           begins,
-          rw begins at (begin_possible whole (kernel_of s) room begins),
+          begin_possible whole (kernel_of s) room begins,
           black_stride rows sound.width_most,
           black_long rows,
           or-true,
@@ -149,6 +149,6 @@ possible_reached wide s e full =
       feeds = feed wide s ∷ [];
       of_wide = refl;
       begun = begins wide s e;
-      fed = (rw (begins wide s e), (feeds wide s e, tt));
+      fed = (refl, (feeds wide s e, tt));
       same = numbers wide s e full;
     }

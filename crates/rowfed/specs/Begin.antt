@@ -1,21 +1,20 @@
 -- SCOPE, "Rows as they arrive": begin. Definitions only.
-use Rattle.std.specs.Prelude.{Bool, List, ◌++◌, ℕ, ℤ, pos, length}
-use Rattle.refusal.specs.First.{first_broken, by_refusal}
-use Rattle.plane.specs.declared.Size.{Size}
+use Rattle.std.specs.Prelude.{Bool, List, ◌++◌, ℕ, ℤ, pos, length, Result, Ok}
+use Rattle.refusal.specs.declared.Refusal.{Refusal}
+use Rattle.refusal.specs.First.{Verdict, first_broken, by_refusal, unless_refused}
+use Rattle.plane.specs.Plane.{Size}
 use Rattle.plane.specs.Tests.{size_tests}
 use Rattle.ssim.specs.Answer.{lent_tests}
 use Rattle.ssim.specs.Scratch.{scratch_places, cleared}
 use Rattle.ssim.specs.Score.{no_totals}
 use Rattle.rowfed.specs.declared.State.{State}
-use Rattle.rowfed.specs.declared.Fed.{Fed}
-use Rattle.rowfed.specs.declared.Took.TheVariants.{Yes, Refused}
-use Rattle.rowfed.specs.State.{held_kernel, no_state}
+use Rattle.rowfed.specs.State.{held_kernel}
 
 -- 1 2 7 8 in ascending order: what the planes will share, the kernel, and how many places of scratch are lent
-unfoldable pub begin_tests : Size → List ℕ → ℕ → List (ℕ × Bool)
+unfoldable pub begin_tests : Size → List ℕ → ℕ → List (Refusal × Bool)
 begin_tests size ker lent = size_tests size 0 ++ lent_tests size.width ker lent
 
-abbrev pub begin_refusal : Size → List ℕ → ℕ → ℕ
+abbrev pub begin_refusal : Size → List ℕ → ℕ → Verdict
 begin_refusal size ker lent = first_broken (begin_tests size ker lent)
 
 -- no row has come
@@ -32,11 +31,9 @@ begun_state size ker =
       sums = no_totals;
     }
 
--- the answer; a refusal carries its number, and the state of zeros stands beside it
-abbrev pub begin_of : Size → List ℕ → List ℤ → Fed
-begin_of size ker scratch =
-    let n = begin_refusal size ker (length scratch) in
-    by_refusal n (record { answer = Yes; state = begun_state size ker }) (record { answer = Refused n; state = no_state })
+-- the answer: the state, unless it is refused
+abbrev pub begin_of : Size → List ℕ → List ℤ → Result State Refusal
+begin_of size ker scratch = unless_refused (begin_refusal size ker (length scratch)) (Ok (begun_state size ker))
 
 -- what then stands in the scratch: refused, what stood there; else the needed part is zero
 abbrev pub scratch_begun : Size → List ℕ → List ℤ → List ℤ

@@ -1,40 +1,37 @@
 -- SCOPE, "Rows as they arrive": feed. The rows of a feed are two planes of that height. Definitions only.
 use Rattle.std.specs.Prelude.{Bool, ◌||◌, List, [], ◌∷◌, ◌++◌, ℕ, ◌+◌, ◌-◌, ◌*◌, ◌/◌, eqb, leb, ℤ, pos, length, take, drop, replicate}
-use Rattle.std.specs.Borrow.{Bor}
-use Rattle.refusal.specs.Numbers.{stride_no, short_no, sample_no, scratch_no, state_no}
-use Rattle.refusal.specs.First.{first_broken, by_refusal}
-use Rattle.plane.specs.Plane.{Plane, Planes, plane_of, size_of, planes_of, both, every}
+use Rattle.refusal.specs.declared.Refusal.{Refusal}
+use Rattle.refusal.specs.declared.Refusal.TheVariants as no
+use Rattle.refusal.specs.First.{Verdict, first_broken, by_refusal}
+use Rattle.plane.specs.Plane.{Plane, Planes, size_of, planes_of, both, every}
 use Rattle.plane.specs.Tests.{stride_suits, long_enough, samples_suit}
 use Rattle.ssim.specs.declared.Totals.{Totals}
 use Rattle.row_ring.specs.Taken.{scored_after, Kept, taken_of}
 use Rattle.row_ring.specs.Ring.{ring_places}
 use Rattle.rowfed.specs.declared.State.{State}
-use Rattle.rowfed.specs.declared.Fed.{Fed}
-use Rattle.rowfed.specs.declared.Took.TheVariants.{Yes, Refused}
 use Rattle.rowfed.specs.State.{possible, kernel_of, ring_of, max2_of, places_of}
 
 -- the rows of a feed that is lent bytes or words, its parameters as they stand: the width and the depth are the state's
-abbrev pub fed_rows : Bool → State → Bor (List ℕ) → Bor (List ℕ) → ℕ → ℕ → ℕ → Planes
-fed_rows wide s a b stride_a stride_b rows =
-    planes_of (size_of wide s.width rows s.depth) (plane_of a.now stride_a) (plane_of b.now stride_b)
+abbrev pub fed_rows : Bool → State → Plane → Plane → ℕ → Planes
+fed_rows wide s a b rows = planes_of (size_of wide s.width rows s.depth) a b
 
 -- 4 5 6 of the rows; no rows need no samples
-unfoldable pub rows_tests : Planes → List (ℕ × Bool)
+unfoldable pub rows_tests : Planes → List (Refusal × Bool)
 rows_tests g =
-    (stride_no, every (λ (p : Plane). stride_suits g.size.width p.stride) (both g))
-    ∷ (short_no, eqb g.size.height 0 || every (long_enough g.size) (both g))
-    ∷ (sample_no, every (samples_suit g.size) (both g))
+    (no.Stride, every (λ (p : Plane). stride_suits g.size.width p.stride) (both g))
+    ∷ (no.Short, eqb g.size.height 0 || every (long_enough g.size) (both g))
+    ∷ (no.Sample, every (samples_suit g.size) (both g))
     ∷ []
 
 -- 8, and the late 15: rows past the height
-unfoldable pub late_tests : State → ℕ → ℕ → List (ℕ × Bool)
-late_tests s rows lent = (scratch_no, leb (places_of s) lent) ∷ (state_no, leb (s.rows + rows) s.height) ∷ []
+unfoldable pub late_tests : State → ℕ → ℕ → List (Refusal × Bool)
+late_tests s rows lent = (no.Scratch, leb (places_of s) lent) ∷ (no.State, leb (s.rows + rows) s.height) ∷ []
 
 -- an impossible state goes before all else; the others go by the lowest number
-unfoldable pub feed_tests : State → Planes → ℕ → List (ℕ × Bool)
-feed_tests s g lent = (state_no, possible g.size.wide s) ∷ rows_tests g ++ late_tests s g.size.height lent
+unfoldable pub feed_tests : State → Planes → ℕ → List (Refusal × Bool)
+feed_tests s g lent = (no.State, possible g.size.wide s) ∷ rows_tests g ++ late_tests s g.size.height lent
 
-abbrev pub feed_refusal : State → Planes → ℕ → ℕ
+abbrev pub feed_refusal : State → Planes → ℕ → Verdict
 feed_refusal s g lent = first_broken (feed_tests s g lent)
 
 -- ---- the rows taken
@@ -67,13 +64,12 @@ with_rows s rows t =
       sums = t;
     }
 
--- ---- the answer
+-- ---- what a feed leaves
 
--- a refusal gives the state back
-abbrev pub feed_of : State → Planes → List ℤ → Fed
-feed_of s g scratch =
-    let n = feed_refusal s g (length scratch) in
-    by_refusal n (record { answer = Yes; state = with_rows s g.size.height (taken_in s g scratch).totals }) (record { answer = Refused n; state = s })
+-- the state: refused, as it was
+abbrev pub state_fed : State → Planes → List ℤ → State
+state_fed s g scratch =
+    by_refusal (feed_refusal s g (length scratch)) (with_rows s g.size.height (taken_in s g scratch).totals) s
 
 -- what then stands in the scratch: refused, what stood there; else the used part is the engine's, the rest as it was
 abbrev pub scratch_fed : State → Planes → List ℤ → List ℤ

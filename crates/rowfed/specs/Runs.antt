@@ -1,11 +1,10 @@
 -- SCOPE, "Rows as they arrive": feeds one after another, and two planes cut into groups of rows. Definitions only.
-use Rattle.std.specs.Prelude.{◌≡◌, Bool, true, List, [], ◌∷◌, ℕ, ◌+◌, ◌<◌, ℤ, length}
-use Rattle.plane.specs.declared.Size.{Size}
-use Rattle.plane.specs.Plane.{Planes, sample_at, size_of}
+use Rattle.std.specs.Prelude.{◌≡◌, Bool, true, List, [], ◌∷◌, ℕ, ◌+◌, ◌<◌, ℤ, length, Ok}
+use Rattle.plane.specs.Plane.{Size, Planes, sample_at, size_of}
 use Rattle.plane.specs.Tests.{stride_suits, long_enough}
 use Rattle.rowfed.specs.declared.State.{State}
-use Rattle.rowfed.specs.Begin.{begin_refusal, begin_of, scratch_begun}
-use Rattle.rowfed.specs.Feed.{feed_refusal, feed_of, scratch_fed}
+use Rattle.rowfed.specs.Begin.{begin_refusal, begun_state, scratch_begun}
+use Rattle.rowfed.specs.Feed.{feed_refusal, state_fed, scratch_fed}
 
 -- what the caller has between calls: the state, and the scratch
 pub record Between : Type 0 where
@@ -14,7 +13,7 @@ pub record Between : Type 0 where
 
 -- after one feed, refused or not
 abbrev pub fed_once : Between → Planes → Between
-fed_once h g = record { state = (feed_of h.state g h.scratch).state; scratch = scratch_fed h.state g h.scratch }
+fed_once h g = record { state = state_fed h.state g h.scratch; scratch = scratch_fed h.state g h.scratch }
 
 -- after each of a list of feeds
 abbrev pub fed_all : Between → List Planes → Between
@@ -40,9 +39,9 @@ Groups p received (g ∷ more) = RowsOf p received g × Groups p (received + g.s
 
 -- ---- which states a begin and feeds give
 
--- what the caller has after a begin
+-- what the caller has after a begin that is not refused
 abbrev pub begun_with : Size → List ℕ → List ℤ → Between
-begun_with size ker scratch = record { state = (begin_of size ker scratch).state; scratch = scratch_begun size ker scratch }
+begun_with size ker scratch = record { state = begun_state size ker; scratch = scratch_begun size ker scratch }
 
 -- Feeds of bytes, or of words where `wide` is true, that are all taken: each is lent rows of the state's width and depth, as `fed_rows` has them, and
 -- at its turn no test refuses it.
@@ -50,7 +49,7 @@ abbrev pub TakenAll : Bool → Between → List Planes → Type 0
 TakenAll wide h [] = Unit {0}
 TakenAll wide h (g ∷ more) =
     (g.size ≡ size_of wide h.state.width g.size.height h.state.depth)
-    × ((feed_refusal h.state g (length h.scratch) ≡ 0) × TakenAll wide (fed_once h g) more)
+    × ((feed_refusal h.state g (length h.scratch) ≡ Ok tt) × TakenAll wide (fed_once h g) more)
 
 -- all of two states is the same but the running sums
 pub record SameNumbers (s t : State) : Type 0 where
@@ -69,6 +68,6 @@ pub record Reached (wide : Bool) (s : State) : Type 0 where
   pub scratch : List ℤ
   pub feeds : List Planes
   pub of_wide : size.wide ≡ wide
-  pub begun : begin_refusal size ker (length scratch) ≡ 0
+  pub begun : begin_refusal size ker (length scratch) ≡ Ok tt
   pub fed : TakenAll wide (begun_with size ker scratch) feeds
   pub same : SameNumbers s (fed_all (begun_with size ker scratch) feeds).state

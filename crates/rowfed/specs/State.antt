@@ -49,7 +49,7 @@ counts_suit s = leb s.rows s.height && eqb s.scored (scored_after s.rows s.heigh
 unfoldable pub possible : Bool → State → Bool
 possible wide s = depth_suits wide s.depth && (sides_suit s.width s.height && (places_suit s.kernel s.taps && counts_suit s))
 
--- the state of zeros, which is beside a refused begin; it is not possible
+-- the state of zeros; it is not possible, so no call takes it
 abbrev pub no_state : State
 no_state =
     record { width = 0; height = 0; depth = 0; taps = 0; kernel = replicate most_taps 0; rows = 0; scored = 0; sums = no_totals }

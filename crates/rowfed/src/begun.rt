@@ -1,29 +1,29 @@
 // Begin.
 ghost use Rattle.std.specs.Prelude.{◌≡◌, ◌≤◌, length};
+ghost use Rattle.plane.specs.Inner.Seen.{sized};
 ghost use Rattle.kernel.specs.Kernel.{most_taps};
 ghost use Rattle.ssim.specs.Score.{no_totals};
-ghost use Rattle.rowfed.specs.State.{held_kernel, no_state};
-ghost use Rattle.rowfed.specs.Begin.{begin_refusal, begun_state, begin_of, scratch_begun};
+ghost use Rattle.rowfed.specs.State.{held_kernel};
+ghost use Rattle.rowfed.specs.Begin.{begin_refusal, begun_state};
 
-use crate::{Fed, State, Took};
-use plane::Size;
-use ssim::{Totals, walk};
+use crate::State;
+use plane::{Format, Stored};
+use refusal::Refusal;
+use ssim::Totals;
 
-// The lowest of 1 2 7 8 that applies, and 0 where none does.
-fn refusal(size: Size, kernel: &[u16], lent: usize) -> u8
-    ensures { result ≡ begin_refusal size kernel.now lent }
+// The lowest of 1 2 7 8 that applies.
+#[tactic(auto, using(crate::proofs::Accept::begin_in_parts))]
+pub fn check<S: Stored>(format: Format, kernel: &[u16], lent: usize) -> Result<(), Refusal>
+    ensures { result ≡ begin_refusal (sized S.WIDE format) kernel.now lent }
 {
-    let no = plane::size_refusal(size, 0);
-    if no != 0 {
-        return no;
-    }
+    plane::check_size::<S>(format, 0)?;
     if !kernel::is_lawful(kernel) {
-        return refusal::KERNEL;
+        return Err(Refusal::Kernel);
     }
-    if lent < ssim::scratch_places(size.width, kernel.len()) {
-        return refusal::SCRATCH;
+    if lent < ssim::scratch_places(format.width, kernel.len()) {
+        return Err(Refusal::Scratch);
     }
-    0
+    Ok(())
 }
 
 // A kernel in the places of a state: its taps, then zeros.
@@ -32,9 +32,7 @@ fn held(kernel: &[u16]) -> [u16; 255]
     ensures { result ≡ held_kernel kernel.now }
 {
     let mut places = [0u16; 255];
-    for k in 0..kernel.len() {
-        places[k] = kernel[k];
-    }
+    places[..kernel.len()].copy_from_slice(kernel);
     places
 }
 
@@ -49,55 +47,19 @@ fn no_sums() -> Totals
     }
 }
 
-// Beside a refusal: a state that no call takes.
-fn no_state() -> State
-    ensures { result ≡ no_state }
-{
-    State {
-        width: 0,
-        height: 0,
-        depth: 0,
-        taps: 0,
-        kernel: [0u16; 255],
-        rows: 0,
-        scored: 0,
-        sums: no_sums(),
-    }
-}
-
 // No row has come.
-fn new_state(size: Size, kernel: &[u16]) -> State
+pub fn new_state<S: Stored>(format: Format, kernel: &[u16]) -> State
     requires { length kernel.now ≤ most_taps }
-    ensures { result ≡ begun_state size kernel.now }
+    ensures { result ≡ begun_state (sized S.WIDE format) kernel.now }
 {
     State {
-        width: size.width,
-        height: size.height,
-        depth: size.depth,
+        width: format.width,
+        height: format.height,
+        depth: format.depth,
         taps: kernel.len(),
         kernel: held(kernel),
         rows: 0,
         scored: 0,
         sums: no_sums(),
-    }
-}
-
-// Begin, of either sample width.
-pub fn begin(size: Size, kernel: &[u16], scratch: &mut [i64]) -> Fed
-    ensures value { result ≡ begin_of size kernel.now scratch.old }
-    ensures scratch_after { scratch.new ≡ scratch_begun size kernel.now scratch.old }
-{
-    let no = refusal(size, kernel, scratch.len());
-    if no != 0 {
-        return Fed {
-            answer: Took::Refused(no),
-            state: no_state(),
-        };
-    }
-    let need = ssim::scratch_places(size.width, kernel.len());
-    walk::clear(&mut scratch[..need]);
-    Fed {
-        answer: Took::Yes,
-        state: new_state(size, kernel),
     }
 }

@@ -7,26 +7,28 @@ ghost use Rattle.rowfed.specs.Finish.{finish_refusal};
 ghost use Rattle.rowfed.specs.Inner.Sound.{SoundState};
 
 use crate::{State, possible};
+use refusal::Refusal;
 use ssim::{Ssim, centre, walk};
 
-// 15 where no samples of either width could give the state; then 8; then 15 where rows are still to come; and 0 else.
-pub fn refusal(state: State, lent: usize) -> u8
+// 15 where no samples of either width could give the state; then 8; then 15 where rows are still to come.
+#[tactic(auto, unfolding(crate::specs::Finish::finish_tests))]
+pub fn check(state: State, lent: usize) -> Result<(), Refusal>
     ensures { result ≡ finish_refusal state lent }
 {
     if !possible::is_possible_anyhow(state) {
-        return refusal::STATE;
+        return Err(Refusal::State);
     }
     if lent < ssim::scratch_places(state.width, state.taps) {
-        return refusal::SCRATCH;
+        return Err(Refusal::Scratch);
     }
     if state.rows != state.height {
-        return refusal::STATE;
+        return Err(Refusal::State);
     }
-    0
+    Ok(())
 }
 
 // The pair, and the needed part of the scratch all zero.
-pub fn close(state: State, scratch: &mut [i64]) -> Ssim
+pub fn close(state: State, scratch: &mut [i64]) -> Result<Ssim, Refusal>
     requires sound_state { SoundState state }
     requires state_in_bounds { places_of state ≤ length scratch.old }
     ensures value { result ≡ pair_of state.sums }

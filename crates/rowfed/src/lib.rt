@@ -2,14 +2,15 @@
 // scratch to each call. SCOPE, "Rows as they arrive".
 #![tactic(auto)]
 
-ghost use Rattle.std.specs.Prelude.{◌≡◌, true, false};
-ghost use Rattle.plane.specs.Plane.{size_of};
+ghost use Rattle.std.specs.Prelude.{◌≡◌, length};
+ghost use Rattle.plane.specs.Inner.Seen.{sized, seen};
 ghost use Rattle.rowfed.specs.Begin.{begin_of, scratch_begun};
-ghost use Rattle.rowfed.specs.Feed.{fed_rows, feed_of, scratch_fed};
+ghost use Rattle.rowfed.specs.Feed.{fed_rows, feed_refusal, state_fed, scratch_fed};
 ghost use Rattle.rowfed.specs.Finish.{finish_of, scratch_finished};
 
-use plane::{Layout, Size};
-use ssim::{Ssim, Totals};
+use plane::{Format, Pair, Plane, Stored};
+use refusal::Refusal;
+use ssim::{Ssim, Totals, walk};
 
 pub mod begun;
 pub mod ended;
@@ -18,7 +19,7 @@ pub mod taken;
 
 // What the caller holds between calls: the sides and the depth of the planes, the kernel in the first `taps` of its places, how many rows have
 // come, how many rows of centres are scored, and their sums.
-#[derive(Clone, Copy)]
+#[derive(Clone, Copy, Debug, PartialEq)]
 pub struct State {
     pub width: usize,
     pub height: usize,
@@ -30,115 +31,50 @@ pub struct State {
     pub sums: Totals,
 }
 
-// What begin and feed answer.
-#[derive(Clone, Copy)]
-pub enum Took {
-    Yes,
-    Refused(u8),
-}
-
-// The answer, and the state to go on with: a refused feed gives its own back, a refused begin one of zeros, which no call takes.
-#[derive(Clone, Copy)]
-pub struct Fed {
-    pub answer: Took,
-    pub state: State,
-}
-
-// Planes of bytes whose rows will come: 1 2 7 8. Accepted, the needed part of the scratch is all zero and the rest as it was; refused, all is.
-pub fn begin8(width: usize, height: usize, depth: u32, kernel: &[u16], scratch: &mut [i64]) -> Fed
-    ensures value { result ≡ begin_of (size_of false width height depth) kernel.now scratch.old }
-    ensures scratch_after { scratch.new ≡ scratch_begun (size_of false width height depth)
-        kernel.now scratch.old }
+// Planes whose rows will come: 1 2 7 8. Accepted, the needed part of the scratch is all zero and the rest as it was; refused, all is.
+pub fn begin<S: Stored>(
+    format: Format,
+    kernel: &[u16],
+    scratch: &mut [i64],
+) -> Result<State, Refusal>
+    ensures value { result ≡ begin_of (sized S.WIDE format) kernel.now scratch.old }
+    ensures scratch_after { scratch.new ≡ scratch_begun (sized S.WIDE format) kernel.now scratch.old }
 {
-    let size = Size {
-        wide: false,
-        width,
-        height,
-        depth,
-    };
-    begun::begin(size, kernel, scratch)
+    begun::check::<S>(format, kernel, scratch.len())?;
+    let need = ssim::scratch_places(format.width, kernel.len());
+    walk::clear(&mut scratch[..need]);
+    Ok(begun::new_state::<S>(format, kernel))
 }
 
-// The same of words.
-pub fn begin16(width: usize, height: usize, depth: u32, kernel: &[u16], scratch: &mut [i64]) -> Fed
-    ensures value { result ≡ begin_of (size_of true width height depth) kernel.now scratch.old }
-    ensures scratch_after { scratch.new ≡ scratch_begun (size_of true width height depth)
-        kernel.now scratch.old }
-{
-    let size = Size {
-        wide: true,
-        width,
-        height,
-        depth,
-    };
-    begun::begin(size, kernel, scratch)
-}
-
-// The next rows of both planes, bytes: 15 where the state is impossible, else the lowest of 4 5 6 8 15. Refused, state and scratch are as they were.
-pub fn feed8(
-    state: State,
-    a: &[u8],
-    b: &[u8],
-    stride_a: usize,
-    stride_b: usize,
+// The next rows of both planes: 15 where the state is impossible, else the lowest of 4 5 6 8 15. Refused, state and scratch are as they were.
+pub fn feed<S: Stored>(
+    state: &mut State,
+    a: Plane<'_, S>,
+    b: Plane<'_, S>,
     rows: usize,
     scratch: &mut [i64],
-) -> Fed
-    ensures value { result ≡ feed_of state (fed_rows false state a.entry b.entry stride_a stride_b rows) scratch.old }
-    ensures scratch_after { scratch.new ≡ scratch_fed state
-        (fed_rows false state a.entry b.entry stride_a stride_b rows) scratch.old }
+) -> Result<(), Refusal>
+    ensures value { result ≡ feed_refusal state.old
+        (fed_rows S.WIDE state.old (seen S.Sample.value a.entry) (seen S.Sample.value b.entry) rows) (length scratch.old) }
+    ensures state_after { state.new ≡ state_fed state.old
+        (fed_rows S.WIDE state.old (seen S.Sample.value a.entry) (seen S.Sample.value b.entry) rows) scratch.old }
+    ensures scratch_after { scratch.new ≡ scratch_fed state.old
+        (fed_rows S.WIDE state.old (seen S.Sample.value a.entry) (seen S.Sample.value b.entry) rows) scratch.old }
 {
-    let size = Size {
-        wide: false,
+    let format = Format {
         width: state.width,
         height: rows,
         depth: state.depth,
     };
-    let layout = Layout {
-        size,
-        stride_a,
-        stride_b,
-    };
-    taken::feed(a, &[0u16; 0], b, &[0u16; 0], layout, state, scratch)
-}
-
-// The same of words.
-pub fn feed16(
-    state: State,
-    a: &[u16],
-    b: &[u16],
-    stride_a: usize,
-    stride_b: usize,
-    rows: usize,
-    scratch: &mut [i64],
-) -> Fed
-    ensures value { result ≡ feed_of state (fed_rows true state a.entry b.entry stride_a stride_b rows) scratch.old }
-    ensures scratch_after { scratch.new ≡ scratch_fed state
-        (fed_rows true state a.entry b.entry stride_a stride_b rows) scratch.old }
-{
-    let size = Size {
-        wide: true,
-        width: state.width,
-        height: rows,
-        depth: state.depth,
-    };
-    let layout = Layout {
-        size,
-        stride_a,
-        stride_b,
-    };
-    taken::feed(&[0u8; 0], a, &[0u8; 0], b, layout, state, scratch)
+    taken::feed(Pair { format, a, b }, state, scratch)
 }
 
 // The pair of all rows: 15 where the state is impossible, then 8, then 15 where rows are still to come; then 9. Refused by these three, scratch is as
 // it was; else, and at 9, its needed part is all zero and the rest as it was.
-pub fn finish(state: State, scratch: &mut [i64]) -> Ssim
+pub fn finish(state: State, scratch: &mut [i64]) -> Result<Ssim, Refusal>
     ensures value { result ≡ finish_of state scratch.old }
     ensures scratch_after { scratch.new ≡ scratch_finished state scratch.old }
 {
-    let no = ended::refusal(state, scratch.len());
-    if no != 0 {
-        return Ssim::Refused(no);
-    }
+    ended::check(state, scratch.len())?;
     ended::close(state, scratch)
 }

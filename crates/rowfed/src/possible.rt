@@ -5,12 +5,13 @@ ghost use Rattle.rowfed.specs.State.{zeros, places_suit, counts_suit, possible};
 use crate::State;
 
 // All of a list is 0.
+#[tactic(auto, using(plane::proofs::All::all_none, plane::proofs::All::all_more), unfolding(crate::specs::State::zeros))]
 fn all_zero(l: &[u16]) -> bool
     ensures { result ≡ zeros l.now }
 {
     let mut ok = true;
-    for k in 0..l.len() {
-        ok = ok & (l[k] == 0);
+    for k in l {
+        ok &= *k == 0;
     }
     ok
 }
@@ -25,22 +26,15 @@ fn places_suit(places: &[u16], taps: usize) -> bool
     kernel::is_lawful(&places[..taps]) && all_zero(&places[taps..])
 }
 
-// The same of so many places as a state has.
-fn held_suits(places: &[u16; 255], taps: usize) -> bool
-    ensures { result ≡ places_suit places.now taps }
-{
-    places_suit(places, taps)
-}
-
 // The same of a state.
 fn kernel_suits(s: State) -> bool
     ensures { result ≡ places_suit s.kernel s.taps }
 {
-    let places = s.kernel;
-    held_suits(&places, s.taps)
+    places_suit(&s.kernel, s.taps)
 }
 
 // No more rows than the height, and as many scored as so many rows allow.
+#[tactic(auto, unfolding(crate::specs::State::counts_suit))]
 fn counts_suit(s: State) -> bool
     ensures { result ≡ counts_suit s }
 {
@@ -51,6 +45,7 @@ fn counts_suit(s: State) -> bool
 }
 
 // Whether a begin and feeds of this sample width can give these numbers. The running sums are not judged.
+#[tactic(auto, unfolding(crate::specs::State::possible))]
 pub fn is_possible(wide: bool, s: State) -> bool
     ensures { result ≡ possible wide s }
 {

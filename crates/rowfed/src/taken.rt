@@ -4,128 +4,107 @@ ghost use Rattle.refusal.specs.First.{first_broken};
 ghost use Rattle.plane.specs.Limits.{side_limit};
 ghost use Rattle.plane.specs.Sums.{sum_to};
 ghost use Rattle.plane.specs.Tests.{depth_suits};
-ghost use Rattle.plane.specs.Inner.Lent.{planes, Long};
+ghost use Rattle.plane.specs.Inner.Seen.{sized, planes, Long};
 ghost use Rattle.kernel.specs.Kernel.{tap, lent_total};
 ghost use Rattle.window.specs.Inner.Parts.{Kernel};
 ghost use Rattle.row_ring.specs.Taken.{taken_of};
 ghost use Rattle.row_ring.specs.Ring.{ring_places};
 ghost use Rattle.row_ring.specs.Inner.Places.{Roomy};
-ghost use Rattle.rowfed.specs.Feed.{rows_tests, late_tests, feed_refusal, used_places, taken_in, with_rows, feed_of, scratch_fed};
+ghost use Rattle.rowfed.specs.Feed.{rows_tests, late_tests, feed_refusal, used_places, taken_in, with_rows, state_fed, scratch_fed};
 ghost use Rattle.rowfed.specs.Inner.Sound.{SoundState, SoundFeed};
 
-use crate::{Fed, State, Took, possible};
-use plane::Layout;
-use row_ring::Ring;
+use crate::{State, possible};
+use plane::{Pair, Stored};
+use refusal::Refusal;
+use row_ring::{Ring, Scoring};
 use ssim::{Totals, centre, walk};
 
-// The lowest of 4 5 6 that applies to the rows of a feed, and 0 where none does. No rows need no samples.
-fn rows_refusal(a8: &[u8], a16: &[u16], b8: &[u8], b16: &[u16], layout: Layout) -> u8
-    requires depth_value { depth_suits layout.size.wide layout.size.depth ≡ true }
-    requires le_width { 1 ≤ layout.size.width }
-    ensures { result ≡ first_broken (rows_tests (planes layout a8.entry a16.entry b8.entry b16.entry)) }
+// The lowest of 4 5 6 that applies to the rows of a feed. No rows need no samples.
+#[tactic(auto, using(crate::proofs::Accept::no_rows))]
+fn check_rows<S: Stored>(p: Pair<'_, S>) -> Result<(), Refusal>
+    requires depth_value { depth_suits S.WIDE p.format.depth ≡ true }
+    requires le_width { 1 ≤ p.format.width }
+    ensures { result ≡ first_broken (rows_tests (planes S.Sample.value S.WIDE p.entry)) }
 {
-    let width = layout.size.width;
-    if layout.size.height == 0 {
-        if plane::stride_suits(width, layout.stride_a)
-            & plane::stride_suits(width, layout.stride_b)
-        {
-            return 0;
+    let width = p.format.width;
+    if p.format.height == 0 {
+        if plane::stride_suits(width, p.a.stride) & plane::stride_suits(width, p.b.stride) {
+            return Ok(());
         }
-        return refusal::STRIDE;
+        return Err(Refusal::Stride);
     }
-    let no_a = plane::layout_refusal(a8, a16, layout.size, layout.stride_a);
-    let no_b = plane::layout_refusal(b8, b16, layout.size, layout.stride_b);
-    plane::lower(no_a, no_b)
+    let own = plane::check_layout(p.format, p.a);
+    let other = plane::check_layout(p.format, p.b);
+    refusal::lower(own, other)
 }
 
-// 8 where too few places are lent, 15 where the rows go past the height, and 0 else.
-fn late_refusal(state: State, rows: usize, lent: usize) -> u8
+// 8 where too few places are lent, 15 where the rows go past the height.
+#[tactic(auto, unfolding(crate::specs::Feed::late_tests))]
+fn check_late(state: State, rows: usize, lent: usize) -> Result<(), Refusal>
     requires { SoundState state }
     ensures { result ≡ first_broken (late_tests state rows lent) }
 {
     if lent < ssim::scratch_places(state.width, state.taps) {
-        return refusal::SCRATCH;
+        return Err(Refusal::Scratch);
     }
     if state.height - state.rows < rows {
-        return refusal::STATE;
+        return Err(Refusal::State);
     }
-    0
+    Ok(())
 }
 
-// 15 where the state is impossible; else the lowest of 4 5 6 8 15 that applies, and 0 where none does.
-fn refusal(
-    a8: &[u8],
-    a16: &[u16],
-    b8: &[u8],
-    b16: &[u16],
-    layout: Layout,
-    state: State,
-    lent: usize,
-) -> u8
-    requires { (layout.size.width ≡ state.width) × (layout.size.depth ≡ state.depth) }
-    ensures { result ≡ feed_refusal state (planes layout a8.entry a16.entry b8.entry b16.entry) lent }
+// 15 where the state is impossible; else the lowest of 4 5 6 8 15 that applies.
+#[tactic(auto, using(crate::proofs::Accept::feed_in_parts))]
+fn check<S: Stored>(p: Pair<'_, S>, state: State, lent: usize) -> Result<(), Refusal>
+    requires { (p.format.width ≡ state.width) × (p.format.depth ≡ state.depth) }
+    ensures { result ≡ feed_refusal state (planes S.Sample.value S.WIDE p.entry) lent }
 {
-    if !possible::is_possible(layout.size.wide, state) {
-        return refusal::STATE;
+    if !possible::is_possible(S::WIDE, state) {
+        return Err(Refusal::State);
     }
-    let no = rows_refusal(a8, a16, b8, b16, layout);
-    if no != 0 {
-        return no;
-    }
-    late_refusal(state, layout.size.height, lent)
+    check_rows(p)?;
+    check_late(state, p.format.height, lent)
 }
 
 // Rows into the places that are used: the ring as it stands, and zeros past it, whatever the caller left there.
-fn take(
-    a8: &[u8],
-    a16: &[u16],
-    b8: &[u8],
-    b16: &[u16],
-    layout: Layout,
-    ring: Ring,
-    kernel: &[u16],
+fn take<S: Stored>(
+    p: Pair<'_, S>,
+    by: Scoring<'_>,
     received: usize,
-    max2: f64,
     t: Totals,
     used: &mut [i64],
 ) -> Totals
-    requires height_bound { (received + layout.size.height ≤ ring.height) × (layout.size.width ≡ ring.width)
-        × (ring.width ≤ side_limit) × (ring.height ≤ side_limit) }
-    requires long { 0 < layout.size.height → Long layout.size (planes layout a8 a16 b8 b16).a
-        × Long layout.size (planes layout a8 a16 b8 b16).b }
-    requires roomy { Roomy ring kernel.now (length used.old) }
-    requires kernel { Kernel kernel.now }
-    requires lent_total_value { lent_total ≡ sum_to (tap kernel.now) (length kernel.now) }
-    ensures { record { places = used.new; totals = result } ≡ taken_of max2 kernel.now ring
-        (planes layout a8.entry a16.entry b8.entry b16.entry) received
+    requires height_bound { (received + p.format.height ≤ by.ring.height) × (p.format.width ≡ by.ring.width)
+        × (by.ring.width ≤ side_limit) × (by.ring.height ≤ side_limit) }
+    requires long { 0 < p.format.height → Long (sized S.WIDE p.format) (planes S.Sample.value S.WIDE p).a
+        × Long (sized S.WIDE p.format) (planes S.Sample.value S.WIDE p).b }
+    requires roomy { Roomy by.ring by.kernel.now (length used.old) }
+    requires kernel { Kernel by.kernel.now }
+    requires lent_total_value { lent_total ≡ sum_to (tap by.kernel.now) (length by.kernel.now) }
+    ensures { record { places = used.new; totals = result } ≡ taken_of by.entry.max2 by.entry.kernel.now by.entry.ring
+        (planes S.Sample.value S.WIDE p.entry) received
         (record {
-          places = take (ring_places ring) used.old
-              ++ replicate (length used.old - ring_places ring) (pos 0);
+          places = take (ring_places by.entry.ring) used.old
+              ++ replicate (length used.old - ring_places by.entry.ring) (pos 0);
           totals = t;
-        }) layout.size.height }
+        }) p.entry.format.height }
 {
-    let past = ring.lines * ring.width;
+    let past = by.ring.lines * by.ring.width;
     walk::clear(&mut used[past..]);
-    row_ring::take_rows(
-        a8, a16, b8, b16, layout, ring, kernel, received, max2, t, used,
-    )
+    row_ring::take_rows(p, by, received, t, used)
 }
 
 // The same of a state, whose kernel stands in the first `taps` of these places.
-fn take_under(
-    a8: &[u8],
-    a16: &[u16],
-    b8: &[u8],
-    b16: &[u16],
-    layout: Layout,
+fn take_under<S: Stored>(
+    p: Pair<'_, S>,
     state: State,
     kernel: &[u16],
     scratch: &mut [i64],
 ) -> Totals
     requires kernel_value { kernel.now ≡ state.kernel }
-    requires sound_feed { SoundFeed state (planes layout a8 a16 b8 b16) (length scratch.old) }
-    ensures value { result ≡ (taken_in state (planes layout a8.entry a16.entry b8.entry b16.entry) scratch.old).totals }
-    ensures scratch_after { scratch.new ≡ (taken_in state (planes layout a8.entry a16.entry b8.entry b16.entry)
+    requires sound_feed { SoundFeed state (planes S.Sample.value S.WIDE p) (length scratch.old) }
+    ensures value { result ≡ (taken_in state (planes S.Sample.value S.WIDE p.entry) scratch.old).totals }
+    ensures scratch_after { scratch.new ≡ (taken_in state (planes S.Sample.value S.WIDE p.entry)
         scratch.old).places ++ drop (used_places state) scratch.old }
 {
     let taps = state.taps;
@@ -136,39 +115,12 @@ fn take_under(
     };
     let used = ring.lines * ring.width + 5 * (state.width + 2 * (taps / 2));
     let max2 = centre::squared(plane::sample_max(state.depth));
-    take(
-        a8,
-        a16,
-        b8,
-        b16,
-        layout,
+    let by = Scoring {
         ring,
-        &kernel[..taps],
-        state.rows,
+        kernel: &kernel[..taps],
         max2,
-        state.sums,
-        &mut scratch[..used],
-    )
-}
-
-// The same, where they are the state's own places.
-fn take_held(
-    a8: &[u8],
-    a16: &[u16],
-    b8: &[u8],
-    b16: &[u16],
-    layout: Layout,
-    state: State,
-    kernel: &[u16; 255],
-    scratch: &mut [i64],
-) -> Totals
-    requires kernel_value { kernel.now ≡ state.kernel }
-    requires sound_feed { SoundFeed state (planes layout a8 a16 b8 b16) (length scratch.old) }
-    ensures value { result ≡ (taken_in state (planes layout a8.entry a16.entry b8.entry b16.entry) scratch.old).totals }
-    ensures scratch_after { scratch.new ≡ (taken_in state (planes layout a8.entry a16.entry b8.entry b16.entry)
-        scratch.old).places ++ drop (used_places state) scratch.old }
-{
-    take_under(a8, a16, b8, b16, layout, state, kernel, scratch)
+    };
+    take(p, by, state.rows, state.sums, &mut scratch[..used])
 }
 
 // The state with so many more rows, and these sums.
@@ -177,39 +129,30 @@ fn with_rows(state: State, rows: usize, sums: Totals) -> State
     ensures { result ≡ with_rows state rows sums }
 {
     let received = state.rows + rows;
-    let mut next = state;
-    next.rows = received;
-    next.scored = row_ring::scored_after(received, state.height, state.taps / 2);
-    next.sums = sums;
-    next
+    State {
+        rows: received,
+        scored: row_ring::scored_after(received, state.height, state.taps / 2),
+        sums,
+        ..state
+    }
 }
 
-// Feed, of either sample width.
-pub fn feed(
-    a8: &[u8],
-    a16: &[u16],
-    b8: &[u8],
-    b16: &[u16],
-    layout: Layout,
-    state: State,
+// Feed.
+pub fn feed<S: Stored>(
+    p: Pair<'_, S>,
+    state: &mut State,
     scratch: &mut [i64],
-) -> Fed
-    requires { (layout.size.width ≡ state.width) × (layout.size.depth ≡ state.depth) }
-    ensures value { result ≡ feed_of state (planes layout a8.entry a16.entry b8.entry b16.entry) scratch.old }
-    ensures scratch_after { scratch.new ≡ scratch_fed state (planes layout a8.entry a16.entry b8.entry b16.entry)
+) -> Result<(), Refusal>
+    requires { (p.format.width ≡ state.old.width) × (p.format.depth ≡ state.old.depth) }
+    ensures value { result ≡ feed_refusal state.old (planes S.Sample.value S.WIDE p.entry) (length scratch.old) }
+    ensures state_after { state.new ≡ state_fed state.old (planes S.Sample.value S.WIDE p.entry)
+        scratch.old }
+    ensures scratch_after { scratch.new ≡ scratch_fed state.old (planes S.Sample.value S.WIDE p.entry)
         scratch.old }
 {
-    let no = refusal(a8, a16, b8, b16, layout, state, scratch.len());
-    if no != 0 {
-        return Fed {
-            answer: Took::Refused(no),
-            state,
-        };
-    }
-    let kernel = state.kernel;
-    let sums = take_held(a8, a16, b8, b16, layout, state, &kernel, scratch);
-    Fed {
-        answer: Took::Yes,
-        state: with_rows(state, layout.size.height, sums),
-    }
+    let before = *state;
+    check(p, before, scratch.len())?;
+    let sums = take_under(p, before, &before.kernel, scratch);
+    *state = with_rows(before, p.format.height, sums);
+    Ok(())
 }

@@ -1,20 +1,20 @@
 -- What holds where no test of SSIM refuses, and what the answer is where one does. Assumes nothing.
-use mathlib.Core.Path.{◌≡◌, sym, ◌∙◌}
+use mathlib.Core.Path.{◌≡◌, sym}
 use mathlib.Core.Bool.{Bool, true, false}
 use mathlib.Core.List.{List}
 use Prim.Native.Nat.{ℕ, ◌+◌, ◌*◌, ◌/◌, ◌≤◌, ◌<◌}
 use native.Mathlib.Nat.{mul-le-mul_left, mul-add, mul_comm, mul_assoc}
 use native.Mathlib.Omega.{arith}
 use borrow.Author.Tests.{leb-true, le-leb, lt-leb}
-use lib.Dec.{lit≤}
 use lib.ListN.{length}
-use Rattle.refusal.specs.Numbers.{kernel_no, scratch_no}
-use Rattle.refusal.proofs.Chain.{halves, passed}
+use Rattle.std.specs.Prelude.{Ok, Err}
+use Rattle.refusal.specs.declared.Refusal.{Refusal}
+use Rattle.refusal.specs.declared.Refusal.TheVariants as no
+use Rattle.refusal.proofs.Chain.{halves, passed, stop, go_on}
 use Rattle.plane.specs.Plane.{Planes, both}
 use Rattle.plane.specs.Tests.{pair_tests, pair_refusal}
-use Rattle.plane.proofs.Accept.{accepted, plane_named}
+use Rattle.plane.proofs.Accept.{accepted}
 use Rattle.plane.proofs.Depth.{depth_small}
-use Rattle.plane.proofs.Several.{planes_stop, planes_pass}
 use Rattle.kernel.specs.Kernel.{most_taps, lawful, lent_total}
 use Rattle.window.specs.Inner.Columns.{columns_of}
 use Rattle.window.proofs.Demand.{plane_small}
@@ -31,26 +31,28 @@ pub taps_count : (ker : List ℕ) → lawful lent_total ker ≡ true → (1 ≤ 
 taps_count ker e = let s = kernel_says lent_total ker e in (omega (arith, s.odd), s.short)
 
 -- ---- 7 and 8, after the planes
-module _ (p : Planes) (ker : List ℕ) (lent : ℕ) {n : ℕ} (e : n ≡ pair_refusal p 0) where
-  abbrev own : List (ℕ × Bool)
+module _ (p : Planes) (ker : List ℕ) (lent : ℕ) where
+  abbrev own : List (Refusal × Bool)
   own = lent_tests p.size.width ker lent
 
   -- the planes refuse
-  pub planes_refuse : (n ≡ 0 → ⊥) → n ≡ ssim_refusal p ker lent
-  planes_refuse h = planes_stop p.size (both p) 0 e own h
+  pub planes_refuse : {r : Refusal} → Err r ≡ pair_refusal p 0 → Err r ≡ ssim_refusal p ker lent
+  planes_refuse e = sym (stop (pair_tests p 0) own (sym e))
 
   -- they do not
-  pub kernel_refuses : n ≡ 0 → lawful lent_total ker ≡ false → kernel_no ≡ ssim_refusal p ker lent
+  pub kernel_refuses : Ok tt ≡ pair_refusal p 0 → lawful lent_total ker ≡ false → Err no.Kernel ≡ ssim_refusal p ker lent
   unfolding lent_tests
-  kernel_refuses z f = planes_pass p.size (both p) 0 e own z (rw f)
+  kernel_refuses e f = go_on (pair_tests p 0) own (sym e) (rw f)
 
-  pub scratch_refuses : n ≡ 0 → lawful lent_total ker ≡ true → lent < scratch_places p.size.width (length ker) → scratch_no ≡ ssim_refusal p ker lent
+  pub scratch_refuses : Ok tt ≡ pair_refusal p 0 → lawful lent_total ker ≡ true → lent < scratch_places p.size.width (length ker)
+      → Err no.Scratch ≡ ssim_refusal p ker lent
   unfolding lent_tests
-  scratch_refuses z f l = planes_pass p.size (both p) 0 e own z (rw (f, lt-leb _ _ l))
+  scratch_refuses e f l = go_on (pair_tests p 0) own (sym e) (rw (f, lt-leb _ _ l))
 
-  pub none_refuses : n ≡ 0 → lawful lent_total ker ≡ true → scratch_places p.size.width (length ker) ≤ lent → 0 ≡ ssim_refusal p ker lent
+  pub none_refuses : Ok tt ≡ pair_refusal p 0 → lawful lent_total ker ≡ true → scratch_places p.size.width (length ker) ≤ lent
+      → Ok tt ≡ ssim_refusal p ker lent
   unfolding lent_tests
-  none_refuses z f l = planes_pass p.size (both p) 0 e own z (rw (f, le-leb _ _ l))
+  none_refuses e f l = go_on (pair_tests p 0) own (sym e) (rw (f, le-leb _ _ l))
 
 -- ---- none of them refuses
 
@@ -67,12 +69,12 @@ columns_few width ker l odd =
 room : (width : ℕ) (ker : List ℕ) → 1 ≤ width → length ker ≡ 2 * (length ker / 2) + 1 → 5 * columns_of ker width ≤ scratch_places width (length ker)
 room width ker l odd = omega (arith, columns_few width ker l odd, mul_assoc 6 width (next_power (length ker)))
 
-pub sound : (p : Planes) (ker : List ℕ) (lent : ℕ) {n : ℕ} → n ≡ ssim_refusal p ker lent → n ≡ 0 → Sound p ker lent
+pub sound : (p : Planes) (ker : List ℕ) (lent : ℕ) → ssim_refusal p ker lent ≡ Ok tt → Sound p ker lent
 unfolding lent_tests
-sound p ker lent e z =
-    let h = halves (pair_tests p 0) (lent_tests p.size.width ker lent) (plane_named p.size (both p) 0) (sym e ∙ z) in
+sound p ker lent e =
+    let h = halves (pair_tests p 0) (lent_tests p.size.width ker lent) e in
     let q = accepted p.size (both p) 0 h.0 in
-    let t = passed (lent_tests p.size.width ker lent) (lit≤ tt, (lit≤ tt, tt)) h.1 in
+    let t = passed (lent_tests p.size.width ker lent) h.1 in
     let k = kernel_says lent_total ker t.0 in
     let max_fits = plane_small p.size.wide p.size.depth q.sized.depth_most in
     record {

@@ -1,5 +1,4 @@
 pub mod Powers
-mod Zeros
 mod Same
 pub mod Accept
 pub mod Asked

@@ -1,19 +1,24 @@
 -- L is the least power of two not below the tap count. Assumes nothing.
 use mathlib.Core.Path.{◌≡◌, refl}
-use Prim.Native.Nat.{ℕ, zero, suc, ◌+◌, ◌*◌, ◌≤◌, ◌<◌, ◌^◌, min}
-use native.Mathlib.Nat.{pow-succ'}
+use Prim.Native.Nat.{ℕ, zero, suc, ◌+◌, ◌*◌, ◌≤◌, ◌<◌, ◌^◌, ◌/◌, min, max}
+use native.Mathlib.Nat.{pow-succ', mul-le-mul}
 use native.Mathlib.Decide.{dec_lt}
 use native.Mathlib.Omega.{arith}
 use borrow.Author.Tests.{lt-ltb, le-ltb}
 use lib.Pow.{pow_pos, pow_mono}
+use Rattle.std.specs.Int.{IsPowerOfTwo}
+use Rattle.plane.specs.Limits.{side_limit}
+use Rattle.plane.proofs.Limits.{side_small}
+use Rattle.kernel.specs.Kernel.{most_taps}
+use Rattle.kernel.proofs.Says.{taps_room}
 use Rattle.number.specs.Steps.{fold_to}
 use Rattle.ssim.specs.Scratch.{doubled_below, next_power}
 
-pub doubled_below_lem : (n p : ℕ) → p < n → doubled_below n p ≡ 2 * p
+doubled_below_lem : (n p : ℕ) → p < n → doubled_below n p ≡ 2 * p
 unfolding doubled_below
 doubled_below_lem n p l = rw (lt-ltb p n l)
 
-pub doubled_there : (n p : ℕ) → n ≤ p → doubled_below n p ≡ p
+doubled_there : (n p : ℕ) → n ≤ p → doubled_below n p ≡ p
 unfolding doubled_below
 doubled_there n p l = rw (le-ltb p n l)
 
@@ -35,11 +40,16 @@ kept P n one more = go n
     go (suc i) = let q = go i in doubled_all P n _ (λ l. q) (more _ q)
 
 -- no product of it leaves the machine's numbers
-pub doubled_le : (n p : ℕ) → p ≤ 2 * n → doubled_below n p ≤ 2 * n
-doubled_le n p l = doubled_all (λ (q : ℕ). q ≤ 2 * n) n p (λ m. l) (λ m. omega arith)
-
 pub power_le : (n : ℕ) → 1 ≤ n → next_power n ≤ 2 * n
 power_le n l = kept (λ (q : ℕ). q ≤ 2 * n) n (omega arith) (λ p q m. omega arith)
+
+-- nor what a row of lines takes
+pub places_room : (sums width n : ℕ) → sums ≤ 16 → width ≤ side_limit → 1 ≤ n → n ≤ most_taps → sums * width * next_power n < 2 ^ 64
+places_room sums width n few l some short =
+    let narrow : width ≤ 2 ^ 14 = omega (arith, side_small) in
+    let row : sums * width ≤ 16 * 2 ^ 14 = mul-le-mul few narrow in
+    let lines : next_power n ≤ 2 ^ 40 = omega (arith, taps_room, power_le n some) in
+    omega (arith, mul-le-mul row lines)
 
 -- ---- the least power of two not below the tap count
 
@@ -65,3 +75,15 @@ power_least n k l =
     twice : (p j : ℕ) → p ≡ 2 ^ j → p < 2 ^ k → Dec (j < k) → 2 * p ≤ 2 ^ k
     twice p j e m (yes d) = let t : 2 ^ suc j ≤ 2 ^ k = pow_mono d in rw e (omega (arith, t, pow-succ' 2 j))
     twice p j e m (no d) = let t : 2 ^ k ≤ 2 ^ j = pow_mono (omega arith) in omega arith
+
+-- so whatever is one, and the least, is that one
+pub least_power : (n p : ℕ) → IsPowerOfTwo p → n ≤ p → p / 2 < max 1 n → 1 ≤ n → p ≡ next_power n
+least_power n p k reach least some =
+    let q = power_is n in
+    let few : next_power n ≤ p = rw k.1 (power_least n k.0 (omega (arith, k.1))) in
+    let many : p ≤ next_power n = within k.0 q.0 k.1 q.1 (dec_lt q.0 k.0) in
+    omega (arith, few, many)
+  where
+    within : (i j : ℕ) → p ≡ 2 ^ i → next_power n ≡ 2 ^ j → Dec (j < i) → p ≤ next_power n
+    within i j e f (yes d) = let t : 2 ^ suc j ≤ 2 ^ i = pow_mono d in omega (arith, t, e, f, pow-succ' 2 j, power_reach n)
+    within i j e f (no d) = let t : 2 ^ i ≤ 2 ^ j = pow_mono (omega arith) in omega (arith, t, e, f)

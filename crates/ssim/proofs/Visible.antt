@@ -6,8 +6,7 @@ use lib.Ieee.{Float}
 use lib.IntN.{ℤ}
 use lib.ListN.{length}
 use Rattle.number.proofs.Folds.{fold_ext}
-use Rattle.plane.specs.declared.Size.{Size}
-use Rattle.plane.specs.Plane.{Plane, planes_of, sample_at}
+use Rattle.plane.specs.Plane.{Size, Plane, planes_of, sample_at}
 use Rattle.plane.specs.Tests.{layout_tests}
 use Rattle.plane.specs.Inner.Lawful.{Alike, Equivalent}
 use Rattle.plane.proofs.Exchange.{samples_alike}

@@ -5,6 +5,7 @@ ghost use Rattle.ssim.specs.Score.{with_centre};
 ghost use Rattle.ssim.specs.Answer as Answer;
 
 use crate::{Ssim, Totals};
+use refusal::Refusal;
 use window::Moments;
 
 const SSIM_K1: f64 = 0.01 * 0.01;
@@ -15,10 +16,11 @@ const SSIM_K2: f64 = 0.03 * 0.03;
 pub fn squared(max: u32) -> f64
     ensures { result ≡ Steps.double (max * max) }
 {
-    number::double((max as u64) * (max as u64))
+    number::double(u64::from(max) * u64::from(max))
 }
 
 // One centre more. `max2` is the square of the largest sample.
+#[tactic(auto, unfolding(crate::specs::Score::with_centre))]
 pub fn step(max2: f64, t: Totals, moments: Moments) -> Totals
     ensures { result ≡ with_centre max2 t moments }
 {
@@ -42,14 +44,14 @@ pub fn step(max2: f64, t: Totals, moments: Moments) -> Totals
 }
 
 // The pair, or 9 where it is not finite.
-pub fn pair(t: Totals) -> Ssim
+pub fn pair(t: Totals) -> Result<Ssim, Refusal>
     ensures { result ≡ Answer.pair_of t }
 {
     let ssim = t.ssim / t.ssimw;
     let cs = t.cs / t.ssimw;
     if number::finite(ssim) & number::finite(cs) {
-        Ssim::Pair { ssim, cs }
+        Ok(Ssim { ssim, cs })
     } else {
-        Ssim::Refused(refusal::NOT_FINITE)
+        Err(Refusal::NotFinite)
     }
 }

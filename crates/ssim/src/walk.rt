@@ -9,9 +9,10 @@ ghost use Rattle.ssim.specs.Score.{row_of};
 ghost use Rattle.ssim.specs.Inner.Walk.{totals_on};
 
 use crate::{Totals, centre};
-use window::Grid;
+use plane::{Pair, Sample};
 
 // The centres of one row, whose column sums stand in `cols`. `down` is the weight of the rows, `total` what all taps sum to.
+#[tactic(auto, using(number::proofs::Folds::fold_none, number::proofs::Folds::fold_more))]
 pub fn centres(
     cols: &[i64],
     width: usize,
@@ -19,15 +20,16 @@ pub fn centres(
     total: u64,
     down: u64,
     max2: f64,
-    t: Totals,
+    mut t: Totals,
 ) -> Totals
-    requires width_le_side_limit { (width ≤ side_limit) × (5 * columns_of kernel.now width ≤ length cols.now) × (down ≤ fixed_total) }
+    requires width_le_side_limit { (width ≤ side_limit) × (5 * columns_of kernel.now width ≤ length cols.now)
+        × (down ≤ fixed_total) }
     requires kernel { Kernel kernel.now }
     requires total_value { total ≡ sum_to (tap kernel.now) (length kernel.now) }
     requires column_sums { ColumnSums cols.now (5 * columns_of kernel.now width) }
     ensures { result ≡ row_of max2 (moments_in kernel.now cols.now width down) t width }
 {
-    let mut t = t;
+    // by index: a centre is a place between the columns, and reads many of them
     for x in 0..width {
         t = centre::step(
             max2,
@@ -42,56 +44,34 @@ pub fn centres(
 pub fn clear(s: &mut [i64])
     ensures { s.new ≡ replicate (length s.old) (pos 0) }
 {
-    for i in 0..s.len() {
-        s[i] = 0;
-    }
+    s.fill(0);
 }
 
 // Every row: its column sums, between the margins of zeros that stand there, then its centres.
-fn rows(
-    a8: &[u8],
-    a16: &[u16],
-    a32: &[u32],
-    b8: &[u8],
-    b16: &[u16],
-    b32: &[u32],
-    grid: Grid,
+#[tactic(auto, using(plane::proofs::Limits::side_small, kernel::proofs::Says::taps_room, crate::proofs::Same::totals_none))]
+fn rows<S: Sample>(
+    p: Pair<'_, S>,
     kernel: &[u16],
     total: u64,
     max2: f64,
     cols: &mut [i64],
 ) -> Totals
-    requires width_le_side_limit { (grid.width ≤ side_limit) × (grid.height ≤ side_limit)
-        × (5 * columns_of kernel.now grid.width ≤ length cols.old) }
-    requires margins { Margins cols.old kernel.now grid.width }
+    requires width_le_side_limit { (p.format.width ≤ side_limit) × (p.format.height ≤ side_limit)
+        × (5 * columns_of kernel.now p.format.width ≤ length cols.old) }
+    requires margins { Margins cols.old kernel.now p.format.width }
     requires kernel { Kernel kernel.now }
     requires total_value { total ≡ sum_to (tap kernel.now) (length kernel.now) }
-    requires summable { 1 ≤ grid.height → Summable (on_grid grid a8 a16 a32 b8 b16 b32) }
-    ensures { result ≡ totals_on max2 kernel.now
-        (on_grid grid a8.entry a16.entry a32.entry b8.entry b16.entry b32.entry) grid.height }
+    requires summable { 1 ≤ p.format.height → Summable (on_grid S.value p) }
+    ensures { result ≡ totals_on max2 kernel.now (on_grid S.value p.entry) p.entry.format.height }
 {
-    let width = grid.width;
-    let height = grid.height;
+    let width = p.format.width;
+    let height = p.format.height;
     let start = 5 * (kernel.len() / 2);
     let end = start + 5 * width;
-    let mut t = Totals {
-        ssim: 0.0,
-        cs: 0.0,
-        ssimw: 0.0,
-    };
+    let mut t = Totals::default();
+    // by index: a row is read by its number, with those around it
     for y in 0..height {
-        window::columns::fill(
-            a8,
-            a16,
-            a32,
-            b8,
-            b16,
-            b32,
-            grid,
-            kernel,
-            y,
-            &mut cols[start..end],
-        );
+        window::columns::fill(p, kernel, y, &mut cols[start..end]);
         let down = window::row::weight(kernel, total, height, y);
         t = centres(cols, width, kernel, total, down, max2, t);
     }
@@ -99,32 +79,23 @@ fn rows(
 }
 
 // The sums over every centre. All of the scratch is zero afterwards.
-pub fn totals(
-    a8: &[u8],
-    a16: &[u16],
-    a32: &[u32],
-    b8: &[u8],
-    b16: &[u16],
-    b32: &[u32],
-    grid: Grid,
+pub fn totals<S: Sample>(
+    p: Pair<'_, S>,
     kernel: &[u16],
     total: u64,
     max2: f64,
     scratch: &mut [i64],
 ) -> Totals
-    requires width_le_side_limit { (grid.width ≤ side_limit) × (grid.height ≤ side_limit)
-        × (5 * columns_of kernel.now grid.width ≤ length scratch.old) }
+    requires width_le_side_limit { (p.format.width ≤ side_limit) × (p.format.height ≤ side_limit)
+        × (5 * columns_of kernel.now p.format.width ≤ length scratch.old) }
     requires kernel { Kernel kernel.now }
     requires total_value { total ≡ sum_to (tap kernel.now) (length kernel.now) }
-    requires summable { 1 ≤ grid.height → Summable (on_grid grid a8 a16 a32 b8 b16 b32) }
-    ensures value { result ≡ totals_on max2 kernel.now
-        (on_grid grid a8.entry a16.entry a32.entry b8.entry b16.entry b32.entry) grid.height }
+    requires summable { 1 ≤ p.format.height → Summable (on_grid S.value p) }
+    ensures value { result ≡ totals_on max2 kernel.now (on_grid S.value p.entry) p.entry.format.height }
     ensures scratch_after { scratch.new ≡ replicate (length scratch.old) (pos 0) }
 {
     clear(scratch);
-    let t = rows(
-        a8, a16, a32, b8, b16, b32, grid, kernel, total, max2, scratch,
-    );
+    let t = rows(p, kernel, total, max2, scratch);
     clear(scratch);
     t
 }

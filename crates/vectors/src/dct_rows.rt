@@ -1,54 +1,54 @@
 // Transforms and their inverses. A row has which of the two it is, the answer, 64 numbers, and the 64 that they become.
-ghost use Rattle.std.specs.Prelude.{◌<◌};
+use crate::{table, tell};
+use refusal::Refusal;
+use std::io;
 
-use crate::table;
+// How many numbers a block has, and how many a row.
+const BLOCK: usize = 64;
 
-// How many numbers a row has.
 const ROW: usize = 130;
 
-// Number i of the table.
-fn entry(i: usize) -> i32 {
+// Which of the two a row asks for.
+#[derive(Clone, Copy, Debug, PartialEq, Eq)]
+enum Way {
+    Forward,
+    Inverse,
+}
+
+impl TryFrom<i32> for Way {
+    type Error = i32;
+
+    fn try_from(n: i32) -> Result<Way, i32> {
+        match n {
+            0 => Ok(Way::Forward),
+            1 => Ok(Way::Inverse),
+            _ => Err(n),
+        }
+    }
+}
+
+fn ask(way: Way, block: &[i32], out: &mut [i32]) -> Result<(), Refusal> {
+    match way {
+        Way::Forward => dct::forward(block, out),
+        Way::Inverse => dct::inverse(block, out),
+    }
+}
+
+// Whether a row gives its answer; refused, the zeros stay.
+fn row_is(row: &[i32; ROW]) -> bool {
+    let &[way, answer, ..] = row;
+    let Ok(way) = Way::try_from(way) else {
+        return false;
+    };
+    let (_, numbers) = row.split_at(2);
+    let (block, becomes) = numbers.split_at(BLOCK);
+    let mut out = [0i32; BLOCK];
+    let no = tell::number_of(ask(way, block, &mut out));
+    i32::from(no) == answer && out.as_slice() == becomes
+}
+
+pub fn replay(rt: &impl Print) -> io::Result<()> {
     let list = table::TRANSFORMS;
-    if i < list.len() { list[i] } else { 0 }
-}
-
-// The 64 numbers from a place on.
-fn block(from: usize) -> [i32; 64]
-    requires { from < 1000000 }
-{
-    let mut list = [0i32; 64];
-    for i in 0..64 {
-        list[i] = entry(from + i);
-    }
-    list
-}
-
-// Whether these are the 64 numbers from a place on.
-fn stand(list: &[i32; 64], from: usize) -> bool
-    requires { from < 1000000 }
-{
-    let mut right = true;
-    for i in 0..64 {
-        right = right & (list[i] == entry(from + i));
-    }
-    right
-}
-
-fn ask(back: bool, block: &[i32], out: &mut [i32]) -> u8 {
-    if back {
-        dct::inverse(block, out)
-    } else {
-        dct::forward(block, out)
-    }
-}
-
-// Whether row i gives its answer; refused, the zeros stay.
-pub fn block_is(i: usize) -> bool
-    requires { i < 4096 }
-{
-    let at = ROW * i;
-    let from = block(at + 2);
-    let mut out = [0i32; 64];
-    let answer = ask(entry(at) != 0, &from, &mut out);
-    ((answer as i32) == entry(at + 1)) & stand(&out, at + 66)
+    let (rows, _) = list.as_chunks::<ROW>();
+    tell::replay(rt, "transforms", rows, row_is)
 }

@@ -18,6 +18,7 @@ use std::io;
 fn main(rt: HostRuntime) -> io::Result<()> {
     root::replay_others(&rt)?;
     series::replay(&rt)?;
-    rows::replay_plain(&rt)?;
-    rows::replay_scores(&rt)
+    root::replay(&rt)?;
+    dct_rows::replay(&rt)?;
+    rows::replay(&rt)
 }

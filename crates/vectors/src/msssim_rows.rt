@@ -1,8 +1,11 @@
-// MS-SSIM of two planes that are made by a rule: of each plane `from` is its seed, and `end` how many samples there are; x is how far
-// below the largest its samples reach, y is 0, z is 0. The places lent are those that 17 by 33 need, and no row asks for more.
+// MS-SSIM of two planes that are made by a rule: of each plane `from` is its seed, and `end` how many samples there are; told are how far
+// below the largest its samples reach, and two zeros. The places lent are those that 17 by 33 need, and no row asks for more.
 use crate::rows::Row;
-use crate::tell;
-use msssim::{MsSsim, Pairs};
+use msssim::SCALES;
+use plane::{Pair, Stored};
+use refusal::Refusal;
+use ssim::Ssim;
+use std::array;
 
 // The samples of a plane, more than any row asks for; and the places lent, of 64 bits and of 32.
 const SAMPLES: usize = 640;
@@ -29,78 +32,35 @@ fn below(i: usize, seed: usize, reach: usize) -> usize {
 }
 
 fn bytes(seed: usize, reach: usize) -> [u8; SAMPLES] {
-    let mut list = [0u8; SAMPLES];
-    for i in 0..SAMPLES {
-        list[i] = (BYTE_MAX - below(i, seed, reach) % BYTE_VALUES) as u8;
-    }
-    list
+    array::from_fn(|i| (BYTE_MAX - below(i, seed, reach) % BYTE_VALUES) as u8)
 }
 
 fn words(seed: usize, reach: usize) -> [u16; SAMPLES] {
-    let mut list = [0u16; SAMPLES];
-    for i in 0..SAMPLES {
-        list[i] = (WORD_MAX - below(i, seed, reach) % WORD_VALUES) as u16;
-    }
-    list
+    array::from_fn(|i| (WORD_MAX - below(i, seed, reach) % WORD_VALUES) as u16)
 }
 
-fn ask8(r: Row) -> MsSsim {
-    let a = bytes(r.a.from, r.told.x);
-    let b = bytes(r.b.from, r.told.x);
+fn ask<S: Stored>(p: Pair<'_, S>) -> Result<[Ssim; SCALES], Refusal> {
     let mut scratch = [0i64; PLACES];
     let mut room_a = [0u32; ROOM];
     let mut room_b = [0u32; ROOM];
-    msssim::msssim8(
-        tell::bytes_of(&a, 0, r.a.end),
-        tell::bytes_of(&b, 0, r.b.end),
-        r.size.width,
-        r.size.height,
-        r.a.stride,
-        r.b.stride,
-        r.size.depth,
-        &mut scratch,
-        &mut room_a,
-        &mut room_b,
-    )
+    msssim::msssim(p, &mut scratch, &mut room_a, &mut room_b)
 }
 
-fn ask16(r: Row) -> MsSsim {
-    let a = words(r.a.from, r.told.x);
-    let b = words(r.b.from, r.told.x);
-    let mut scratch = [0i64; PLACES];
-    let mut room_a = [0u32; ROOM];
-    let mut room_b = [0u32; ROOM];
-    msssim::msssim16(
-        tell::words_of(&a, 0, r.a.end),
-        tell::words_of(&b, 0, r.b.end),
-        r.size.width,
-        r.size.height,
-        r.a.stride,
-        r.b.stride,
-        r.size.depth,
-        &mut scratch,
-        &mut room_a,
-        &mut room_b,
-    )
-}
-
-fn ask(r: Row) -> MsSsim {
-    if r.size.wide { ask16(r) } else { ask8(r) }
-}
-
-// Whether the ten numbers stand in the list from a place on.
-fn pairs_are(p: Pairs, from: usize) -> bool {
-    let at = from % 65536;
-    tell::both_stand(p.ssim1, p.cs1, at)
-        & tell::both_stand(p.ssim2, p.cs2, at + 2)
-        & tell::both_stand(p.ssim3, p.cs3, at + 4)
-        & tell::both_stand(p.ssim4, p.cs4, at + 6)
-        & tell::both_stand(p.ssim5, p.cs5, at + 8)
+// The ten numbers, as they stand in the list.
+fn numbers(pairs: [Ssim; SCALES]) -> [f64; 10] {
+    let [one, two, three, four, five] = pairs;
+    [
+        one.ssim, one.cs, two.ssim, two.cs, three.ssim, three.cs, four.ssim, four.cs, five.ssim,
+        five.cs,
+    ]
 }
 
 pub fn five_are(r: Row) -> bool {
-    match ask(r) {
-        MsSsim::Five(p) => (r.told.no == 0) & pairs_are(p, r.told.at),
-        MsSsim::Refused(n) => (n as usize) == r.told.no,
-    }
+    let reach = r.told[0];
+    let five = if r.wide {
+        ask(r.fronts(&words(r.a.from, reach), &words(r.b.from, reach)))
+    } else {
+        ask(r.fronts(&bytes(r.a.from, reach), &bytes(r.b.from, reach)))
+    };
+    r.has(five.map(numbers))
 }

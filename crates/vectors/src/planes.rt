@@ -1,60 +1,41 @@
-// Checks of two planes. Of each plane `from` is the place of the one sample that is not 0, and `end` how many samples there are; x and y
-// are those samples, z is the least side.
+// Checks of two planes. Of each plane `from` is the place of the one sample that is not 0, and `end` how many samples there are; told are
+// those samples, and the least side.
 use crate::rows::Row;
 use crate::tell;
+use plane::Stored;
+use refusal::Refusal;
 
 // The samples of a plane, as many as the table's places reach: at this place no sample is set.
 const ROOM: usize = plane::SIDE_LIMIT;
 
-// A plane of bytes that are 0 but for one.
-fn bytes(at: usize, value: usize) -> [u8; ROOM] {
-    let mut list = [0u8; ROOM];
-    if at < ROOM {
-        list[at] = (value % 256) as u8;
+fn set<S: Copy>(samples: &mut [S], at: usize, value: S) {
+    if let Some(sample) = samples.get_mut(at) {
+        *sample = value;
     }
-    list
 }
 
-// The same of words.
-fn words(at: usize, value: usize) -> [u16; ROOM] {
-    let mut list = [0u16; ROOM];
-    if at < ROOM {
-        list[at] = (value % 65536) as u16;
-    }
-    list
+// The check of two planes that are `a` and `b` but for a sample of each, x and y.
+fn ask<S: Stored>(r: Row, a: &mut [S], x: S, b: &mut [S], y: S) -> Result<(), Refusal> {
+    set(a, r.a.from, x);
+    set(b, r.b.from, y);
+    plane::check(r.fronts(a, b), r.told[2])
 }
 
-fn ask8(r: Row) -> u8 {
-    let a = bytes(r.a.from, r.told.x);
-    let b = bytes(r.b.from, r.told.y);
-    plane::check8(
-        tell::bytes_of(&a, 0, r.a.end),
-        tell::bytes_of(&b, 0, r.b.end),
-        r.size.width,
-        r.size.height,
-        r.a.stride,
-        r.b.stride,
-        r.size.depth,
-        r.told.z,
-    )
+fn ask_bytes(r: Row) -> Option<Result<(), Refusal>> {
+    let [x, y, _] = r.told;
+    let x = u8::try_from(x).ok()?;
+    let y = u8::try_from(y).ok()?;
+    Some(ask(r, &mut [0; ROOM], x, &mut [0; ROOM], y))
 }
 
-fn ask16(r: Row) -> u8 {
-    let a = words(r.a.from, r.told.x);
-    let b = words(r.b.from, r.told.y);
-    plane::check16(
-        tell::words_of(&a, 0, r.a.end),
-        tell::words_of(&b, 0, r.b.end),
-        r.size.width,
-        r.size.height,
-        r.a.stride,
-        r.b.stride,
-        r.size.depth,
-        r.told.z,
-    )
+fn ask_words(r: Row) -> Option<Result<(), Refusal>> {
+    let [x, y, _] = r.told;
+    let x = u16::try_from(x).ok()?;
+    let y = u16::try_from(y).ok()?;
+    Some(ask(r, &mut [0; ROOM], x, &mut [0; ROOM], y))
 }
 
 pub fn check_is(r: Row) -> bool {
-    let no = if r.size.wide { ask16(r) } else { ask8(r) };
-    (no as usize) == r.told.no
+    let answer = if r.wide { ask_words(r) } else { ask_bytes(r) };
+    answer.map(tell::number_of) == Some(r.no)
 }

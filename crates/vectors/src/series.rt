@@ -2,6 +2,7 @@
 use crate::tell;
 use psnr::judge::COUNT_LIMIT;
 use psnr::{Record, Run, Summed, Total};
+use refusal::Refusal;
 use std::io;
 
 // The largest sample of depth 12.
@@ -33,26 +34,27 @@ fn numbered(frame: u32, plane: u32) -> Record {
 
 // A series of so many records, of frames from 0 on.
 fn repeated(sq_err: f64, n: u64, sample_max: u32, times: u32) -> Run {
-    let mut t = psnr::start();
-    let mut i: u32 = 0;
-    while i < times {
-        t = psnr::step(t, record(i, sq_err, n, sample_max));
-        i += 1;
-    }
-    t
+    (0..times).fold(psnr::start(), |run, frame| {
+        psnr::step(run, record(frame, sq_err, n, sample_max))
+    })
 }
 
-// Whether a series is refused by this number, or where that is 0 has this total, "identical" where the error is 0 and nowhere else.
-fn sums_to(s: Run, no: u8, error: f64, n: u64, max: u32) -> bool {
+// Whether a series has this total, "identical" where the error is 0 and nowhere else.
+fn sums_to(s: Run, error: f64, n: u64, max: u32) -> bool {
     match psnr::finish(s) {
-        Summed::Differs(t) => total_is(t, no, error, n, max) & (error != 0.0),
-        Summed::Identical(t) => total_is(t, no, error, n, max) & (error == 0.0),
-        Summed::Refused(k) => k == no,
+        Ok(Summed::Differs(t)) => total_is(t, error, n, max) && error != 0.0,
+        Ok(Summed::Identical(t)) => total_is(t, error, n, max) && error == 0.0,
+        Err(_) => false,
     }
 }
 
-fn total_is(t: Total, no: u8, error: f64, n: u64, max: u32) -> bool {
-    (no == 0) & tell::same(t.sq_err, error) & (t.n == n) & (t.sample_max == max)
+fn total_is(t: Total, error: f64, n: u64, max: u32) -> bool {
+    tell::same(t.sq_err, error) && t.n == n && t.sample_max == max
+}
+
+// Whether a series is refused so.
+fn refused(s: Run, refusal: Refusal) -> bool {
+    psnr::finish(s).err() == Some(refusal)
 }
 
 // So many of the largest records.
@@ -77,24 +79,18 @@ fn equal(times: u32, sample_max: u32) -> Run {
 }
 
 fn spoils(sq_err: f64, n: u64, sample_max: u32) -> bool {
-    sums_to(two(sq_err, n, sample_max), refusal::RECORD, 0.0, 0, 0)
+    refused(two(sq_err, n, sample_max), Refusal::Record)
 }
 
 // One, two and three planes of the largest error; the totals 2^53 and one more.
 fn totals(rt: &impl Print) -> io::Result<()> {
     let list = [
-        sums_to(largest(1), 0, MOST, 268435456, MAX),
-        sums_to(largest(2), 0, 9002801745100800.0, 536870912, MAX),
-        sums_to(largest(3), refusal::TOTAL, 0.0, 0, 0),
-        sums_to(
-            three(4397509640192.0),
-            0,
-            9007199254740992.0,
-            805306368,
-            MAX,
-        ),
-        sums_to(three(4397509640193.0), refusal::TOTAL, 0.0, 0, 0),
-        sums_to(two(0.0, 3, 255), 0, 9.0, 5, 255),
+        sums_to(largest(1), MOST, 268435456, MAX),
+        sums_to(largest(2), 9002801745100800.0, 536870912, MAX),
+        refused(largest(3), Refusal::Total),
+        sums_to(three(4397509640192.0), 9007199254740992.0, 805306368, MAX),
+        refused(three(4397509640193.0), Refusal::Total),
+        sums_to(two(0.0, 3, 255), 9.0, 5, 255),
     ];
     tell::held(rt, "series", &list)
 }
@@ -102,10 +98,10 @@ fn totals(rt: &impl Print) -> io::Result<()> {
 // No record, the most and one more; and a largest sample that no depth has.
 fn counts(rt: &impl Print) -> io::Result<()> {
     let list = [
-        sums_to(equal(0, 1), refusal::RECORD, 0.0, 0, 0),
-        sums_to(equal(65536, 1), 0, 0.0, 327680, 1),
-        sums_to(equal(65537, 1), refusal::RECORD, 0.0, 0, 0),
-        sums_to(equal(1, 254), refusal::RECORD, 0.0, 0, 0),
+        refused(equal(0, 1), Refusal::Record),
+        sums_to(equal(65536, 1), 0.0, 327680, 1),
+        refused(equal(65537, 1), Refusal::Record),
+        refused(equal(1, 254), Refusal::Record),
     ];
     tell::held(rt, "series of equal records", &list)
 }
@@ -129,13 +125,13 @@ fn of_two(f: u32, p: u32, g: u32, q: u32) -> Run {
     psnr::step(psnr::step(psnr::start(), numbered(f, p)), numbered(g, q))
 }
 
-// Whether they are taken, and whether they are refused with 10.
+// Whether they are taken, and whether they are refused.
 fn rises(f: u32, p: u32, g: u32, q: u32) -> bool {
-    sums_to(of_two(f, p, g, q), 0, 18.0, 4, 255)
+    sums_to(of_two(f, p, g, q), 18.0, 4, 255)
 }
 
 fn falls(f: u32, p: u32, g: u32, q: u32) -> bool {
-    sums_to(of_two(f, p, g, q), refusal::RECORD, 0.0, 0, 0)
+    refused(of_two(f, p, g, q), Refusal::Record)
 }
 
 // Frames and planes that rise, that do not, and a plane that no frame has.

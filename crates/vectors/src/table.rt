@@ -360,8 +360,6 @@ pub const ROOTS: [f64; 356] = [
     -1.0e0,
 ];
 
-pub const PAIRS: usize = 178;
-
 // Transforms, 130 numbers each: the inverse (1) or forward (0), the answer, 64 numbers, and the 64 that they become,
 // 0 where they are refused.
 pub const TRANSFORMS: [i32; 1040] = [
@@ -418,8 +416,6 @@ pub const TRANSFORMS: [i32; 1040] = [
     0, 0, 0, 0, 0, 0, 0, 0, 0, 0, 0, 0, 0, 0, 0, 0, 0, 0, 0, 0, 0, 0, 0, 0, 0, 0, 0, 0, 0, 0, 0, 0,
     0, 0, 0, 0, 0, 0, 0, 0, 0, 0, 0, 0, 0, 0, 0,
 ];
-
-pub const BLOCKS: usize = 8;
 
 // Samples that planes below are parts of, and the taps of kernels.
 pub const BYTES: [u8; 140] = [

@@ -1,73 +1,48 @@
 // What the replays share: the line that each prints, parts of what is lent, and numbers compared.
 use crate::table;
+use refusal::Refusal;
 use std::io;
+use std::ops::Range;
 
-pub fn line(rt: &impl Print, name: &str, right: usize, all: usize) -> io::Result<()> {
+// How many of `rows` give their answer.
+pub fn replay<T, F: Fn(&T) -> bool>(
+    rt: &impl Print,
+    name: &str,
+    rows: &[T],
+    is_right: F,
+) -> io::Result<()>
+    requires { F.IsAlwaysCallable is_right }
+{
+    let right = rows.iter().filter(|&row| is_right(row)).count();
+    let all = rows.len();
     println!(rt; "{name}: {right} of {all}")
 }
 
 // How many of `list` hold.
-fn count(list: &[bool]) -> usize {
-    let mut right: usize = 0;
-    let mut i: usize = 0;
-    while i < list.len() {
-        if list[i] {
-            right += 1;
-        }
-        i += 1;
-    }
-    right
-}
-
 pub fn held(rt: &impl Print, name: &str, list: &[bool]) -> io::Result<()> {
-    line(rt, name, count(list), list.len())
+    replay(rt, name, list, |&holds| holds)
 }
 
-// A part of bytes, and nothing where they are not there.
-pub fn bytes_of(list: &[u8], from: usize, end: usize) -> &[u8] {
-    if from > end {
-        return &list[..0];
-    }
-    if end > list.len() {
-        return &list[..0];
-    }
-    &list[from..end]
+// A part of what is lent, and nothing where it is not there.
+pub fn part_of<T>(list: &[T], places: Range<usize>) -> &[T] {
+    list.get(places).unwrap_or(&[])
 }
 
-// The same of words.
-pub fn words_of(list: &[u16], from: usize, end: usize) -> &[u16] {
-    if from > end {
-        return &list[..0];
-    }
-    if end > list.len() {
-        return &list[..0];
-    }
-    &list[from..end]
-}
-
-// The first places of scratch, and none where there are not as many.
-pub fn places_of(list: &mut [i64], count: usize) -> &mut [i64] {
-    if count <= list.len() {
-        return &mut list[..count];
-    }
-    &mut list[..0]
+// The number that the tables have for an answer: its refusal's, or 0.
+pub fn number_of<T: Drop>(answer: Result<T, Refusal>) -> u8 {
+    answer.err().map_or(0, Refusal::number)
 }
 
 // Whether two numbers are one, zeros of unlike sign told apart.
 pub fn same(x: f64, y: f64) -> bool {
-    (x == y) & (1.0 / x == 1.0 / y)
+    x == y && 1.0 / x == 1.0 / y
 }
 
-// Whether a number stands at a place of the table of scores.
-pub fn stands(x: f64, at: usize) -> bool {
+// Whether these are the numbers that stand in the table of scores from a place on.
+pub fn stand(scores: &[f64], at: usize) -> bool {
     let list = table::SCORES;
-    if at < list.len() {
-        return same(x, list[at]);
-    }
-    false
-}
-
-// Whether two numbers stand at a place and the next.
-pub fn both_stand(x: f64, y: f64, at: usize) -> bool {
-    stands(x, at) & stands(y, at % 65536 + 1)
+    let Some(rest) = list.get(at..) else {
+        return false;
+    };
+    scores.len() <= rest.len() && scores.iter().zip(rest).all(|(x, y)| same(*x, *y))
 }

@@ -1,74 +1,39 @@
 // Down the columns: for one centre row, the five sums of every column into lent scratch, five places to a column. This is the only
-// part that reads samples, so there is one hot function for each of three sample widths, and all else serves every width.
+// part that reads samples.
 ghost use Rattle.std.specs.Prelude.{◌≡◌, ℕ, ◌+◌, ◌-◌, ◌*◌, ◌/◌, ◌<◌, ◌≤◌, pos, length, set};
 ghost use Rattle.plane.specs.Limits.{side_limit};
-ghost use Rattle.plane.specs.Plane.{plane_of, sample_at};
-ghost use Rattle.plane.specs.Inner.Lawful.{Bounded};
+ghost use Rattle.plane.specs.Plane.{sample_at};
+ghost use Rattle.plane.specs.Inner.Seen.{seen};
 ghost use Rattle.kernel.specs.Kernel.{most_taps};
-ghost use Rattle.window.specs.Moments.{most_sample};
 ghost use Rattle.window.specs.Inner.Parts.{Kernel, quant_of, tapped_of, Room};
-ghost use Rattle.window.specs.Inner.Columns.{on_grid, Summable, grid_of, samples_for, column_to, column_of, HoldsRow, Fits};
+ghost use Rattle.window.specs.Inner.Columns.{on_grid, Summable, column_of, HoldsRow, Fits};
 
-use crate::{FiveSums, Grid, Samples};
-use plane::Layout;
-
-// Which samples planes of a call have.
-fn samples_for(wide: bool) -> Samples
-    ensures { result ≡ samples_for wide }
-{
-    if wide { Samples::Words } else { Samples::Bytes }
-}
-
-// How the two planes of a call are read.
-pub fn grid_of(layout: Layout) -> Grid
-    ensures { result ≡ grid_of layout }
-{
-    Grid {
-        samples: samples_for(layout.size.wide),
-        width: layout.size.width,
-        height: layout.size.height,
-        stride_a: layout.stride_a,
-        stride_b: layout.stride_b,
-    }
-}
+use crate::FiveSums;
+use plane::{Pair, Plane, Sample};
 
 // Of a kernel of n taps with its middle at x, the first tap that lies inside a side.
 pub fn first(n: usize, x: usize) -> usize
     ensures { result ≡ n / 2 - x }
 {
-    let off = n / 2;
-    if x < off { off - x } else { 0 }
+    (n / 2).saturating_sub(x)
 }
 
 // The same: the tap past the last inside.
+#[tactic(auto, using(plane::proofs::Limits::side_small, kernel::proofs::Says::taps_room))]
 pub fn past(n: usize, x: usize, side: usize) -> usize
     requires { (n ≡ 2 * (n / 2) + 1) × (n ≤ most_taps) × (x < side) × (side ≤ side_limit) }
     ensures { result ≡ n - (x + n / 2 + 1 - side) }
 {
-    let reach = x + n / 2 + 1;
-    if side < reach { n - (reach - side) } else { n }
+    n - (x + n / 2 + 1).saturating_sub(side)
 }
 
-// The sample at row r and column c of each width, wider.
-fn sample8(p: &[u8], stride: usize, r: usize, c: usize) -> u64
-    requires { r * stride + c < length p.now }
-    ensures { result ≡ sample_at (plane_of p.now stride) r c }
+// The sample at row r and column c, wider.
+#[tactic(auto, using(plane::proofs::All::at_value))]
+fn sample<S: Sample>(p: Plane<'_, S>, r: usize, c: usize) -> u64
+    requires { r * p.stride + c < length p.samples.now }
+    ensures { result ≡ sample_at (seen S.value p.entry) r c }
 {
-    p[r * stride + c] as u64
-}
-
-fn sample16(p: &[u16], stride: usize, r: usize, c: usize) -> u64
-    requires { r * stride + c < length p.now }
-    ensures { result ≡ sample_at (plane_of p.now stride) r c }
-{
-    p[r * stride + c] as u64
-}
-
-fn sample32(p: &[u32], stride: usize, r: usize, c: usize) -> u64
-    requires { r * stride + c < length p.now }
-    ensures { result ≡ sample_at (plane_of p.now stride) r c }
-{
-    p[r * stride + c] as u64
+    u64::from(p.samples[r * p.stride + c].value())
 }
 
 // One tap more over a pair of samples.
@@ -76,7 +41,7 @@ pub fn tapped(t: FiveSums, tap: u16, a: u64, b: u64) -> FiveSums
     requires { Room t tap (λ (m : ℕ). quant_of m a b) }
     ensures { result ≡ tapped_of t tap (λ (m : ℕ). quant_of m a b) }
 {
-    let k = tap as u64;
+    let k = u64::from(tap);
     let ka = k * a;
     let kb = k * b;
     let mux = t.mux + ka;
@@ -93,24 +58,13 @@ pub fn tapped(t: FiveSums, tap: u16, a: u64, b: u64) -> FiveSums
     }
 }
 
-// The five sums down column x of two planes of bytes, the middle in row y.
-fn column8(
-    a: &[u8],
-    b: &[u8],
-    stride_a: usize,
-    stride_b: usize,
-    width: usize,
-    height: usize,
-    kernel: &[u16],
-    x: usize,
-    y: usize,
-) -> FiveSums
-    requires x_lt_width { (x < width) × (y < height) × (height ≤ side_limit) }
+// The five sums down column x of two planes, the middle in row y.
+#[tactic(auto, using(crate::proofs::Sums::Column::down_column))]
+fn column<S: Sample>(p: Pair<'_, S>, kernel: &[u16], x: usize, y: usize) -> FiveSums
+    requires x_lt_width { (x < p.format.width) × (y < p.format.height) × (p.format.height ≤ side_limit) }
     requires kernel { Kernel kernel.now }
-    requires bounded { Bounded most_sample width height (plane_of a.now stride_a) }
-    requires bounded_2 { Bounded most_sample width height (plane_of b.now stride_b) }
-    ensures { result ≡ column_to kernel.now height (sample_at (plane_of a.now stride_a))
-        (sample_at (plane_of b.now stride_b)) x y (length kernel.now) }
+    requires summable { Summable (on_grid S.value p) }
+    ensures { result ≡ column_of kernel.now (on_grid S.value p.entry) x y }
 {
     let n = kernel.len();
     let off = n / 2;
@@ -121,127 +75,12 @@ fn column8(
         xy: 0,
         y2: 0,
     };
-    for k in first(n, y)..past(n, y, height) {
+    // by index: a tap and what stands below it in both planes are read together
+    for k in first(n, y)..past(n, y, p.format.height) {
         let r = y + k - off;
-        t = tapped(
-            t,
-            kernel[k],
-            sample8(a, stride_a, r, x),
-            sample8(b, stride_b, r, x),
-        );
+        t = tapped(t, kernel[k], sample(p.a, r, x), sample(p.b, r, x));
     }
     t
-}
-
-// The same of words.
-fn column16(
-    a: &[u16],
-    b: &[u16],
-    stride_a: usize,
-    stride_b: usize,
-    width: usize,
-    height: usize,
-    kernel: &[u16],
-    x: usize,
-    y: usize,
-) -> FiveSums
-    requires x_lt_width { (x < width) × (y < height) × (height ≤ side_limit) }
-    requires kernel { Kernel kernel.now }
-    requires bounded { Bounded most_sample width height (plane_of a.now stride_a) }
-    requires bounded_2 { Bounded most_sample width height (plane_of b.now stride_b) }
-    ensures { result ≡ column_to kernel.now height (sample_at (plane_of a.now stride_a))
-        (sample_at (plane_of b.now stride_b)) x y (length kernel.now) }
-{
-    let n = kernel.len();
-    let off = n / 2;
-    let mut t = FiveSums {
-        mux: 0,
-        muy: 0,
-        x2: 0,
-        xy: 0,
-        y2: 0,
-    };
-    for k in first(n, y)..past(n, y, height) {
-        let r = y + k - off;
-        t = tapped(
-            t,
-            kernel[k],
-            sample16(a, stride_a, r, x),
-            sample16(b, stride_b, r, x),
-        );
-    }
-    t
-}
-
-// The same of 32-bit samples.
-fn column32(
-    a: &[u32],
-    b: &[u32],
-    stride_a: usize,
-    stride_b: usize,
-    width: usize,
-    height: usize,
-    kernel: &[u16],
-    x: usize,
-    y: usize,
-) -> FiveSums
-    requires x_lt_width { (x < width) × (y < height) × (height ≤ side_limit) }
-    requires kernel { Kernel kernel.now }
-    requires bounded { Bounded most_sample width height (plane_of a.now stride_a) }
-    requires bounded_2 { Bounded most_sample width height (plane_of b.now stride_b) }
-    ensures { result ≡ column_to kernel.now height (sample_at (plane_of a.now stride_a))
-        (sample_at (plane_of b.now stride_b)) x y (length kernel.now) }
-{
-    let n = kernel.len();
-    let off = n / 2;
-    let mut t = FiveSums {
-        mux: 0,
-        muy: 0,
-        x2: 0,
-        xy: 0,
-        y2: 0,
-    };
-    for k in first(n, y)..past(n, y, height) {
-        let r = y + k - off;
-        t = tapped(
-            t,
-            kernel[k],
-            sample32(a, stride_a, r, x),
-            sample32(b, stride_b, r, x),
-        );
-    }
-    t
-}
-
-// The same of two planes as `grid` has them. The one place where the widths part: past it, each has its own loop.
-fn column(
-    a8: &[u8],
-    a16: &[u16],
-    a32: &[u32],
-    b8: &[u8],
-    b16: &[u16],
-    b32: &[u32],
-    grid: Grid,
-    kernel: &[u16],
-    x: usize,
-    y: usize,
-) -> FiveSums
-    requires x_lt_width { (x < grid.width) × (y < grid.height) × (grid.height ≤ side_limit) }
-    requires kernel { Kernel kernel.now }
-    requires summable { Summable (on_grid grid a8 a16 a32 b8 b16 b32) }
-    ensures { result ≡ column_of kernel.now
-        (on_grid grid a8.entry a16.entry a32.entry b8.entry b16.entry b32.entry) x y }
-{
-    let samples = grid.samples;
-    let sa = grid.stride_a;
-    let sb = grid.stride_b;
-    let width = grid.width;
-    let height = grid.height;
-    match samples {
-        Samples::Bytes => column8(a8, b8, sa, sb, width, height, kernel, x, y),
-        Samples::Words => column16(a16, b16, sa, sb, width, height, kernel, x, y),
-        Samples::Longs => column32(a32, b32, sa, sb, width, height, kernel, x, y),
-    }
 }
 
 // Five sums into scratch from `at` on.
@@ -259,26 +98,17 @@ pub fn put(at: usize, t: FiveSums, cols: &mut [i64])
 }
 
 // The sums of every column, the middle in row y.
-pub fn fill(
-    a8: &[u8],
-    a16: &[u16],
-    a32: &[u32],
-    b8: &[u8],
-    b16: &[u16],
-    b32: &[u32],
-    grid: Grid,
-    kernel: &[u16],
-    y: usize,
-    cols: &mut [i64],
-)
-    requires y_lt_height { (y < grid.height) × (grid.width ≤ side_limit) × (grid.height ≤ side_limit) × (5 * grid.width ≡ length cols.old) }
+#[tactic(auto, using(crate::proofs::Sums::Held::filled_steps))]
+pub fn fill<S: Sample>(p: Pair<'_, S>, kernel: &[u16], y: usize, cols: &mut [i64])
+    requires y_lt_height { (y < p.format.height) × (p.format.width ≤ side_limit) × (p.format.height ≤ side_limit)
+        × (5 * p.format.width ≡ length cols.old) }
     requires kernel { Kernel kernel.now }
-    requires summable { Summable (on_grid grid a8 a16 a32 b8 b16 b32) }
-    ensures { HoldsRow cols.new (5 * grid.width) kernel.now
-        (on_grid grid a8.entry a16.entry a32.entry b8.entry b16.entry b32.entry) y }
+    requires summable { Summable (on_grid S.value p) }
+    ensures { HoldsRow cols.new (5 * p.entry.format.width) kernel.now (on_grid S.value p.entry) y }
 {
-    for x in 0..grid.width {
-        let t = column(a8, a16, a32, b8, b16, b32, grid, kernel, x, y);
+    // by index: `column` reads a column of the planes by its number, and chunks of `cols` would be no plainer
+    for x in 0..p.format.width {
+        let t = column(p, kernel, x, y);
         put(5 * x, t, cols);
     }
 }

@@ -5,26 +5,8 @@
 pub mod columns;
 pub mod row;
 
-// Which of three slices holds the samples of a plane. The 32-bit ones are those that MS-SSIM sums.
-#[derive(Clone, Copy)]
-pub enum Samples {
-    Bytes,
-    Words,
-    Longs,
-}
-
-// Two planes as the sums read them: their samples and sides, and the stride of each.
-#[derive(Clone, Copy)]
-pub struct Grid {
-    pub samples: Samples,
-    pub width: usize,
-    pub height: usize,
-    pub stride_a: usize,
-    pub stride_b: usize,
-}
-
 // Five sums under a window: of a, b, a², ab and b².
-#[derive(Clone, Copy)]
+#[derive(Clone, Copy, Debug, PartialEq, Eq)]
 pub struct FiveSums {
     pub mux: u64,
     pub muy: u64,
@@ -34,7 +16,7 @@ pub struct FiveSums {
 }
 
 // The six moments at a centre: the five sums, and the weight of the taps inside.
-#[derive(Clone, Copy)]
+#[derive(Clone, Copy, Debug, PartialEq, Eq)]
 pub struct Moments {
     pub mux: u64,
     pub muy: u64,

@@ -70,7 +70,7 @@ fn tapped(t: FiveSums, tap: u16, s: FiveSums) -> FiveSums
     requires { Room t tap (nth s) }
     ensures { result ≡ tapped_of t tap (nth s) }
 {
-    let k = tap as u64;
+    let k = u64::from(tap);
     let mux = t.mux + k * s.mux;
     let muy = t.muy + k * s.muy;
     let x2 = t.x2 + k * s.x2;
@@ -100,6 +100,7 @@ fn none() -> FiveSums
 
 // The five sums along the columns from x on, which begin with half a kernel of zeros and end with as many. A kernel is the same from both
 // ends, so that two columns share each tap but the middle one.
+#[tactic(auto, using(crate::proofs::Sums::Folded::folded_steps))]
 fn along(cols: &[i64], n: usize, kernel: &[u16], x: usize) -> FiveSums
     requires kernel_bound { (x + 2 * (length kernel.now / 2) < n) × (5 * n ≤ length cols.now) }
     requires kernel { Kernel kernel.now }
@@ -108,6 +109,7 @@ fn along(cols: &[i64], n: usize, kernel: &[u16], x: usize) -> FiveSums
 {
     let off = kernel.len() / 2;
     let mut t = tapped(none(), kernel[off], cells(cols, n, x + off));
+    // by index: a tap is read with two columns, as far from the middle on either side
     for k in 0..off {
         t = tapped(t, kernel[k], pair(cols, n, x + k, x + 2 * off - k));
     }
@@ -115,20 +117,22 @@ fn along(cols: &[i64], n: usize, kernel: &[u16], x: usize) -> FiveSums
 }
 
 // The taps that lie inside a side, the middle at x.
+#[tactic(auto, using(crate::proofs::Sums::Windows::part_first, crate::proofs::Sums::Windows::part_last))]
 fn taps_inside(kernel: &[u16], side: usize, x: usize) -> u64
     requires x_lt_side { (x < side) × (side ≤ side_limit) }
     requires kernel { Kernel kernel.now }
     ensures { result ≡ weight_of kernel.now side x }
 {
     let n = kernel.len();
-    let mut sum: u64 = 0;
-    for k in columns::first(n, x)..columns::past(n, x, side) {
-        sum = sum + (kernel[k] as u64);
+    let mut sum = 0;
+    for tap in &kernel[columns::first(n, x)..columns::past(n, x, side)] {
+        sum += u64::from(*tap);
     }
     sum
 }
 
 // The same, with no walk where all taps lie inside: `total` is what they sum to.
+#[tactic(auto, using(crate::proofs::Sums::Windows::whole_inside))]
 pub fn weight(kernel: &[u16], total: u64, side: usize, x: usize) -> u64
     requires x_lt_side { (x < side) × (side ≤ side_limit) }
     requires kernel { Kernel kernel.now }
@@ -143,6 +147,7 @@ pub fn weight(kernel: &[u16], total: u64, side: usize, x: usize) -> u64
 }
 
 // The six moments at x. `down` is the weight of the rows.
+#[tactic(auto, unfolding(crate::specs::Inner::Columns::moments_in))]
 pub fn moments_at(
     cols: &[i64],
     width: usize,
@@ -151,7 +156,8 @@ pub fn moments_at(
     down: u64,
     x: usize,
 ) -> Moments
-    requires x_lt_width { (x < width) × (width ≤ side_limit) × (5 * columns_of kernel.now width ≤ length cols.now) × (down ≤ fixed_total) }
+    requires x_lt_width { (x < width) × (width ≤ side_limit) × (5 * columns_of kernel.now width ≤ length cols.now)
+        × (down ≤ fixed_total) }
     requires kernel { Kernel kernel.now }
     requires total_value { total ≡ sum_to (tap kernel.now) (length kernel.now) }
     requires column_sums { ColumnSums cols.now (5 * columns_of kernel.now width) }

@@ -1,31 +1,21 @@
 -- `better::judge` meets its contract: 1 to 5 are judged first, 6 on the walk. Assumes nothing.
-use Rattle.std.proofs.Common.{rules}
-use Rattle.refusal.proofs.Chain.{refused}
+use Rattle.std.proofs.Common.{◌≡◌, Err, sym, ◌∙◌, rules}
 use Rattle.plane.specs.Plane.{Planes}
-use Rattle.plane.specs.Inner.Lent.{planes}
-use Rattle.plane.proofs.Unread.{unread_stop, unread_broken, unread_passed}
-use Rattle.psnr.proofs.Walks.{readable, whole_says, whole_breaks}
+use Rattle.plane.specs.Inner.Seen.{planes}
+use Rattle.psnr.proofs.Walks.{readable}
+use Rattle.better.proofs.Judging.{judged_by, judged_early}
 use Rattle.better.proofs.judge.Goals as goal
 
-pub returns-then-no-ne0 : goal.returns-then-no-ne0
-returns-then-no-ne0 c =
-    let both : Planes = planes c.args.layout c.args.a8 c.args.a16 c.args.b8 c.args.b16 in
-    let stopped = unread_stop both 0 c.check_unread-no.ensures c.if-no-ne0.true in
-    rw (← stopped) (refused _ _ _ c.if-no-ne0.true)
+pub returns-in_err-check_unread : goal.returns-in_err-check_unread
+returns-in_err-check_unread g c =
+    let both : Planes = planes g.S.Sample.value g.S.Stored.WIDE c.args.p in
+    let told : c.from_residual.result ≡ Err c.in_err-check_unread.field-0.0 = search rules in
+    told ∙ judged_early both c.in_err-check_unread.ensures
 
 pub rows-requires : goal.rows-requires
-rows-requires c = readable _ 0 c.check_unread-no.ensures (search rules)
+rows-requires g c = readable _ 0 (sym c.in_ok-check_unread.ensures)
 
-pub returns-in-Sum : goal.returns-in-Sum
-returns-in-Sum c =
-    let both : Planes = planes c.args.layout c.args.a8 c.args.a16 c.args.b8 c.args.b16 in
-    let p = both in
-    let found = whole_says p c.rows.ensures c.in-Sum.is in
-    rw (unread_passed p 0 c.check_unread-no.ensures (search rules) found.0, found.1)
-
-pub returns-in-Above : goal.returns-in-Above
-returns-in-Above c =
-    let both : Planes = planes c.args.layout c.args.a8 c.args.a16 c.args.b8 c.args.b16 in
-    let p = both in
-    let broken = whole_breaks p c.rows.ensures c.in-Above.is in
-    rw (← (unread_broken p 0 c.check_unread-no.ensures (search rules) broken))
+pub returns : goal.returns
+returns g c =
+    let both : Planes = planes g.S.Sample.value g.S.Stored.WIDE c.args.p in
+    c.rows.ensures ∙ judged_by both (sym c.in_ok-check_unread.ensures)

@@ -1,30 +1,34 @@
--- What one pair of planes is found to be, the answer that two such findings make, and a contest of planes of either width as inner functions
--- are lent them. Definitions only.
-use Rattle.std.specs.Prelude.{List, ℕ}
-use Rattle.std.specs.Borrow.{Bor}
-use Rattle.refusal.specs.First.{by_refusal}
-use Rattle.plane.specs.declared.Size.{Size}
+-- What one pair of planes is found to be, the answer that two such findings make, and a contest of planes as the code
+-- has them. Definitions only.
+use Rattle.std.specs.Prelude.{Bool, cond, leb, ℕ, Result, Ok, Err}
+use Rattle.refusal.specs.declared.Refusal.{Refusal}
+use Rattle.refusal.specs.Numbers.{number_of}
+use Rattle.refusal.specs.First.{unless_refused}
+use Rattle.plane.specs.declared.Format.{Format}
+use Rattle.plane.specs.declared.Plane as code
 use Rattle.plane.specs.Plane.{Planes}
 use Rattle.plane.specs.Tests.{pair_refusal}
-use Rattle.plane.specs.Inner.Lent.{lower_of, lent}
+use Rattle.plane.specs.Inner.Seen.{sized, seen}
 use Rattle.psnr.specs.Squared.{squared_error_score}
 use Rattle.better.specs.declared.Better.{Better}
-use Rattle.better.specs.declared.Judged.{Judged}
-use Rattle.better.specs.declared.Judged.TheVariants.{Apart, Refused}
 use Rattle.better.specs.Better.{Contest, smaller_of}
 
 -- how far two planes are apart, or why that is not told
-abbrev pub judged_of : Planes → Judged
-judged_of p = let n = pair_refusal p 0 in by_refusal n (Apart (squared_error_score p)) (Refused n)
+abbrev pub judged_of : Planes → Result ℕ Refusal
+judged_of p = unless_refused (pair_refusal p 0) (Ok (squared_error_score p))
+
+-- of two refusals the one with the lower number
+abbrev pub least_of : Refusal → Refusal → Refusal
+least_of x y = cond (leb (number_of x) (number_of y)) x y
 
 -- of two findings the answer
-abbrev pub decided : Judged → Judged → Better
-decided (Apart first) (Apart second) = smaller_of first second
-decided (Apart first) (Refused m) = Better.Refused m
-decided (Refused n) (Apart second) = Better.Refused n
-decided (Refused n) (Refused m) = Better.Refused (lower_of n m)
+abbrev pub decided : Result ℕ Refusal → Result ℕ Refusal → Result Better Refusal
+decided (Ok first) (Ok second) = Ok (smaller_of first second)
+decided (Ok first) (Err y) = Err y
+decided (Err x) (Ok second) = Err x
+decided (Err x) (Err y) = Err (least_of x y)
 
--- the samples of each plane as bytes and as words
-abbrev pub lent_contest : Size → Bor (List ℕ) → Bor (List ℕ) → Bor (List ℕ) → Bor (List ℕ) → Bor (List ℕ) → Bor (List ℕ) → ℕ → ℕ → ℕ → Contest
-lent_contest size o8 o16 a8 a16 b8 b16 stride_o stride_a stride_b =
-    record { size = size; original = lent size o8 o16 stride_o; first = lent size a8 a16 stride_a; second = lent size b8 b16 stride_b }
+-- an original and two candidates as the code has them
+abbrev pub contest_of : {S : Type 0} → (S → ℕ) → Bool → Format → code.Plane S → code.Plane S → code.Plane S → Contest
+contest_of value wide format o a b =
+    record { size = sized wide format; original = seen value o; first = seen value a; second = seen value b }

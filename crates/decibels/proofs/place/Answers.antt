@@ -1,29 +1,27 @@
--- `decibels::place` meets its contract. Assumes nothing.
-use mathlib.Core.Path.{◌≡◌, sym}
-use Prim.Native.Nat.{◌+◌}
-use native.Mathlib.Nat.{mul_comm}
-use native.Mathlib.Omega.{arith}
-use Rattle.number.specs.Inner.Wide.{value_of}
-use Rattle.decibels.specs.Hundredths.{place_count, chart_unit, entry_of}
-use Rattle.decibels.proofs.Entries.{entry_first}
+-- `decibels::place` meets its contract: the chart rises, and so it is parted at the place that is sought. Assumes nothing.
+use Rattle.std.proofs.Common.{ℕ, leb, rules, arith}
+use Rattle.std.proofs.lemmas.List.Sorted.{IsPartitionPoint-from_clause, IsPartitionedBy-leb}
+use Rattle.decibels.specs.Hundredths.{chart_unit}
+use Rattle.decibels.specs.Inner.Chart.{chart}
 use Rattle.decibels.proofs.Room.{product_room}
-use Rattle.decibels.proofs.Places.{place_is}
+use Rattle.decibels.proofs.Search.{most, PartedAt, chart_rises, some_fit, place_found}
 use Rattle.decibels.proofs.place.Goals as goal
 
-pub times-most-requires : goal.times-most-requires
+parted : (c : goal.After-partition_point) → PartedAt c.args.peak c.args.error c.partition_point.result
 unfolding chart_unit
-times-most-requires c = product_room c.requires.error_bound.1 (omega arith)
+parted c =
+    let t = most c.args.peak c.args.error in
+    IsPartitionPoint-from_clause (λ (e : ℕ). leb e t) chart c.partition_point.result
+    (rw c.requires.entries_value at c.partition_point.ensures.partitioned)
+    (IsPartitionedBy-leb (λ (e : ℕ). e) chart t chart_rises)
+    (λ a r q k. search rules)
 
-pub loop-low-init : goal.loop-low-init
-unfolding chart_unit place_count
-loop-low-init c = grind (arith, entry_first)
+pub overflow_mul-most : goal.overflow_mul-most
+unfolding chart_unit
+overflow_mul-most c = omega (arith, product_room {m = chart_unit} c.requires.error_bound.2 (omega arith))
+
+pub overflow_sub-result : goal.overflow_sub-result
+overflow_sub-result c = let b = c.requires.error_bound in some_fit _ _ b.0 b.1 _ (parted c)
 
 pub returns : goal.returns
-unfolding chart_unit
-returns c = let s = c.loop-low.invariant in
-    let t = value_of c.args.error in
-    let units = c.times-most.ensures in
-    let e : c.loop-low.high ≡ c.loop-low.low + 1 = omega arith in (
-      sym (place_is _ t _ (omega arith) (rw (mul_comm (entry_of _) t, ← units) s.2) (λ l. rw (mul_comm (entry_of _) t, ← units, ← e) (s.3 (omega arith)))),
-      omega arith,
-    )
+returns c = let b = c.requires.error_bound in place_found _ _ b.0 b.1 _ (parted c) (rw c.requires.entries_value at c.partition_point.ensures.bound)

@@ -1,9 +1,6 @@
 -- Row j is made of places that are as they were, whose sums fit.
-use Rattle.std.proofs.Common.{◌+◌, ◌*◌, ◌≤◌, ◌∙◌, arith}
+use Rattle.std.proofs.Common.{◌+◌, ◌*◌, ◌≤◌, arith}
 use Rattle.std.proofs.Math.Nat.{mul-le-mul_right, lt_of_le_of_lt}
-use Rattle.plane.specs.Plane.{plane_of, sample_at}
-use Rattle.downscale.specs.Summed.{summed_of}
-use Rattle.downscale.proofs.Stored.{filled_more}
 use Rattle.downscale.proofs.Summed.{area_needed, summed_most, sum_still, four_fit}
 use Rattle.downscale.proofs.downscale.Goals as goal
 
@@ -17,12 +14,4 @@ sum_row-requires-clause-by_index c =
     let l = c.loop-j in
     λ i m. rw (sum_still c.args.longs.now l.longs c.args.width l.j l.invariant.1.rest i) (
     lt_of_le_of_lt (summed_most _ c.args.width c.args.height _ c.requires.1.small l.j i (omega arith) m) four_fit
-    )
-
-pub loop-j-preserved : goal.loop-j-preserved
-loop-j-preserved c =
-    let l = c.loop-j in (
-      c.sum_row.auto.longs ∙ l.invariant.0,
-      filled_more _ _ _ _ (summed_of (sample_at (plane_of c.args.longs.now c.args.width))) _ _ l.invariant.1 c.sum_row.ensures
-          (λ i m. sum_still c.args.longs.now l.longs c.args.width l.j l.invariant.1.rest i),
     )

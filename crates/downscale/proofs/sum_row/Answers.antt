@@ -1,20 +1,10 @@
 -- The samples of the scale above are still there when they are read, and one more sum is stored.
 use Rattle.std.proofs.Common.{◌∙◌, arith, length-set}
-use Rattle.plane.proofs.Limits.{side_small}
 use Rattle.plane.specs.Plane.{plane_of, sample_at}
 use Rattle.downscale.specs.Summed.{summed_of}
 use Rattle.downscale.proofs.Stored.{put_more}
 use Rattle.downscale.proofs.Summed.{half_le, sum_same}
 use Rattle.downscale.proofs.sum_row.Goals as goal
-
-pub overflow_mul-top : goal.overflow_mul-top
-overflow_mul-top c = omega (arith, side_small)
-
-pub sum_2x2-requires : goal.sum_2x2-requires
-sum_2x2-requires c = (
-  omega arith,
-  rw (sum_same _ _ _ _ _ _ c.loop-c.invariant.1) (c.requires.by_index _ (omega arith)),
-)
 
 pub loop-c-preserved : goal.loop-c-preserved
 loop-c-preserved c =

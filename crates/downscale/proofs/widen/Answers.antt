@@ -1,14 +1,11 @@
--- One more row stands there.
-use Rattle.std.proofs.Common.{refl, ◌∙◌}
-use Rattle.plane.specs.Plane.{sample_at}
-use Rattle.plane.specs.Inner.Lent.{plane_in}
-use Rattle.downscale.proofs.Stored.{filled_more}
+-- One row more stands there, as the numbers that its samples are.
+use Rattle.std.proofs.Common.{◌∙◌}
+use Rattle.downscale.proofs.Stored.{row_more}
 use Rattle.downscale.proofs.widen.Goals as goal
 
 pub loop-y-preserved : goal.loop-y-preserved
-loop-y-preserved c =
-    let l = c.loop-y in (
-      c.widen_row.auto.longs ∙ l.invariant.0,
-      filled_more _ _ _ _ (sample_at (plane_in c.args.size c.args.bytes.now c.args.words.now c.args.stride)) _ _ l.invariant.1 c.widen_row.ensures
-          (λ i m. refl),
-    )
+loop-y-preserved g c = (
+  c.widen_row.auto.longs ∙ c.loop-y.invariant.0,
+  row_more g.S.Sample.value c.args.p.samples.now c.row.result.now c.args.p.stride c.args.width c.args.height _ _ _ c.loop-y.y
+      c.loop-y.invariant.1 c.row.ensures c.requires.long c.loop-y-test.true c.widen_row.ensures,
+)

@@ -1,11 +1,7 @@
 -- The first x samples stand there.
-use Rattle.std.proofs.Common.{ℕ, ◌≡◌, ◌+◌, length}
+use Rattle.std.proofs.Common.{ℕ, ◌≡◌, ◌<◌, map}
 use Rattle.plane.specs.Plane.{at}
-use Rattle.plane.specs.Inner.Lent.{samples_of}
-use Rattle.downscale.specs.Inner.Longs.{Put}
 use Rattle.downscale.proofs.widen_row.Given as goal
 
 abbrev pub invariant-loop-x : goal.invariant-loop-x
-invariant-loop-x l =
-    (length l.longs ≡ length l.initial.longs)
-    × Put l.initial.longs l.longs l.to l.x (λ (i : ℕ). at (samples_of l.wide l.bytes l.words) (l.start + i))
+invariant-loop-x g l = (k : ℕ) → k < l.x → at l.place-items k ≡ at (map g.S.Sample.value l.row) k

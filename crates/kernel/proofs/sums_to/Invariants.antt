@@ -1,13 +1,9 @@
--- `kernel::sums_to` meets its contract. Assumes nothing.
-use mathlib.Core.Path.{◌≡◌}
-use Prim.Native.Nat.{◌≤◌, ◌-◌}
-use lib.ListN.{length}
+-- The sum so far, and room for it.
+use Rattle.std.proofs.Common.{◌≡◌, ◌≤◌, ◌*◌, length}
 use Rattle.plane.specs.Sums.{sum_to}
 use Rattle.kernel.specs.Kernel.{tap}
 use Rattle.kernel.proofs.sums_to.Given as goal
 
-abbrev pub invariant-loop-k : goal.invariant-loop-k
-invariant-loop-k l = (l.k ≤ length l.taps) × (l.sum ≡ sum_to (tap l.taps) l.k)
-
-abbrev pub decreases-loop-k : goal.decreases-loop-k
-decreases-loop-k l = length l.taps - l.k
+abbrev pub invariant-loop-tap : goal.invariant-loop-tap
+invariant-loop-tap l =
+    (l.tap-index ≤ length l.taps) × (l.sum ≤ 65535 * l.tap-index) × (l.sum ≡ sum_to (tap l.taps) l.tap-index)

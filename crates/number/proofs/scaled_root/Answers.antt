@@ -1,14 +1,8 @@
 -- `number::scaled_root` meets its contract. Assumes nothing.
 use Rattle.std.proofs.Common.{ℕ, ◌/◌, false, ap, ◌∙◌, arith}
 use lib.Ieee.{binary64, units}
-use Rattle.number.proofs.Doubles.{no_nan, units_bits}
+use Rattle.number.proofs.Doubles.{units_bits}
 use Rattle.number.proofs.scaled_root.Goals as goal
-
-pub nearest-s-requires : goal.nearest-s-requires
-nearest-s-requires c = (c.requires.0, c.requires.1, omega arith)
-
-pub float_from_bits-result : goal.float_from_bits-result
-float_from_bits-result c = no_nan _ (omega arith)
 
 pub returns : goal.returns
 returns c = let s = c.nearest-s.ensures in

@@ -1,7 +1,9 @@
--- A depth that suits the samples is small.
-use Rattle.std.proofs.Common.{arith}
-use Rattle.plane.proofs.Depth.{depth_small}
+-- What holds where no test refuses.
+use Rattle.std.proofs.Common.{sym}
+use Rattle.plain.proofs.Accept.{sound}
 use Rattle.plain.proofs.score.Goals as goal
 
-pub sample_max-requires : goal.sample_max-requires
-sample_max-requires c = omega (arith, c.requires.accepted_pair.sized.depth_most, depth_small c.args.layout.size.wide)
+pub scored-requires : goal.scored-requires
+scored-requires g c =
+    let s = sound _ _ (sym c.in_ok-check.ensures) in
+    record { accepted_pair = s.0; kernel_value = s.1 }

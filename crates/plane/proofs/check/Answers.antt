@@ -1,24 +1,17 @@
--- `plane::check` meets its contract: the tests of the sizes decide where they refuse, else those of the planes. Assumes nothing.
-use Rattle.plane.proofs.Several.{one_more, sizes_stop, sizes_pass, sizes_say}
+-- `plane::check` meets its contract: the tests of the sizes decide where they refuse, else those of the planes.
+-- Assumes nothing.
+use Rattle.std.proofs.Common.{rules, ◌≡◌, Err, sym, ◌∙◌}
+use Rattle.plane.specs.Inner.Seen.{planes}
+use Rattle.plane.proofs.Several.{pair_in_parts}
 use Rattle.plane.proofs.check.Goals as goal
 
-pub returns-then-no-ne0 : goal.returns-then-no-ne0
-returns-then-no-ne0 c = sizes_stop _ _ c.size_refusal-no.ensures _ c.if-no-ne0.true
-
-pub layout_refusal-no_a-requires : goal.layout_refusal-no_a-requires
-layout_refusal-no_a-requires c =
-    record {
-      depth_value = (sizes_say _ _ c.size_refusal-no.ensures c.if-no-ne0.false).0;
-      le_width = (sizes_say _ _ c.size_refusal-no.ensures c.if-no-ne0.false).1;
-    }
-
-pub layout_refusal-no_b-requires : goal.layout_refusal-no_b-requires
-layout_refusal-no_b-requires c =
-    record {
-      depth_value = (sizes_say _ _ c.size_refusal-no.ensures c.if-no-ne0.false).0;
-      le_width = (sizes_say _ _ c.size_refusal-no.ensures c.if-no-ne0.false).1;
-    }
+pub returns-in_err-check_size : goal.returns-in_err-check_size
+returns-in_err-check_size g c =
+    let parts = pair_in_parts (planes g.S.Sample.value g.S.Stored.WIDE c.args.p) c.args.least in
+    let told : c.from_residual.result ≡ Err c.in_err-check_size.field-0.0 = search rules in
+    told ∙ sym (rw (← c.in_err-check_size.ensures) at parts)
 
 pub returns : goal.returns
-returns c = sizes_pass _ _ c.size_refusal-no.ensures _ c.if-no-ne0.false
-    (rw (one_more, ← c.layout_refusal-no_a.ensures, ← c.layout_refusal-no_b.ensures) c.lower.ensures)
+returns g c =
+    let parts = pair_in_parts (planes g.S.Sample.value g.S.Stored.WIDE c.args.p) c.args.least in
+    c.lower.ensures ∙ sym (rw (← c.in_ok-check_size.ensures, ← c.check_layout-own.ensures, ← c.check_layout-other.ensures) at parts)

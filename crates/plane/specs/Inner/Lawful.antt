@@ -1,9 +1,8 @@
 -- SCOPE, "What a plane may be": what holds of planes that no test of Tests refuses, as facts. Functions that run after the
 -- tests ask for these. Definitions only.
 use Rattle.std.specs.Prelude.{◌≡◌, List, [], ◌∷◌, ℕ, ◌≤◌, ◌<◌, length}
-use Rattle.plane.specs.declared.Size.{Size}
 use Rattle.plane.specs.Limits.{side_limit, stride_limit, least_depth, most_depth}
-use Rattle.plane.specs.Plane.{Plane, Planes, both, needed, max_of, sample_at}
+use Rattle.plane.specs.Plane.{Size, Plane, Planes, both, needed, max_of, sample_at}
 use Rattle.plane.specs.Tests.{stride_suits, long_enough}
 
 -- enough samples, and no visible one above `most`

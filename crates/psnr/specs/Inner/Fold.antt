@@ -1,14 +1,14 @@
 -- How a series is worked out, record by record. `proofs/Fold.antt` shows that it gives the answer of Series.antt. A total above its
 -- limit is kept as one above the limit, and the walk goes on: a later bad record still gives 10. Definitions only.
-use Rattle.std.specs.Prelude.{ℕ, ◌+◌, ◌*◌, min, Bool, true, false, ◌&&◌, ◌||◌, List, [], ◌∷◌, ◌==◌, nat_le, nat_lt}
-use Rattle.refusal.specs.Numbers.{record_no, total_no}
-use Rattle.refusal.specs.First.{unless}
+use Rattle.std.specs.Prelude.{ℕ, ◌+◌, ◌*◌, min, Bool, true, false, ◌&&◌, ◌||◌, List, fold, ◌==◌, nat_le, nat_lt, Result, Ok, Err}
+use Rattle.refusal.specs.declared.Refusal.{Refusal}
+use Rattle.refusal.specs.declared.Refusal.TheVariants as no
+use Rattle.refusal.specs.First.{unless, unless_refused}
 use Rattle.psnr.specs.declared.Record.{Record}
 use Rattle.psnr.specs.declared.Tally.{Tally}
 use Rattle.psnr.specs.declared.Run.{Run}
 use Rattle.psnr.specs.declared.Run.TheVariants.{Empty, Sound, Spoiled}
 use Rattle.psnr.specs.declared.Summed.{Summed}
-use Rattle.psnr.specs.declared.Summed.TheVariants.{Refused}
 use Rattle.psnr.specs.Limits.{count_limit, record_limit, total_limit}
 use Rattle.psnr.specs.Record.{whole_of, joins, earlier}
 use Rattle.psnr.specs.Series.{series_answer}
@@ -52,11 +52,10 @@ run_step Empty r = run_with (tally_none r.sample_max) r
 run_step (Sound t) r = run_with t r
 run_step Spoiled r = Spoiled
 
-unfoldable pub run_from : Run → List Record → Run
-run_from s [] = s
-run_from s (r ∷ rs) = run_from (run_step s r) rs
+abbrev pub run_from : Run → List Record → Run
+run_from s rs = fold run_step s rs
 
-unfoldable pub run_finish : Run → Summed
-run_finish Empty = Refused record_no
-run_finish (Sound t) = series_answer (unless (nat_le t.error total_limit) total_no 0) t.error t.n t.sample_max
-run_finish Spoiled = Refused record_no
+unfoldable pub run_finish : Run → Result Summed Refusal
+run_finish Empty = Err no.Record
+run_finish (Sound t) = unless_refused (unless (nat_le t.error total_limit) no.Total (Ok tt)) (Ok (series_answer t.error t.n t.sample_max))
+run_finish Spoiled = Err no.Record

@@ -9,10 +9,10 @@ use Rattle.psnr_hvs.proofs.along_row.Goals as goal
 
 pub loop-x-init : goal.loop-x-init
 unfolding along_row
-loop-x-init c = (search rules, sym (fold_none _ _))
+loop-x-init g c = (search rules, sym (fold_none _ _))
 
 pub block_at-s-requires : goal.block_at-s-requires
-block_at-s-requires c =
+block_at-s-requires g c =
     let n = c.blocks_per_side-n.ensures in
     record {
       block_fits = record { across = ends c.requires.block_side_le_width.0 (omega arith); down = c.requires.block_side_le_width.1 };
@@ -20,8 +20,8 @@ block_at-s-requires c =
     }
 
 pub loop-x-preserved : goal.loop-x-preserved
-loop-x-preserved c = (search rules, rw (row_more, c.block_at-s.ensures, c.loop-x.invariant.1))
+loop-x-preserved g c = (search rules, rw (row_more, c.block_at-s.ensures, c.loop-x.invariant.1))
 
 pub returns : goal.returns
-returns c = let e : c.loop-x.x ≡ blocks_per_side c.args.layout.size.width = omega (arith, c.blocks_per_side-n.ensures) in
+returns g c = let e : c.loop-x.x ≡ blocks_per_side c.args.p.format.width = omega (arith, c.blocks_per_side-n.ensures) in
     rw e at c.loop-x.invariant.1

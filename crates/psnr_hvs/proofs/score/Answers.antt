@@ -2,9 +2,8 @@
 use mathlib.Core.Path.{◌≡◌}
 use Prim.Native.Nat.{ℕ, ◌*◌, ◌≤◌, ◌^◌}
 use native.Mathlib.Omega.{arith}
-use Rattle.plane.specs.declared.Size.{Size}
 use Rattle.plane.specs.Inner.Lawful.{Sized}
-use Rattle.plane.specs.Plane.{max_of}
+use Rattle.plane.specs.Plane.{Size, max_of}
 use Rattle.plane.proofs.Depth.{depth_small}
 use Rattle.psnr_hvs.specs.Score.{blocks_per_side, hvs_score}
 use Rattle.psnr_hvs.proofs.Taken.{bounded, blocks_few, max_square}
@@ -19,7 +18,7 @@ module _ {size : Size} {least : ℕ} (s : Sized size least) where
   square p = rw p (max_square size.wide size.depth s.depth_most)
 
 pub down_rows-sum-requires : goal.down_rows-sum-requires
-down_rows-sum-requires c =
+down_rows-sum-requires g c =
     let a = c.requires in
     record {
       block_side_le_width = (a.sized.width_reaches, a.sized.height_reaches);
@@ -27,32 +26,32 @@ down_rows-sum-requires c =
     }
 
 pub overflow_mul-blocks : goal.overflow_mul-blocks
-overflow_mul-blocks c = omega (arith, few c.requires.sized c.blocks_per_side.ensures c.blocks_per_side-2.ensures)
+overflow_mul-blocks g c = omega (arith, few c.requires.sized c.blocks_per_side.ensures c.blocks_per_side-2.ensures)
 
 pub sample_max-max-requires : goal.sample_max-max-requires
-sample_max-max-requires c = omega (arith, c.requires.sized.depth_most, depth_small c.args.layout.size.wide)
+sample_max-max-requires g c = omega (arith, c.requires.sized.depth_most, depth_small g.S.Stored.WIDE)
 
 pub overflow_mul-blocks-2 : goal.overflow_mul-blocks-2
-overflow_mul-blocks-2 c = omega (arith, few c.requires.sized c.blocks_per_side.ensures c.blocks_per_side-2.ensures)
+overflow_mul-blocks-2 g c = omega (arith, few c.requires.sized c.blocks_per_side.ensures c.blocks_per_side-2.ensures)
 
 pub exact-requires : goal.exact-requires
-exact-requires c = omega (arith, few c.requires.sized c.blocks_per_side.ensures c.blocks_per_side-2.ensures)
+exact-requires g c = omega (arith, few c.requires.sized c.blocks_per_side.ensures c.blocks_per_side-2.ensures)
 
 pub overflow_mul-max : goal.overflow_mul-max
-overflow_mul-max c = omega (arith, square c.requires.sized c.sample_max-max.ensures)
+overflow_mul-max g c = omega (arith, square c.requires.sized c.sample_max-max.ensures)
 
 pub exact-requires-2 : goal.exact-requires-2
-exact-requires-2 c = omega (arith, square c.requires.sized c.sample_max-max.ensures)
+exact-requires-2 g c = omega (arith, square c.requires.sized c.sample_max-max.ensures)
 
 pub returns : goal.returns
 unfolding hvs_score
-returns c = rw (
+returns g c = rw (
   c.exact-2.ensures,
   c.exact.ensures,
   c.sample_max-max.ensures,
   c.blocks_per_side-2.ensures,
   c.blocks_per_side.ensures,
   c.down_rows-sum.ensures,
-  c.masks-mask.ensures,
-  c.csf_of-csf.ensures,
+  c.tables_of-tables.ensures.mask_value,
+  c.tables_of-tables.ensures.csf_value,
 )

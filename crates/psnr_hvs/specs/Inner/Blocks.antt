@@ -1,6 +1,6 @@
 -- What the functions that walk the blocks of a plane ask of each other. Definitions only.
 use Rattle.std.specs.Prelude.{ℕ, ◌+◌, ◌≤◌}
-use Rattle.plane.specs.declared.Size.{Size}
+use Rattle.plane.specs.Plane.{Size}
 use Rattle.dct.specs.Limits.{block_side}
 
 -- the block whose first sample is (x, y) ends inside its plane

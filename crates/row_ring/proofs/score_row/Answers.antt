@@ -29,12 +29,12 @@ pub centres-r-requires : goal.centres-r-requires
 unfolding lent_total
 centres-r-requires c =
     let old : List ℤ = c.args.s.now in
-    let ring : Ring = c.args.ring in
+    let ring : Ring = c.args.by.ring in
     let viewA : ℕ → ℕ → ℕ = ring_a old ring.width ring.lines in
     let viewB : ℕ → ℕ → ℕ = ring_b old ring.width ring.lines in
     let filled : List ℤ = c.fill.new.s in
     let kept : length filled ≡ length old = c.fill.auto.s in
-    let ker = c.args.kernel.now in
+    let ker = c.args.by.kernel.now in
     let r = ring in
     record {
       width_le_side_limit = omega (
@@ -53,12 +53,12 @@ centres-r-requires c =
 pub returns : goal.returns
 returns c =
     let old : List ℤ = c.args.s.now in
-    let ring : Ring = c.args.ring in
+    let ring : Ring = c.args.by.ring in
     let viewA : ℕ → ℕ → ℕ = ring_a old ring.width ring.lines in
     let viewB : ℕ → ℕ → ℕ = ring_b old ring.width ring.lines in
     let filled : List ℤ = c.fill.new.s in
     let kept : length filled ≡ length old = c.fill.auto.s in
-    let ker = c.args.kernel.now in
+    let ker = c.args.by.kernel.now in
     let r = ring in
     let to = ring_places r + 5 * (length ker / 2) in
     let k = to + 5 * r.width - to in

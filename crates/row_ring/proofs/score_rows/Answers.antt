@@ -23,13 +23,13 @@ score_row-t-requires c =
 
 pub loop-y-preserved : goal.loop-y-preserved
 loop-y-preserved c = let l = c.loop-y in
-    let r = c.args.ring in
+    let r = c.args.by.ring in
     let score = c.score_row-t in (
       omega arith,
       omega arith,
       score.ensures.s_unchanged ∙ l.invariant.2,
       rw (score.ensures.value, l.invariant.2, l.invariant.3)
-          (sym (rows_more c.args.max2 c.args.kernel.now r.width r.height (ring_a c.args.s.now r.width r.lines)
+          (sym (rows_more c.args.by.max2 c.args.by.kernel.now r.width r.height (ring_a c.args.s.now r.width r.lines)
           (ring_b c.args.s.now r.width r.lines) c.args.t c.args.from l.y (omega arith))),
     )
 

@@ -7,4 +7,4 @@ use Rattle.row_ring.proofs.score_rows.Given as goal
 
 abbrev pub invariant-loop-y : goal.invariant-loop-y
 invariant-loop-y l = (l.from ≤ l.y) × (l.y ≤ l.upto) × (l.s ≡ l.initial.s)
-    × (l.t ≡ rows_from l.max2 l.kernel l.ring.width l.ring.height (ring_a l.initial.s l.ring.width l.ring.lines) (ring_b l.initial.s l.ring.width l.ring.lines) l.initial.t l.from (l.y - l.from))
+    × (l.t ≡ rows_from l.by.max2 l.by.kernel.now l.by.ring.width l.by.ring.height (ring_a l.initial.s l.by.ring.width l.by.ring.lines) (ring_b l.initial.s l.by.ring.width l.by.ring.lines) l.initial.t l.from (l.y - l.from))

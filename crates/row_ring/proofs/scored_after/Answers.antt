@@ -7,8 +7,5 @@ use Rattle.row_ring.proofs.scored_after.Goals as goal
 pub returns-then-r-height : goal.returns-then-r-height
 returns-then-r-height c = sym (scored_last _ _ _ (omega arith))
 
-pub returns-then-r-off : goal.returns-then-r-off
-returns-then-r-off c = omega (arith, scored_before c.args.r c.args.height c.args.off (omega arith))
-
-pub returns-else-r-off : goal.returns-else-r-off
-returns-else-r-off c = omega (arith, scored_before c.args.r c.args.height c.args.off (omega arith))
+pub returns : goal.returns
+returns c = omega (arith, scored_before c.args.r c.args.height c.args.off (omega arith))

@@ -8,13 +8,13 @@ use Rattle.row_ring.proofs.Rings.{slot_inside}
 use Rattle.row_ring.proofs.take_row.Goals as goal
 
 pub overflow_mul-to : goal.overflow_mul-to
-overflow_mul-to c =
-    let slot : c.args.row % c.args.ring.lines * c.args.ring.width + c.args.ring.width ≤ ring_places c.args.ring = slot_inside c.args.ring.width c.args.ring.lines c.args.row (ring_places c.args.ring) (omega arith) (le_refl _) in
+overflow_mul-to g c =
+    let slot : c.args.row % c.args.by.ring.lines * c.args.by.ring.width + c.args.by.ring.width ≤ ring_places c.args.by.ring = slot_inside c.args.by.ring.width c.args.by.ring.lines c.args.row (ring_places c.args.by.ring) (omega arith) (le_refl _) in
     omega (arith, slot)
 
 pub store_row-requires : goal.store_row-requires
-store_row-requires c =
-    let slot : c.args.row % c.args.ring.lines * c.args.ring.width + c.args.ring.width ≤ ring_places c.args.ring = slot_inside c.args.ring.width c.args.ring.lines c.args.row (ring_places c.args.ring) (omega arith) (le_refl _) in
+store_row-requires g c =
+    let slot : c.args.row % c.args.by.ring.lines * c.args.by.ring.width + c.args.by.ring.width ≤ ring_places c.args.by.ring = slot_inside c.args.by.ring.width c.args.by.ring.lines c.args.row (ring_places c.args.by.ring) (omega arith) (le_refl _) in
     record {
       i_lt_height = omega (arith, slot);
       long = c.requires.long;
@@ -22,8 +22,8 @@ store_row-requires c =
     }
 
 pub score_rows-requires : goal.score_rows-requires
-score_rows-requires c =
-    let slot : c.args.row % c.args.ring.lines * c.args.ring.width + c.args.ring.width ≤ ring_places c.args.ring = slot_inside c.args.ring.width c.args.ring.lines c.args.row (ring_places c.args.ring) (omega arith) (le_refl _) in
+score_rows-requires g c =
+    let slot : c.args.row % c.args.by.ring.lines * c.args.by.ring.width + c.args.by.ring.width ≤ ring_places c.args.by.ring = slot_inside c.args.by.ring.width c.args.by.ring.lines c.args.row (ring_places c.args.by.ring) (omega arith) (le_refl _) in
     let r = c.store_row in
     record {
       from_le_upto = omega arith;
@@ -34,7 +34,7 @@ score_rows-requires c =
     }
 
 pub returns : goal.returns
-returns c =
+returns g c =
     let r = c.score_rows in
     let e = c.requires.i_lt_height.1 in
     record {

@@ -4,7 +4,7 @@ use Rattle.std.specs.Prelude.{◌≡◌, ℕ, ◌+◌, ◌≤◌, ◌<◌, lengt
 use Rattle.plane.specs.Limits.{side_limit}
 use Rattle.plane.specs.Plane.{Planes}
 use Rattle.plane.specs.Sums.{sum_to}
-use Rattle.plane.specs.Inner.Lent.{Long}
+use Rattle.plane.specs.Inner.Seen.{Long}
 use Rattle.kernel.specs.Kernel.{tap, most_taps, lent_total}
 use Rattle.window.specs.Inner.Parts.{Kernel}
 use Rattle.rowfed.specs.declared.State.{State}

@@ -4,7 +4,9 @@ use mathlib.Core.List.{List}
 use Prim.Native.Nat.{ℕ, ◌+◌, ◌-◌, ◌*◌, ◌/◌, ◌≤◌, ◌<◌}
 use native.Mathlib.Omega.{arith}
 use lib.ListN.{length}
+use Rattle.plane.proofs.Limits.{side_small}
 use Rattle.plane.proofs.Sums.{sum_ext}
+use Rattle.kernel.proofs.Says.{taps_room}
 use Rattle.kernel.specs.Kernel.{tap}
 use Rattle.window.specs.Moments.{most_sample}
 use Rattle.window.specs.Inner.Parts.{Kernel, part_of, parts_of, quant_of, five_sums_of, tapped_of, Room}
@@ -20,10 +22,14 @@ module _ (ker : List ℕ) (height : ℕ) (a b : ℕ → ℕ → ℕ) (x y k : �
   column_none l = sym (parts_first ker height _ y k l)
 
   -- none past the last inside counts
+  pub column_last : Kernel ker → length ker - (y + length ker / 2 + 1 - height) ≤ k → k ≤ length ker
+      → column_to ker height a b x y k ≡ column_to ker height a b x y (length ker)
+  unfolding column_to
+  column_last kernel l m = parts_last ker height _ y kernel k l m
+
   pub column_all : (t : FiveSums) → t ≡ column_to ker height a b x y k → Kernel ker → length ker - (y + length ker / 2 + 1 - height) ≤ k → k ≤ length ker
       → t ≡ column_to ker height a b x y (length ker)
-  unfolding column_to
-  column_all t e kernel l m = e ∙ parts_last ker height _ y kernel k l m
+  column_all t e kernel l m = e ∙ column_last kernel l m
 
   -- tap k, of the samples u and v
   module _ (t : FiveSums) (u v : ℕ) (e : t ≡ column_to ker height a b x y k) (p : u ≡ a (y + k - length ker / 2) x) (q : v ≡ b (y + k - length ker / 2) x) where
@@ -59,3 +65,6 @@ column_ext ker height a b a' b' x y n same_a same_b =
     ap (λ (u : ℕ). tap ker k * u)
     (clipped_both (λ (p q : ℕ). p ≡ q) (length ker / 2) height (λ (r : ℕ). quant_of m (a r x) (b r x)) (λ (r : ℕ). quant_of m (a' r x) (b' r x)) (y + k) refl
     (λ f g. rw (same_a (y + k - length ker / 2) (omega arith), same_b (y + k - length ker / 2) (omega arith))))))
+
+-- what the loops down a column rest on
+pub ruleset down_column = (side_small, taps_room, column_none, column_more, column_room, column_last)

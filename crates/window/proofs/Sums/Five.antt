@@ -5,11 +5,10 @@ use Prim.Native.Nat.{ℕ, zero, suc, ◌+◌, ◌-◌, ◌*◌, ◌/◌, ◌≤�
 use native.Mathlib.Nat.{mul-le-mul, lt_of_le_of_lt, le_trans, le_refl}
 use native.Mathlib.Omega.{arith}
 use lib.Dec.{lit<, lit≤}
-use lib.IntN.{ℤ}
 use lib.ListN.{length}
 use Rattle.kernel.specs.Kernel.{tap, fixed_total}
 use Rattle.window.specs.Inner.Parts.{part_of, Kernel, quant_of, five_sums_of, nth, tapped_of, Room, parts_of}
-use Rattle.window.specs.Inner.Columns.{Fits, cell_of, ColumnSums}
+use Rattle.window.specs.Inner.Columns.{Fits}
 use Rattle.window.specs.Moments.{most_sample}
 use Rattle.window.specs.declared.FiveSums.{FiveSums}
 use Rattle.window.proofs.Sums.Windows.{part_more, part_first, part_last, part_room, part_le}
@@ -97,9 +96,3 @@ module _ (ker : List ℕ) (side : ℕ) (f : ℕ → ℕ → ℕ) (x : ℕ) where
   parts_low t e r h =
       rw e (nth_all (λ (v : ℕ). v < 2 ^ 63) _
       (λ m. lt_of_le_of_lt (le_trans (part_le ker side (f m) x (2 ^ 40) r (h m) _ (le_refl _)) column_room) (lit< tt)))
-
--- what was read from scratch is small
-pub cells_low : (s : List ℤ) (n c : ℕ) (t : FiveSums) → t ≡ five_sums_of (λ (m : ℕ). cell_of s m c) → ColumnSums s (5 * n) → c < n
-    → (m : ℕ) → m < 5 → nth t m ≤ 2 ^ 50
-cells_low s n c t e small l =
-    rw e (nth_of (λ (m v : ℕ). v ≤ 2 ^ 50) (λ (m : ℕ). cell_of s m c) (λ m q. (small (5 * c + m) (omega arith)).low))

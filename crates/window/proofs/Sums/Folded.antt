@@ -93,3 +93,6 @@ module _ (ker : List ℕ) (g : ℕ → ℕ → ℕ) (x : ℕ) where
         rw e (nth_of (λ (m v : ℕ). v + tap ker k * (g m (x + k) + g m (x + 2 * (length ker / 2) - k)) < 2 ^ 64)
         (λ (m : ℕ). folded_of ker (g m) x k)
         (λ m q. low (rw (folded_more ker (g m) x k) at (folded_le ker (g m) x (2 ^ 50) (k + 1) r (small m q) (omega arith)))))
+
+-- what the loop over the folded taps rests on
+pub ruleset folded_steps = (folds_none, folds_more)

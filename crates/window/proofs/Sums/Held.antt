@@ -16,6 +16,7 @@ use Rattle.kernel.specs.Kernel.{tap}
 use Rattle.window.specs.Moments.{clipped, moment_at, moments_at, most_sample}
 use Rattle.window.specs.Inner.Parts.{part_of, window_of, weight_of, across_of, Kernel, quant_of}
 use Rattle.window.specs.Inner.Columns.{at_z, cell_of, column_to, column_at, columns_of, Holds, Put, Margins, ColumnSum, ColumnSums, moments_in}
+use Rattle.window.proofs.Sums.Column.{column_fits}
 use Rattle.window.specs.declared.FiveSums.{FiveSums}
 use Rattle.window.proofs.Sums.Windows.{clipped_in, clipped_below, clipped_above, part_le}
 use Rattle.window.proofs.Centre.Separable.{separable, weights}
@@ -146,9 +147,6 @@ zero_at s n e j = go (dec_lt j n)
     go (yes l) = rw e (get_or-replicate n j (pos 0) (pos 0) l)
     go (no l) = rw e (get_or-eq_default (replicate n (pos 0)) (pos 0) (omega (arith, length-replicate n (pos 0))))
 
-pub margins_zero : (s : List ℤ) (n : ℕ) (ker : List ℕ) (width : ℕ) → s ≡ replicate n (pos 0) → Margins s ker width
-margins_zero s n ker width e = record { left = λ j l. zero_at s n e j; right = λ j l. zero_at s n e j }
-
 -- ---- one column more, after those before it
 module _ (ker : List ℕ) (height : ℕ) (a b : ℕ → ℕ → ℕ) (y x : ℕ) where
   pub holds_more : (s s' : List ℤ) (t : FiveSums)
@@ -165,3 +163,6 @@ module _ (ker : List ℕ) (height : ℕ) (a b : ℕ → ℕ → ℕ) (y x : ℕ)
   pub holds_none : (s : List ℤ) → Holds s (5 * 0) ker height a b y
   unfolding Holds
   holds_none s = below_none _
+
+-- what the loop that fills a row rests on
+pub ruleset filled_steps = (holds_none, holds_more, column_fits)

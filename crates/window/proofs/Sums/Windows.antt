@@ -2,14 +2,16 @@
 use mathlib.Core.Path.{◌≡◌, sym, ◌∙◌}
 use mathlib.Core.List.{List}
 use Prim.Native.Nat.{ℕ, ◌+◌, ◌-◌, ◌*◌, ◌≤◌, ◌<◌, ◌/◌}
-use native.Mathlib.Nat.{mul-zero, mul-one, mul-le-mul_left, mul_comm, le_trans, le_refl}
+use native.Mathlib.Nat.{mul-zero, mul-one, one-mul, mul-le-mul_left, mul_comm, le_trans, le_refl}
 use native.Mathlib.Decide.{dec_lt}
 use native.Mathlib.Omega.{arith}
 use borrow.Author.Tests.{lt-ltb, le-ltb}
 use lib.ListN.{length}
 use Rattle.plane.specs.Sums.{sum_to}
+use Rattle.plane.proofs.Limits.{side_small}
 use Rattle.plane.proofs.Sums.{sum_more, sum_tail, sum_zero, sum_mono, sum_mul, sum_le, sum_ext}
 use Rattle.kernel.specs.Kernel.{tap, fixed_total}
+use Rattle.kernel.proofs.Says.{taps_room}
 use Rattle.window.specs.Moments.{clipped}
 use Rattle.window.specs.Inner.Parts.{part_of, window_of, weight_of, Kernel}
 
@@ -95,6 +97,15 @@ module _ (ker : List ℕ) (side : ℕ) (f : ℕ → ℕ) (x : ℕ) where
 
 -- ---- weights
 module _ (ker : List ℕ) (side x : ℕ) where
+  -- the weight of the first k taps: one tap more, of the number v
+  pub weight_more : (k j v : ℕ) → j ≡ k + 1 → v ≡ tap ker k → length ker / 2 ≤ x + k → x + k < length ker / 2 + side
+      → part_of ker side (λ (i : ℕ). 1) x j ≡ part_of ker side (λ (i : ℕ). 1) x k + v
+  weight_more k j v e f l m = rw (e, f) (part_more ker side (λ (i : ℕ). 1) x k l m ∙ rw mul-one)
+
+  -- it has room
+  pub weight_part : Kernel ker → (k : ℕ) → k ≤ length ker → part_of ker side (λ (i : ℕ). 1) x k ≤ fixed_total
+  weight_part r k l = rw one-mul at (part_le ker side (λ (i : ℕ). 1) x 1 r (λ _ _ _ _. le_refl 1) k l)
+
   -- a window that lies inside has all of the taps
   pub weight_whole : Kernel ker → length ker / 2 ≤ x → x + length ker / 2 < side → weight_of ker side x ≡ sum_to (tap ker) (length ker)
   unfolding part_of
@@ -114,3 +125,6 @@ module _ (ker : List ℕ) (side x : ℕ) where
 
   pub weight_le : Kernel ker → weight_of ker side x ≤ fixed_total
   weight_le r = omega (arith, part_le ker side (λ (i : ℕ). 1) x 1 r (λ k a b d. le_refl 1) (length ker) (le_refl _))
+
+-- what the weight rests on where all taps lie inside
+pub ruleset whole_inside = (side_small, taps_room, weight_whole)

@@ -1,25 +1,16 @@
 -- Column sums of one centre row in lent scratch, five places to a column, and the six moments made from them. Definitions only.
-use Rattle.std.specs.Prelude.{◌≡◌, Bool, true, false, List, ℕ, ◌+◌, ◌*◌, ◌/◌, ◌%◌, ◌≤◌, ◌<◌, ◌^◌, T, ℤ, pos, nat_abs, length, get_or}
+use Rattle.std.specs.Prelude.{◌≡◌, List, ℕ, ◌+◌, ◌*◌, ◌/◌, ◌%◌, ◌≤◌, ◌<◌, ◌^◌, T, ℤ, pos, nat_abs, length, get_or}
 use Rattle.std.specs.Int.Signed.{non_neg}
-use Rattle.std.specs.Borrow.{Bor}
-use Rattle.plane.specs.declared.Layout.{Layout}
-use Rattle.plane.specs.Plane.{Plane, Planes, plane_of, sample_at}
+use Rattle.plane.specs.declared.Pair as two
+use Rattle.plane.specs.Plane.{Plane, Planes, sample_at}
+use Rattle.plane.specs.Inner.Seen.{seen}
 use Rattle.plane.specs.Inner.Lawful.{Bounded}
 use Rattle.window.specs.Moments.{most_sample}
 use Rattle.window.specs.Inner.Parts.{window_of, weight_of, across_of, quant_of, parts_of, nth}
 use Rattle.window.specs.declared.FiveSums.{FiveSums}
-use Rattle.window.specs.declared.Grid.{Grid}
-use Rattle.window.specs.declared.Samples.{Samples}
-use Rattle.window.specs.declared.Samples.TheVariants.{Bytes, Words, Longs}
 use Rattle.window.specs.declared.Moments.{Moments}
 
 -- ---- what is read
-
--- the samples of a plane, in the one of three lists where they stand
-abbrev pub samples_in : Samples → List ℕ → List ℕ → List ℕ → List ℕ
-samples_in Bytes s8 s16 s32 = s8
-samples_in Words s8 s16 s32 = s16
-samples_in Longs s8 s16 s32 = s32
 
 -- two planes as the sums read them
 pub record OnGrid : Type 0 where
@@ -28,19 +19,10 @@ pub record OnGrid : Type 0 where
   pub a : Plane
   pub b : Plane
 
--- those that stand in lists
-abbrev pub on_grid_in : Grid → List ℕ → List ℕ → List ℕ → List ℕ → List ℕ → List ℕ → OnGrid
-on_grid_in grid a8 a16 a32 b8 b16 b32 =
-    record {
-      width = grid.width;
-      height = grid.height;
-      a = plane_of (samples_in grid.samples a8 a16 a32) grid.stride_a;
-      b = plane_of (samples_in grid.samples b8 b16 b32) grid.stride_b;
-    }
-
--- the same of slices, as a contract has them
-abbrev pub on_grid : Grid → Bor (List ℕ) → Bor (List ℕ) → Bor (List ℕ) → Bor (List ℕ) → Bor (List ℕ) → Bor (List ℕ) → OnGrid
-on_grid grid a8 a16 a32 b8 b16 b32 = on_grid_in grid a8.now a16.now a32.now b8.now b16.now b32.now
+-- those that a function is lent, of samples that are these numbers
+module _ {S : Type 0} (value : S → ℕ) where
+  abbrev pub on_grid : two.Pair S → OnGrid
+  on_grid p = record { width = p.format.width; height = p.format.height; a = seen value p.a; b = seen value p.b }
 
 -- those of a call
 abbrev pub gridded : Planes → OnGrid
@@ -50,21 +32,6 @@ gridded p = record { width = p.size.width; height = p.size.height; a = p.a; b = 
 pub record Summable (p : OnGrid) : Type 0 where
   pub first : Bounded most_sample p.width p.height p.a
   pub second : Bounded most_sample p.width p.height p.b
-
--- how the two planes of a call are read
-abbrev pub samples_for : Bool → Samples
-samples_for true = Words
-samples_for false = Bytes
-
-abbrev pub grid_of : Layout → Grid
-grid_of layout =
-    record {
-      samples = samples_for layout.size.wide;
-      width = layout.size.width;
-      height = layout.size.height;
-      stride_a = layout.stride_a;
-      stride_b = layout.stride_b;
-    }
 
 -- ---- what is kept
 

@@ -10,4 +10,4 @@ pub returns-then-too_deep : goal.returns-then-too_deep
 returns-then-too_deep c =
     let state : State = state_in c.args.numbers.now c.args.held.now c.args.sums.now in
     let deep = deep_finish state (ltb-true _ _ (sym c.too_deep.ensures ∙ c.if-too_deep.true)) (length c.args.scratch.now) in
-    record { value = rw deep refl; scratch_after = rw deep refl; ssim_after = rw deep refl; cs_after = rw deep refl }
+    record { value = rw deep c.number.ensures; scratch_after = rw deep refl; ssim_after = rw deep refl; cs_after = rw deep refl }

@@ -28,7 +28,7 @@ loop-k-preserved c = let l = c.loop-k in
     let two = c.args.d2.now in (
       search rules,
       rw (
-        term_more one two c.args.csf.now c.args.mask.now c.args.m c.args.res l.k,
+        term_more one two c.args.tables.now.csf c.args.tables.now.mask c.args.m c.args.so_far l.k,
         c.term-s.ensures,
         c.distance-err.ensures,
         read_coefficient one c.requires.all_within l.k,

@@ -6,4 +6,4 @@ use Rattle.hvs_block.proofs.Folds.{flat8}
 use Rattle.hvs_block.proofs.block.errors.Given as goal
 
 abbrev pub invariant-loop-k : goal.invariant-loop-k
-invariant-loop-k l = (l.k ≤ 64) × (l.s ≡ flat8 (add_term l.d1 l.d2 l.csf l.mask l.m) l.res l.k)
+invariant-loop-k l = (l.k ≤ 64) × (l.s ≡ flat8 (add_term l.d1 l.d2 l.tables.csf l.tables.mask l.m) l.so_far l.k)

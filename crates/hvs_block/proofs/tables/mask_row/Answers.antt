@@ -1,19 +1,8 @@
--- `mask_row` fills a row. Assumes nothing.
-use borrow.Author.Rules.{rules}
-use mathlib.Core.Path.{◌≡◌, refl}
-use native.Mathlib.Omega.{arith}
-use lib.ListN.{length-set}
-use Rattle.number.proofs.Lists.{filled_none, filled_more, filled_all}
+-- `mask_row` is the mask of each contrast. Assumes nothing.
+use Rattle.std.specs.Float.{nan}
+use Rattle.hvs_block.specs.Tables.{mask_of}
+use Rattle.hvs_block.proofs.Mapped.{mapped}
 use Rattle.hvs_block.proofs.tables.mask_row.Goals as goal
 
-pub loop-j-init : goal.loop-j-init
-loop-j-init c = (search rules, search rules, filled_none _ _)
-
-pub loop-j-preserved : goal.loop-j-preserved
-loop-j-preserved c = let v = c.loop-j.invariant in
-    (search rules, simp length-set v.1, filled_more _ _ _ v.2 refl (omega arith))
-
 pub returns : goal.returns
-returns c = let v = c.loop-j.invariant in
-    let e : c.loop-j.j ≡ 8 = omega arith in
-    filled_all _ _ 8 (rw e at v.2) (omega arith)
+returns c = mapped mask_of nan nan c.map.ensures.items (λ p q x y k. k.met)

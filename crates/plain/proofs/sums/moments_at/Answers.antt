@@ -1,21 +1,15 @@
 -- One more row of the kernel is summed, and has room.
-use Rattle.std.proofs.Common.{◌∙◌, arith}
-use Rattle.plane.specs.Inner.Lent.{planes}
-use Rattle.plain.proofs.Parts.{rows_none, rows_more, rows_room, rows_all}
+use Rattle.std.proofs.Common.{arith}
+use Rattle.plane.specs.Inner.Seen.{planes}
+use Rattle.plain.proofs.Parts.{rows_room, rows_all}
 use Rattle.plain.proofs.sums.moments_at.Goals as goal
 
-pub loop-i-init : goal.loop-i-init
-loop-i-init c = c.none-sum.ensures ∙ rows_none _ _ _ _ _ _ _
-
 pub plus-sum-requires : goal.plus-sum-requires
-plus-sum-requires c =
+plus-sum-requires g c =
     let a = c.args in
     let r = c.requires in
-    rows_room (planes a.layout a.a8 a.a16 a.b8 a.b16) r.accepted_pair a.kernel.now r.kernel_value a.x a.y (omega arith) (omega arith) c.loop-i.i
+    rows_room (planes g.S.Sample.value g.S.Stored.WIDE a.p) r.accepted_pair a.kernel.now r.kernel_value a.x a.y (omega arith) (omega arith) c.loop-i.i
     c.loop-i.invariant c.kernel_row.ensures (omega arith)
 
-pub loop-i-preserved : goal.loop-i-preserved
-loop-i-preserved c = rw (c.plus-sum.ensures, c.kernel_row.ensures, c.loop-i.invariant) (rows_more _ _ _ _ _ _ _ _)
-
 pub returns : goal.returns
-returns c = rows_all _ _ _ _ _ _ _ c.loop-i.invariant (omega arith)
+returns g c = rows_all _ _ _ _ _ _ _ c.loop-i.invariant (omega arith)

@@ -1,42 +1,37 @@
 -- A place that both tests find inside is weighed; another adds nothing.
-use Rattle.std.proofs.Common.{◌∙◌, arith}
-use Rattle.plane.specs.Inner.Lent.{planes}
+use Rattle.std.proofs.Common.{◌+◌, ◌-◌, ◌/◌, length, arith}
+use Rattle.std.proofs.lemmas.List.{length-map}
+use Rattle.plane.specs.Inner.Seen.{planes}
 use Rattle.plane.proofs.Rows.{inside}
-use Rattle.plain.proofs.Parts.{found, reaches, place_inside, place_outside, weighed_fits}
+use Rattle.plain.proofs.Parts.{found, reaches, weighed_fits}
 use Rattle.plain.proofs.sums.place.Goals as goal
 
-pub returns-then-not-inside : goal.returns-then-not-inside
-returns-then-not-inside c =
+pub sample-requires : goal.sample-requires
+sample-requires g c =
     let a = c.args in
-    let outside = found a.kernel.now a.layout.size.width a.layout.size.height a.x a.y a.i a.j c.inside.ensures c.inside-2.ensures c.if-not-inside.true in
-    c.none.ensures ∙ place_outside _ _ _ _ _ _ _ _ _ outside
-
-pub sample-a-requires : goal.sample-a-requires
-sample-a-requires c =
-    let a = c.args in
-    let in_both = found a.kernel.now a.layout.size.width a.layout.size.height a.x a.y a.i a.j c.inside.ensures c.inside-2.ensures c.if-not-inside.false in
-    let reached = reaches a.kernel.now a.layout.size.width a.layout.size.height a.x a.y a.i a.j in_both in
-    inside a.layout.stride_a c.requires.accepted_pair.each.0.bounded.long (omega (arith, reached)) (omega (arith, reached))
-
-pub sample-b-requires : goal.sample-b-requires
-sample-b-requires c =
-    let a = c.args in
-    let in_both = found a.kernel.now a.layout.size.width a.layout.size.height a.x a.y a.i a.j c.inside.ensures c.inside-2.ensures c.if-not-inside.false in
-    let reached = reaches a.kernel.now a.layout.size.width a.layout.size.height a.x a.y a.i a.j in_both in
-    inside a.layout.stride_b c.requires.accepted_pair.each.1.0.bounded.long (omega (arith, reached)) (omega (arith, reached))
-
-pub weighed-requires : goal.weighed-requires
-weighed-requires c =
-    let a = c.args in
-    let r = c.requires in
-    let in_both = found a.kernel.now a.layout.size.width a.layout.size.height a.x a.y a.i a.j c.inside.ensures c.inside-2.ensures c.if-not-inside.false in
-    rw (c.sample-a.ensures, c.sample-b.ensures) (
-    weighed_fits (planes a.layout a.a8 a.a16 a.b8 a.b16) r.accepted_pair a.kernel.now r.kernel_value a.x a.y (omega arith) (omega arith) _ _
-    (omega arith) (omega arith) in_both
+    let in_both = found a.kernel.now a.p.format.width a.p.format.height a.x a.y a.i a.j c.inside.ensures c.inside-2.ensures c.if-not-inside.false in
+    let reached = reaches a.kernel.now a.p.format.width a.p.format.height a.x a.y a.i a.j in_both in
+    let off = length a.kernel.now / 2 in
+    rw length-map at (
+    inside {x = a.x + a.j - off} {y = a.y + a.i - off} a.p.a.stride c.requires.accepted_pair.each.0.bounded.long (omega (arith, reached)) (omega (arith, reached))
     )
 
-pub returns : goal.returns
-returns c =
+pub sample-requires-2 : goal.sample-requires-2
+sample-requires-2 g c =
     let a = c.args in
-    let in_both = found a.kernel.now a.layout.size.width a.layout.size.height a.x a.y a.i a.j c.inside.ensures c.inside-2.ensures c.if-not-inside.false in
-    rw (c.weighed.ensures, c.sample-a.ensures, c.sample-b.ensures) (place_inside _ _ _ _ _ _ _ _ _ in_both)
+    let in_both = found a.kernel.now a.p.format.width a.p.format.height a.x a.y a.i a.j c.inside.ensures c.inside-2.ensures c.if-not-inside.false in
+    let reached = reaches a.kernel.now a.p.format.width a.p.format.height a.x a.y a.i a.j in_both in
+    let off = length a.kernel.now / 2 in
+    rw length-map at (
+    inside {x = a.x + a.j - off} {y = a.y + a.i - off} a.p.b.stride c.requires.accepted_pair.each.1.0.bounded.long (omega (arith, reached)) (omega (arith, reached))
+    )
+
+pub weighed-requires : goal.weighed-requires
+weighed-requires g c =
+    let a = c.args in
+    let r = c.requires in
+    let in_both = found a.kernel.now a.p.format.width a.p.format.height a.x a.y a.i a.j c.inside.ensures c.inside-2.ensures c.if-not-inside.false in
+    rw (c.sample.ensures, c.sample-2.ensures) (
+    weighed_fits (planes g.S.Sample.value g.S.Stored.WIDE a.p) r.accepted_pair a.kernel.now r.kernel_value a.x a.y (omega arith) (omega arith) _ _
+    (omega arith) (omega arith) in_both
+    )

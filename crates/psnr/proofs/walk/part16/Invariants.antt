@@ -4,5 +4,6 @@ use Rattle.std.proofs.Common.{◌≡◌, ◌%◌, ◌^◌, ◌≤◌, length}
 use Rattle.psnr.specs.Inner.Walk.{squares_in, bits_in}
 use Rattle.psnr.proofs.walk.part16.Given as goal
 
-abbrev pub invariant-loop-x : goal.invariant-loop-x
-invariant-loop-x l = (l.x ≤ length l.a) × (l.sum ≡ squares_in l.a l.b l.x % 2 ^ 32) × (l.bits ≡ bits_in l.a l.b l.x)
+abbrev pub invariant-loop-p : goal.invariant-loop-p
+invariant-loop-p l =
+    let x = length l.yielded in (x ≤ length l.a) × (l.sum ≡ squares_in l.a l.b x % 2 ^ 32) × (l.bits ≡ bits_in l.a l.b x)

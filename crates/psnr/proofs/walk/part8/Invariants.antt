@@ -4,5 +4,6 @@ use Rattle.std.proofs.Common.{◌≡◌, ◌*◌, ◌≤◌, length}
 use Rattle.psnr.specs.Inner.Walk.{word_most, squares_in}
 use Rattle.psnr.proofs.walk.part8.Given as goal
 
-abbrev pub invariant-loop-x : goal.invariant-loop-x
-invariant-loop-x l = (l.x ≤ length l.a) × (l.sum ≡ squares_in l.a l.b l.x) × (l.sum ≤ l.x * word_most)
+abbrev pub invariant-loop-p : goal.invariant-loop-p
+invariant-loop-p l =
+    let x = length l.yielded in (x ≤ length l.a) × (l.sum ≡ squares_in l.a l.b x) × (l.sum ≤ x * word_most)

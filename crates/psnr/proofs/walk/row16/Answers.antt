@@ -1,51 +1,59 @@
--- `psnr::walk::row16` meets its contract. The loop's invariant: no sample passed is above sample_max, and the sum is theirs. Assumes nothing.
-use Rattle.std.proofs.Common.{◌-◌, ◌≤◌, true, length, sym, ◌∙◌, arith, rules}
+-- `psnr::walk::row16` meets its contract: part by part, and each part is one of both rows. Assumes nothing.
+use Rattle.std.proofs.Common.{◌≡◌, ◌-◌, ◌<◌, ◌≤◌, length, sym, ap, ◌∙◌, arith, rules}
+use Rattle.std.specs.Iterator.Adapters.{zip_first, zip_second}
+use Rattle.std.specs.Slice.Iter.{chunks_rest}
 use Rattle.plane.specs.Limits.{side_limit}
 use Rattle.plane.specs.Plane.{max_of}
-use Rattle.plane.proofs.Depth.{depth_small}
-use Rattle.plane.proofs.Limits.{side_small}
-use Rattle.plane.proofs.Rows.{cut}
-use Rattle.psnr.specs.Inner.Walk.{bits_in, part_length, row_walked}
-use Rattle.psnr.proofs.Parts.{in_none, in_cut, depth_half, part_some, suits_none, suits_small}
-use Rattle.psnr.proofs.Parts.{cut_suits, cut_breaks, cut_whole, found_above}
+use Rattle.psnr.specs.Inner.Walk.{row_walked}
+use Rattle.psnr.proofs.Parts.{in_none, part_some, part_taken, suits_none, suits_small, taken_adds, taken_breaks, taken_suits, found_above}
 use Rattle.psnr.proofs.walk.row16.Goals as goal
 
-pub sample_max-max-requires : goal.sample_max-max-requires
-sample_max-max-requires c = omega (arith, c.requires.2, depth_small true)
+pub loop-p-init-derived : goal.loop-p-init-derived
+loop-p-init-derived c =
+    let some : 0 < c.part_length-size.result = omega (arith, part_some c.args.depth, c.part_length-size.ensures) in search rules
 
-pub loop-x-init : goal.loop-x-init
-loop-x-init c = (search rules, sym (in_none _ _), suits_none c.args.depth c.args.a.now c.args.b.now)
+pub loop-p-init : goal.loop-p-init
+loop-p-init c =
+    let first : chunks_rest (zip_first c.into_iter-p-iterator.result) ≡ c.args.a.now = search rules in
+    let second : chunks_rest (zip_second c.into_iter-p-iterator.result) ≡ c.args.b.now = search rules in
+    let none : length c.args.a.now - length (chunks_rest (zip_first c.into_iter-p-iterator.result)) ≡ 0 = omega (arith, ap length first) in
+    record {
+      first_left = rw none first;
+      second_left = rw none second;
+      first_size = search rules;
+      second_size = search rules;
+      total = rw none (sym (in_none _ _));
+      suits = rw none (suits_none c.args.depth c.args.a.now c.args.b.now);
+    }
 
-pub overflow_add-x : goal.overflow_add-x
-overflow_add-x c = omega (arith, part_some c.args.depth, c.part_length-part.ensures, c.loop-x.invariant.0, side_small, c.requires.1)
-
-pub returns-then-found-max : goal.returns-then-found-max
+pub returns-then-from-max : goal.returns-then-from-max
 unfolding row_walked
-returns-then-found-max c =
-    let ends : (c.loop-x.x ≤ c.least-end.result) × (c.least-end.result ≤ length c.args.a.now) = (omega (arith, c.least-end.ensures, c.loop-x.invariant.0), omega (arith, c.least-end.ensures)) in
-    let from = c.loop-x.x in
-    found_above _ _ (cut_breaks c.args.depth c.args.a.now c.args.b.now from c.least-end.result ends.0 ends.1
-    (omega (arith, c.part16-found.ensures.bits_value, c.sample_max-max.ensures)))
+returns-then-from-max c =
+    let i = c.loop-p.invariant in
+    let s = c.in-Some.ensures.steps in
+    let t = part_taken c.args.a.now c.args.b.now c.requires.0 i.first_size i.second_size i.first_left i.second_left s.0.1.0 s.1.1.0 s.0.1.1 s.1.1.1 in
+    let above : max_of c.args.depth < c.part16-found.result.bits = omega (arith, c.sample_max-max.ensures) in
+    found_above _ _ (taken_breaks c.args.depth t c.part16-found.ensures.bits_value above)
 
 pub overflow_add-sum : goal.overflow_add-sum
-overflow_add-sum c = let small : c.loop-x.x ≤ side_limit = omega (arith, c.loop-x.invariant.0, c.requires.1) in
-    let room = suits_small c.args.depth c.args.a.now c.args.b.now c.loop-x.x c.requires.2 small c.loop-x.invariant.2 in
-    omega (arith, c.loop-x.invariant.1, room)
+overflow_add-sum c =
+    let x = length c.args.a.now - length (chunks_rest (zip_first c.loop-p.p-iterator)) in
+    let small : x ≤ side_limit = omega (arith, c.requires.1) in
+    let room = suits_small c.args.depth c.args.a.now c.args.b.now x c.requires.2 small c.loop-p.invariant.suits in
+    omega (arith, c.loop-p.invariant.total, room)
 
-pub loop-x-smaller : goal.loop-x-smaller
-loop-x-smaller c = omega (arith, c.least-end.ensures, part_some c.args.depth, c.part_length-part.ensures)
-
-pub loop-x-preserved : goal.loop-x-preserved
-loop-x-preserved c =
-    let ends : (c.loop-x.x ≤ c.least-end.result) × (c.least-end.result ≤ length c.args.a.now) = (omega (arith, c.least-end.ensures, c.loop-x.invariant.0), omega (arith, c.least-end.ensures)) in
-    let short : c.least-end.result - c.loop-x.x ≤ part_length c.args.depth = omega (arith, c.least-end.ensures, c.part_length-part.ensures) in
-    let first = cut c.args.a.now c.loop-x.x c.least-end.result in
-    let second = cut c.args.b.now c.loop-x.x c.least-end.result in
-    let bits : bits_in first second (length first) ≤ max_of c.args.depth = omega (arith, c.part16-found.ensures.bits_value, c.sample_max-max.ensures) in
-    let e = ends in
-    let half = depth_half c.requires.2 in
-    let whole = cut_whole c.args.depth _ c.args.b.now c.loop-x.x c.least-end.result e.0 e.1 half short bits in (
-      e.1,
-      in_cut _ _ c.loop-x.x _ e.0 e.1 c.loop-x.invariant.1 (c.part16-found.ensures.sum_value ∙ whole),
-      cut_suits c.args.depth _ _ c.loop-x.x c.least-end.result e.0 e.1 c.loop-x.invariant.2 bits,
-    )
+pub loop-p-preserved : goal.loop-p-preserved
+loop-p-preserved c =
+    let i = c.loop-p.invariant in
+    let s = c.in-Some.ensures.steps in
+    let t = part_taken c.args.a.now c.args.b.now c.requires.0 i.first_size i.second_size i.first_left i.second_left s.0.1.0 s.1.1.0 s.0.1.1 s.1.1.1 in
+    let bits : c.part16-found.result.bits ≤ max_of c.args.depth = omega (arith, c.sample_max-max.ensures) in
+    let found = c.part16-found.ensures in
+    record {
+      first_left = t.first_left;
+      second_left = t.second_left;
+      first_size = s.0.0 ∙ i.first_size;
+      second_size = s.1.0 ∙ i.second_size;
+      total = taken_adds c.args.depth t found.bits_value c.requires.2 c.part_length-size.ensures bits i.total (c.from-sum.ensures ∙ found.sum_value);
+      suits = taken_suits c.args.depth t found.bits_value i.suits bits;
+    }

@@ -1,21 +1,30 @@
--- `psnr::walk::sum8` meets its contract. The loop's invariant: the sum is that of the parts passed, and no larger than so many words.
--- Assumes nothing.
-use Rattle.std.proofs.Common.{ℕ, ◌+◌, ◌*◌, ◌≤◌, le_refl, arith, rules}
-use Rattle.plane.proofs.Rows.{cut_length}
-use Rattle.psnr.specs.Inner.Walk.{word_most}
-use Rattle.psnr.proofs.Parts.{in_cut}
+-- `psnr::walk::sum8` meets its contract: part by part, and what is left. Assumes nothing.
+use Rattle.std.proofs.Common.{◌≡◌, ◌*◌, ◌/◌, ◌<◌, [], length, length-append, arith, rules}
+use Rattle.std.proofs.lemmas.Slice.Zip.{zip_turn, zip_end}
+use Rattle.psnr.proofs.Parts.{chunk_length, in_chunk, in_rest}
 use Rattle.psnr.proofs.walk.sum8.Goals as goal
 
--- how many bytes are added up at a time, as in the code
-abbrev stretch : ℕ
-stretch = 128
-
-pub loop-x-preserved : goal.loop-x-preserved
-loop-x-preserved c =
-    let small : c.part8-sum.result ≤ stretch * word_most = let e = cut_length c.args.a.now c.loop-x.x (c.loop-x.x + stretch) (omega arith) (omega arith) in omega (arith, e, c.part8-sum.ensures.upper_bound) in
-    let l = c.loop-x in
-    (search rules, in_cut _ _ l.x _ (omega arith) (omega arith) l.invariant.1 c.part8-sum.ensures.value, omega (arith, small, l.invariant.2))
+pub loop-p-preserved : goal.loop-p-preserved
+loop-p-preserved c =
+    let k = length c.loop-p.yielded in
+    let first = c.as_chunks in
+    let second = c.as_chunks-2 in
+    let turn = zip_turn first.result.0.now second.result.0.now _ c.into_iter-p-iterator.result _ c.next.new.self _ (search rules) (search rules) c.loop-p.yielded_by _ c.in-Some.is c.next.ensures.steps in
+    let a : k < length c.args.a.now / 128 = omega (arith, turn.0, first.ensures.front_len) in
+    let b : k < length c.args.b.now / 128 = omega (arith, turn.1, second.ensures.front_len) in
+    let p = rw first.ensures.front at turn.2 [] in
+    let q = rw second.ensures.front at turn.3 [] in
+    let long = chunk_length 128 _ k c.args.a.now a (omega arith) p in
+    rw length-append (
+      omega arith,
+      in_chunk c.args.a.now c.args.b.now 128 k a b (omega arith) (omega arith) p q c.loop-p.invariant.1 c.part8-sum.ensures.value,
+      omega (arith, c.part8-sum.ensures.upper_bound, long, c.loop-p.invariant.2),
+    )
 
 pub returns : goal.returns
-returns c = let l = c.loop-x in
-    in_cut _ _ l.x _ l.invariant.0 (le_refl _) l.invariant.1 c.part8.ensures.value
+returns c =
+    let first = c.as_chunks in
+    let second = c.as_chunks-2 in
+    let count = zip_end first.result.0.now second.result.0.now _ c.into_iter-p-iterator.result _ c.next.new.self _ (search rules) (search rules) c.loop-p.yielded_by c.in-None.is c.next.ensures.steps in
+    let k : length c.loop-p.yielded ≡ length c.args.a.now / 128 = omega (arith, count, first.ensures.front_len, second.ensures.front_len) in
+    in_rest _ _ (length c.loop-p.yielded * 128) (omega arith) c.requires.0 (rw k first.ensures.back) (rw (k, c.requires.0) second.ensures.back) c.loop-p.invariant.1 c.part8.ensures.value

@@ -1,60 +1,50 @@
 -- `loaded` fills a block, sample by sample. Assumes nothing.
 use borrow.Author.Rules.{rules}
 use mathlib.Core.Path.{◌≡◌, ap, ◌∙◌}
-use Prim.Native.Nat.{ℕ, ◌+◌, ◌*◌, ◌/◌, ◌%◌, ◌<◌, ◌^◌}
+use Prim.Native.Nat.{◌<◌, ◌^◌}
 use native.Mathlib.Omega.{arith}
-use native.Mathlib.Nat.{le_trans, lt_of_le_of_lt}
-use lib.ListN.{length, length-set}
-use lib.Dec.{lit<}
+use lib.ListN.{length-set}
 use lib.IntN.{pos}
 use mir.Syntax.{w32}
 use mir.Facts.{to_z_pos}
-use Rattle.plane.specs.declared.Size.{Size}
-use Rattle.plane.specs.Plane.{Plane, sample_at, sample_limit}
-use Rattle.plane.specs.Inner.Lawful.{Bounded}
-use Rattle.plane.proofs.Rows.{inside, count_fits}
+use Rattle.std.proofs.lemmas.List.{length-map}
 use Rattle.lifting.proofs.Size.{fits}
-use Rattle.psnr_hvs.specs.Inner.Blocks.{BlockFits}
 use Rattle.psnr_hvs.specs.Score.{block_at}
 use Rattle.number.proofs.Lists.{filled_none, filled_more, filled_all}
-use Rattle.hvs_block.proofs.Numbers.{limit_small}
+use Rattle.psnr_hvs.proofs.Blocks.{place_inside, place_small, place_read}
 use Rattle.psnr_hvs.proofs.block.loaded.Goals as goal
 
--- place k of a block that fits
-module _ {size : Size} {p : Plane} {x y : ℕ} (k : ℕ) (f : BlockFits size x y) (b : Bounded sample_limit size.width size.height p) (l : k < 64) where
-  place_inside : (y + k / 8) * p.stride + (x + k % 8) < length p.samples
-  place_inside = inside p.stride b.long (omega arith) (omega arith)
-
-  place_small : sample_at p (y + k / 8) (x + k % 8) < 2 ^ 31
-  place_small = lt_of_le_of_lt (le_trans (b.small (y + k / 8) (x + k % 8) (omega arith) (omega arith)) limit_small) (lit< tt)
-
 pub loop-k-init : goal.loop-k-init
-loop-k-init c = (search rules, search rules, filled_none _ _)
+loop-k-init g c = (search rules, search rules, filled_none _ _)
 
-pub overflow_mul-y : goal.overflow_mul-y
-overflow_mul-y c =
-    let p = place_inside c.loop-k.k c.requires.block_fits c.requires.bounded (omega arith) in
-    omega (arith, p, count_fits c.args.size.wide c.args.bytes.now c.args.words.now (omega arith) (omega arith))
+pub overflow_mul-row : goal.overflow_mul-row
+overflow_mul-row g c = let p = rw length-map at (place_inside c.args.x c.args.y c.loop-k.k c.requires.bounded (omega arith)) in omega (arith, p)
 
-pub overflow_add-y-in-loop-k : goal.overflow_add-y-in-loop-k
-overflow_add-y-in-loop-k c =
-    let p = place_inside c.loop-k.k c.requires.block_fits c.requires.bounded (omega arith) in
-    omega (arith, p, count_fits c.args.size.wide c.args.bytes.now c.args.words.now (omega arith) (omega arith))
+pub overflow_add-row-in-loop-k : goal.overflow_add-row-in-loop-k
+overflow_add-row-in-loop-k g c = let p = rw length-map at (place_inside c.args.x c.args.y c.loop-k.k c.requires.bounded (omega arith)) in omega (arith, p)
 
-pub sample-requires : goal.sample-requires
-sample-requires c = place_inside c.loop-k.k c.requires.block_fits c.requires.bounded (omega arith)
+pub offset_bounds-p-row : goal.offset_bounds-p-row
+offset_bounds-p-row g c = let p = rw length-map at (place_inside c.args.x c.args.y c.loop-k.k c.requires.bounded (omega arith)) in search rules
 
-pub overflow_cast-out : goal.overflow_cast-out
-overflow_cast-out c = fits (pos c.sample.result) (rw c.sample.ensures (place_small c.loop-k.k c.requires.block_fits c.requires.bounded (omega arith)))
+pub bounds-p-row : goal.bounds-p-row
+bounds-p-row g c = rw length-map at (place_inside c.args.x c.args.y c.loop-k.k c.requires.bounded (omega arith))
+
+pub overflow_cast-place : goal.overflow_cast-place
+overflow_cast-place g c =
+    let p = rw length-map at (place_inside c.args.x c.args.y c.loop-k.k c.requires.bounded (omega arith)) in
+    let read = place_read g.S.Sample.value c.args.p.samples.now _ c.index-p-row.is c.value.ensures p in
+    fits (pos c.value.result) (rw read (place_small c.args.x c.args.y c.loop-k.k c.requires.bounded (omega arith)))
 
 pub loop-k-preserved : goal.loop-k-preserved
-loop-k-preserved c =
+loop-k-preserved g c =
     let l = c.loop-k in
-    let s : c.sample.result < 2 ^ 31 = rw c.sample.ensures (place_small c.loop-k.k c.requires.block_fits c.requires.bounded (omega arith)) in
-    (search rules, simp length-set l.invariant.1, filled_more _ _ _ l.invariant.2 (to_z_pos w32 s ∙ ap pos c.sample.ensures) (omega arith))
+    let p = rw length-map at (place_inside c.args.x c.args.y l.k c.requires.bounded (omega arith)) in
+    let read = place_read g.S.Sample.value c.args.p.samples.now _ c.index-p-row.is c.value.ensures p in
+    let s : c.value.result < 2 ^ 31 = rw read (place_small c.args.x c.args.y l.k c.requires.bounded (omega arith)) in
+    (search rules, simp length-set l.invariant.1, filled_more _ _ _ l.invariant.2 (to_z_pos w32 s ∙ ap pos read) (omega arith))
 
 pub returns : goal.returns
 unfolding block_at
-returns c = let v = c.loop-k.invariant in
+returns g c = let v = c.loop-k.invariant in
     let e : c.loop-k.k ≡ 64 = omega arith in
     filled_all _ _ 64 (rw e at v.2) (omega arith)

@@ -2,11 +2,11 @@
 use mathlib.Core.Path.{◌≡◌}
 use Prim.Native.Nat.{◌≤◌}
 use lib.ListN.{length}
-use Rattle.plane.specs.Inner.Lent.{plane_in}
+use Rattle.plane.specs.Inner.Seen.{seen}
 use Rattle.psnr_hvs.specs.Score.{sample_in}
 use Rattle.number.proofs.Lists.{Filled}
 use Rattle.psnr_hvs.proofs.block.loaded.Given as goal
 
 abbrev pub invariant-loop-k : goal.invariant-loop-k
-invariant-loop-k l =
-    (l.k ≤ 64) × (length l.out ≡ 64) × Filled (sample_in (plane_in l.size l.bytes l.words l.stride) l.x l.y) l.out l.k
+invariant-loop-k g l =
+    (l.k ≤ 64) × (length l.place-items ≡ 64) × Filled (sample_in (seen g.S.Sample.value l.p) l.x l.y) l.place-items l.k

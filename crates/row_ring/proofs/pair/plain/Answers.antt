@@ -1,11 +1,9 @@
--- `row_ring::pair::plain` meets its contract. Assumes nothing.
+-- `plain` is the larger of a place and 0. Assumes nothing.
+use Rattle.std.proofs.Common.{rules}
 use mir.Syntax.{w64}
 use mir.ValLaws.{to_z-of_z}
-use Rattle.row_ring.proofs.Pairs.{plain_minus, plain_plus}
+use Rattle.row_ring.proofs.Pairs.{plain_is}
 use Rattle.row_ring.proofs.pair.plain.Goals as goal
 
-pub returns-then-z-lt0 : goal.returns-then-z-lt0
-returns-then-z-lt0 c = plain_minus c.args.z (rw (to_z-of_z w64 c.args.z c.ranges.z) at c.if-z-lt0.true)
-
-pub returns-else-z-lt0 : goal.returns-else-z-lt0
-returns-else-z-lt0 c = rw (to_z-of_z w64 c.args.z c.ranges.z) (plain_plus c.args.z (rw (to_z-of_z w64 c.args.z c.ranges.z) at c.if-z-lt0.false))
+pub returns : goal.returns
+returns c = rw (to_z-of_z w64 c.max.result (search rules), c.max.ensures.value, to_z-of_z w64 c.args.z c.ranges.z) (plain_is c.args.z)

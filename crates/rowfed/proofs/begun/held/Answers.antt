@@ -1,24 +1,24 @@
--- `rowfed::begun::held` meets its contract. Assumes nothing.
-use mathlib.Core.Path.{◌≡◌, ◌∙◌}
-use native.Mathlib.Omega.{arith}
-use borrow.Author.Rules.{rules}
-use lib.ListN.{length}
+-- `held` is the taps, then the zeros past them. Assumes nothing.
+use Rattle.std.proofs.Common.{◌≤◌, length, sym, arith}
+use lib.Seq.{length-take-le}
 use Rattle.kernel.specs.Kernel.{most_taps}
-use Rattle.rowfed.proofs.Held.{held_none, held_more, held_all}
+use Rattle.rowfed.proofs.Held.{drop_zeros}
 use Rattle.rowfed.proofs.begun.held.Goals as goal
 
-pub loop-k-init : goal.loop-k-init
+pub slice_bounds-places-end : goal.slice_bounds-places-end
 unfolding most_taps
-loop-k-init c = (search rules, held_none _)
+slice_bounds-places-end c = omega (arith, c.requires)
 
-pub bounds-places-k : goal.bounds-places-k
+pub slice_bounds-copy_from_slice-end : goal.slice_bounds-copy_from_slice-end
 unfolding most_taps
-bounds-places-k c = omega (arith, c.requires)
+slice_bounds-copy_from_slice-end c =
+    let few : length c.args.kernel.now ≤ 255 = omega (arith, c.requires) in sym (length-take-le _ _ few)
 
-pub loop-k-preserved : goal.loop-k-preserved
-loop-k-preserved c = let l = c.loop-k in
-    (search rules, held_more c.args.kernel.now l.places l.k l.invariant.1 c.loop-k-test.true c.requires)
+pub copy_from_slice-requires : goal.copy_from_slice-requires
+unfolding most_taps
+copy_from_slice-requires c =
+    let few : length c.args.kernel.now ≤ 255 = omega (arith, c.requires) in length-take-le _ _ few
 
 pub returns : goal.returns
-returns c = let e : c.loop-k.k ≡ length c.args.kernel.now = omega arith in
-    rw e at c.loop-k.invariant.1 ∙ held_all c.args.kernel.now
+unfolding most_taps
+returns c = rw (c.copy_from_slice.ensures.after, drop_zeros (length c.args.kernel.now) 255)

@@ -7,4 +7,4 @@ use Rattle.plane.specs.Plane.{at, all_to}
 use Rattle.rowfed.proofs.possible.all_zero.Given as goal
 
 abbrev pub invariant-loop-k : goal.invariant-loop-k
-invariant-loop-k l = (l.k ≤ length l.l) × (l.ok ≡ all_to (λ (i : ℕ). eqb (at l.l i) 0) l.k)
+invariant-loop-k l = (l.k-index ≤ length l.l) × (l.ok ≡ all_to (λ (i : ℕ). eqb (at l.l i) 0) l.k-index)

@@ -6,7 +6,7 @@ use native.Mathlib.Nat.{mul-le-mul}
 use native.Mathlib.Omega.{arith}
 use lib.ListN.{length, drop}
 use lib.Seq.{length-take-le}
-use Rattle.plane.specs.Inner.Lent.{planes}
+use Rattle.plane.specs.Inner.Seen.{planes}
 use Rattle.plane.proofs.Limits.{side_small}
 use Rattle.kernel.proofs.Says.{taps_room}
 use Rattle.ssim.proofs.Powers.{power_le}
@@ -16,23 +16,23 @@ use Rattle.rowfed.proofs.Tidied.{used_count, roomy, kernel_there, taken_under}
 use Rattle.rowfed.proofs.taken.take_under.Goals as goal
 
 pub overflow_mul-used : goal.overflow_mul-used
-overflow_mul-used c = let f = c.requires.sound_feed.state in
+overflow_mul-used g c = let f = c.requires.sound_feed.state in
     let wide : c.args.state.width ≤ 2 ^ 20 = omega (arith, side_small, f.width_most) in
     let few : c.next_power.result ≤ 2 ^ 40 = omega (arith, taps_room, f.taps_most, c.next_power.ensures, power_le c.args.state.taps f.taps_least) in
     omega (arith, mul-le-mul few wide)
 
 pub overflow_add-used-2 : goal.overflow_add-used-2
-overflow_add-used-2 c =
+overflow_add-used-2 g c =
     let f = c.requires.sound_feed in
     omega (arith, used_count c.args.state c.next_power.result c.args.state.kernel c.next_power.ensures refl f.state, f.state.used_few, f.lent_enough)
 
-pub slice_bounds-take-end-2 : goal.slice_bounds-take-end-2
-slice_bounds-take-end-2 c =
+pub slice_bounds-take-end : goal.slice_bounds-take-end
+slice_bounds-take-end g c =
     let f = c.requires.sound_feed in
     omega (arith, used_count c.args.state c.next_power.result c.args.state.kernel c.next_power.ensures refl f.state, f.state.used_few, f.lent_enough)
 
 pub take-requires : goal.take-requires
-take-requires c =
+take-requires g c =
     let state = c.args.state in
     let used : ℕ = c.next_power.result * state.width + 5 * (state.width + 2 * (state.taps / 2)) in
     let f = c.requires.sound_feed in
@@ -49,8 +49,8 @@ take-requires c =
     }
 
 pub returns : goal.returns
-returns c =
-    let group = planes c.args.layout c.args.a8 c.args.a16 c.args.b8 c.args.b16 in
+returns g c =
+    let group = planes g.S.Sample.value g.S.Stored.WIDE c.args.p in
     let state = c.args.state in
     let old = c.args.scratch.now in
     let used : ℕ = c.next_power.result * state.width + 5 * (state.width + 2 * (state.taps / 2)) in

@@ -1,5 +1,5 @@
 -- `ssim::walk::rows` meets its contract: the rows above y are scored, and the margins are zero. Assumes nothing.
-use mathlib.Core.Path.{◌≡◌, refl, sym, ◌∙◌}
+use mathlib.Core.Path.{◌≡◌, ◌∙◌}
 use mathlib.Core.List.{List}
 use Prim.Native.Nat.{ℕ, ◌+◌, ◌≤◌, ◌-◌, ◌*◌, ◌/◌}
 use native.Mathlib.Omega.{arith}
@@ -8,53 +8,17 @@ use borrow.Rule.Slice.PartMut.{mid_of, same_len_mid}
 use lib.IntN.{ℤ}
 use lib.ListN.{length}
 use Rattle.plane.specs.Plane.{sample_at}
-use Rattle.plane.proofs.Limits.{side_small}
 use Rattle.window.specs.Inner.Columns.{OnGrid, on_grid}
-use Rattle.kernel.proofs.Says.{taps_room}
 use Rattle.window.proofs.Sums.Windows.{weight_le}
 use Rattle.window.proofs.Sums.Held.{part_length, all_sums, margins_kept}
-use Rattle.ssim.proofs.Same.{totals_none, totals_more}
+use Rattle.ssim.proofs.Same.{totals_more}
 use Rattle.ssim.proofs.walk.rows.Goals as goal
 
-pub overflow_mul-start : goal.overflow_mul-start
-overflow_mul-start c = omega (arith, side_small, taps_room)
-
-pub overflow_mul-end : goal.overflow_mul-end
-overflow_mul-end c = omega (arith, side_small, taps_room)
-
-pub overflow_add-end : goal.overflow_add-end
-overflow_add-end c = omega (arith, side_small, taps_room)
-
-pub loop-y-init : goal.loop-y-init
-loop-y-init c = (search rules, refl, c.requires.margins, sym (totals_none _ _ _ _ _ _))
-
-pub offset_bounds-cols-start : goal.offset_bounds-cols-start
-offset_bounds-cols-start c = omega (arith, taps_room)
-
-pub fill-requires : goal.fill-requires
-fill-requires c =
-    let start : ℕ = 5 * (length c.args.kernel.now / 2) in
-    let count : ℕ = start + 5 * c.args.grid.width - start in
-    let room : start + count ≤ length c.loop-y.cols = omega arith in
-    record {
-      y_lt_height = omega (arith, part_length start count c.loop-y.cols room);
-      kernel = c.requires.kernel;
-      summable = c.requires.summable (omega arith);
-    }
-
-pub weight-down-requires : goal.weight-down-requires
-weight-down-requires c =
-    record {
-      x_lt_side = omega arith;
-      kernel = c.requires.kernel;
-      total_value = c.requires.total_value;
-    }
-
 pub centres-t-requires : goal.centres-t-requires
-centres-t-requires c =
-    let both : OnGrid = on_grid c.args.grid c.args.a8 c.args.a16 c.args.a32 c.args.b8 c.args.b16 c.args.b32 in
+centres-t-requires g c =
+    let both : OnGrid = on_grid g.S.Sample.value c.args.p in
     let start : ℕ = 5 * (length c.args.kernel.now / 2) in
-    let count : ℕ = start + 5 * c.args.grid.width - start in
+    let count : ℕ = start + 5 * c.args.p.format.width - start in
     let old : List ℤ = c.loop-y.cols in
     let filled : List ℤ = c.fill.new.cols in
     let room : start + count ≤ length old = omega arith in
@@ -62,18 +26,18 @@ centres-t-requires c =
     let same : length filled ≡ count = kept ∙ part_length start count old room in
     let small = c.requires.summable (omega arith) in
     record {
-      width_le_side_limit = omega (arith, same_len_mid start count old filled kept, weight_le c.args.kernel.now c.args.grid.height c.loop-y.y c.requires.kernel);
+      width_le_side_limit = omega (arith, same_len_mid start count old filled kept, weight_le c.args.kernel.now c.args.p.format.height c.loop-y.y c.requires.kernel);
       kernel = c.requires.kernel;
       total_value = c.requires.total_value;
-      column_sums = all_sums old filled count c.args.kernel.now c.args.grid.width c.args.grid.height (sample_at both.a) (sample_at both.b)
+      column_sums = all_sums old filled count c.args.kernel.now c.args.p.format.width c.args.p.format.height (sample_at both.a) (sample_at both.b)
           c.loop-y.y c.fill.ensures c.loop-y.invariant.2 (omega arith) (omega arith) same c.requires.kernel small.first.small small.second.small;
     }
 
 pub loop-y-preserved : goal.loop-y-preserved
-loop-y-preserved c =
-    let both : OnGrid = on_grid c.args.grid c.args.a8 c.args.a16 c.args.a32 c.args.b8 c.args.b16 c.args.b32 in
+loop-y-preserved g c =
+    let both : OnGrid = on_grid g.S.Sample.value c.args.p in
     let start : ℕ = 5 * (length c.args.kernel.now / 2) in
-    let count : ℕ = start + 5 * c.args.grid.width - start in
+    let count : ℕ = start + 5 * c.args.p.format.width - start in
     let old : List ℤ = c.loop-y.cols in
     let filled : List ℤ = c.fill.new.cols in
     let room : start + count ≤ length old = omega arith in
@@ -81,16 +45,9 @@ loop-y-preserved c =
     let same : length filled ≡ count = kept ∙ part_length start count old room in (
       search rules,
       same_len_mid start count old filled kept ∙ c.loop-y.invariant.1,
-      margins_kept old filled count c.args.kernel.now c.args.grid.width c.args.grid.height (sample_at both.a) (sample_at both.b)
+      margins_kept old filled count c.args.kernel.now c.args.p.format.width c.args.p.format.height (sample_at both.a) (sample_at both.b)
           c.loop-y.y c.fill.ensures c.loop-y.invariant.2 (omega arith) (omega arith) same,
       rw (c.centres-t.ensures, c.weight-down.ensures, c.loop-y.invariant.3)
-          (totals_more c.args.max2 c.args.kernel.now c.args.grid.width c.args.grid.height (sample_at both.a) (sample_at both.b)
+          (totals_more c.args.max2 c.args.kernel.now c.args.p.format.width c.args.p.format.height (sample_at both.a) (sample_at both.b)
           old filled count c.loop-y.y c.fill.ensures c.loop-y.invariant.2 (omega arith) (omega arith) same),
     )
-
-pub shape_of-cols : goal.shape_of-cols
-shape_of-cols c = c.loop-y.invariant.1
-
-pub returns : goal.returns
-returns c = let e : c.loop-y.y ≡ c.args.grid.height = omega arith in
-    rw e at c.loop-y.invariant.3

@@ -1,6 +1,4 @@
 -- `window::columns::put` meets its contract. Assumes nothing.
-use native.Mathlib.Omega.{arith}
-use lib.ListN.{length-set}
 use mir.Syntax.{w64}
 use mir.ValLaws.{to_z_pos}
 use Rattle.window.proofs.columns.put.Goals as goal
@@ -11,26 +9,14 @@ overflow_cast-cols c = record { sfits = c.requires.fits 0 }
 pub overflow_cast-cols-2 : goal.overflow_cast-cols-2
 overflow_cast-cols-2 c = record { sfits = c.requires.fits 1 }
 
-pub bounds-cols-at-2 : goal.bounds-cols-at-2
-bounds-cols-at-2 c = simp length-set (omega arith)
-
 pub overflow_cast-cols-3 : goal.overflow_cast-cols-3
 overflow_cast-cols-3 c = record { sfits = c.requires.fits 2 }
-
-pub bounds-cols-at-3 : goal.bounds-cols-at-3
-bounds-cols-at-3 c = simp length-set (omega arith)
 
 pub overflow_cast-cols-4 : goal.overflow_cast-cols-4
 overflow_cast-cols-4 c = record { sfits = c.requires.fits 3 }
 
-pub bounds-cols-at-4 : goal.bounds-cols-at-4
-bounds-cols-at-4 c = simp length-set (omega arith)
-
 pub overflow_cast-cols-5 : goal.overflow_cast-cols-5
 overflow_cast-cols-5 c = record { sfits = c.requires.fits 4 }
-
-pub bounds-cols-at-5 : goal.bounds-cols-at-5
-bounds-cols-at-5 c = simp length-set (omega arith)
 
 pub returns : goal.returns
 returns c = simp (

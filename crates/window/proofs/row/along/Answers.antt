@@ -1,19 +1,12 @@
 -- `window::row::along` meets its contract: k pairs are summed, and the middle. Assumes nothing.
-use mathlib.Core.Path.{◌≡◌, sym, ◌∙◌}
+use mathlib.Core.Path.{◌≡◌, ◌∙◌}
 use Prim.Native.Nat.{ℕ, ◌-◌, ◌+◌, ◌*◌, ◌/◌}
 use native.Mathlib.Omega.{arith}
 use lib.ListN.{length}
 use Rattle.window.specs.Inner.Columns.{cell_of}
 use Rattle.window.proofs.Sums.Five.{nth_five}
-use Rattle.window.proofs.Sums.Folded.{folds_none, folds_more, folds_all, middle_room, folds_room}
+use Rattle.window.proofs.Sums.Folded.{folds_all, middle_room, folds_room}
 use Rattle.window.proofs.row.along.Goals as goal
-
-pub cells-requires : goal.cells-requires
-cells-requires c =
-    record {
-      c_lt_n = omega arith;
-      column_sums = c.requires.column_sums;
-    }
 
 pub tapped-t-requires : goal.tapped-t-requires
 tapped-t-requires c = let off = length c.args.kernel.now / 2 in
@@ -21,19 +14,6 @@ tapped-t-requires c = let off = length c.args.kernel.now / 2 in
     (λ m l k q. (c.requires.column_sums (5 * (c.args.x + k) + m) (omega arith)).low) in
     rw (c.none.ensures, c.cells.ensures)
     (λ m l. rw (nth_five (λ (i : ℕ). cell_of c.args.cols.now i (c.args.x + off)) m l) (room m l))
-
-pub loop-k-init : goal.loop-k-init
-loop-k-init c = (
-  omega arith,
-  rw (c.tapped-t.ensures, c.cells.ensures, c.none.ensures) (sym (folds_none _ _ _)),
-)
-
-pub pair-requires : goal.pair-requires
-pair-requires c =
-    record {
-      i_lt_n = omega arith;
-      column_sums = c.requires.column_sums;
-    }
 
 pub tapped-t-requires-in-loop-k : goal.tapped-t-requires-in-loop-k
 tapped-t-requires-in-loop-k c = let off = length c.args.kernel.now / 2 in
@@ -45,12 +25,6 @@ tapped-t-requires-in-loop-k c = let off = length c.args.kernel.now / 2 in
     (λ m l.
     rw (nth_five (λ (i : ℕ). cell_of c.args.cols.now i (c.args.x + k) + cell_of c.args.cols.now i (c.args.x + 2 * off - k)) m l)
     (room m l))
-
-pub loop-k-preserved : goal.loop-k-preserved
-loop-k-preserved c = (
-  omega arith,
-  rw (c.tapped-t-in-loop-k.ensures, c.pair.ensures, c.loop-k.invariant.1) (sym (folds_more _ _ _ _)),
-)
 
 pub returns : goal.returns
 returns c = let e : c.loop-k.k ≡ length c.args.kernel.now / 2 = omega arith in

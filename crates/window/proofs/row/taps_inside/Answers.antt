@@ -1,26 +1,27 @@
--- `window::row::taps_inside` meets its contract. Assumes nothing.
-use mathlib.Core.Path.{sym, ◌∙◌}
-use Prim.Native.Nat.{ℕ}
-use native.Mathlib.Omega.{arith}
-use native.Mathlib.Nat.{mul-one, le_refl}
+-- One more tap is summed, and has room.
+use Rattle.std.proofs.Common.{◌≡◌, List, ℕ, ◌+◌, ◌-◌, ◌<◌, ◌/◌, length, get_or, take, drop, refl, sym, arith}
+use Rattle.std.proofs.lemmas.Grind.{elements}
+use Rattle.kernel.specs.Kernel.{tap}
 use Rattle.kernel.proofs.Says.{total_room}
-use Rattle.window.proofs.Sums.Windows.{part_more, part_first, part_last, part_room}
+use Rattle.window.proofs.Sums.Windows.{weight_more, weight_part}
 use Rattle.window.proofs.row.taps_inside.Goals as goal
 
-pub loop-k-init : goal.loop-k-init
-loop-k-init c = (omega arith, omega arith, sym (part_first _ _ _ _ _ (omega arith)))
+-- what stands at place i of the taps inside
+tap_there : (ker : List ℕ) (first count i v from : ℕ) → v ≡ get_or (take count (drop from ker)) i 0 → from ≡ first
+    → i < length (take count (drop from ker)) → (v ≡ tap ker (first + i)) × (i < count)
+tap_there ker first count i v from e f l = (grind (arith, elements), grind (arith, elements))
 
 pub overflow_add-sum : goal.overflow_add-sum
-overflow_add-sum c = let room = part_room _ _ (λ (i : ℕ). 1) _ 1 _ _ c.requires.kernel (λ k a m n. le_refl 1) c.loop-k.invariant.2
-    (omega arith) (omega arith) (omega arith) in
-    omega (arith, room, total_room)
+overflow_add-sum c =
+    let a = c.args in
+    let k = length a.kernel.now / 2 - a.x + c.loop-tap.tap-index in
+    let there = tap_there a.kernel.now _ _ c.loop-tap.tap-index _ c.first.result c.from-sum.ensures c.first.ensures c.loop-tap-test.true in
+    let more = weight_more a.kernel.now a.side a.x k (k + 1) c.from-sum.result refl there.0 (omega arith) (omega arith) in
+    omega (arith, more, weight_part a.kernel.now a.side a.x c.requires.kernel (k + 1) (omega arith), total_room)
 
-pub loop-k-preserved : goal.loop-k-preserved
-loop-k-preserved c = (
-  omega arith,
-  omega arith,
-  rw c.loop-k.invariant.2 (sym (part_more _ _ _ _ _ (omega arith) (omega arith) ∙ rw mul-one)),
-)
-
-pub returns : goal.returns
-returns c = rw c.loop-k.invariant.2 (part_last _ _ _ _ c.requires.kernel _ (omega arith) (omega arith))
+pub loop-tap-preserved : goal.loop-tap-preserved
+loop-tap-preserved c =
+    let a = c.args in
+    let k = length a.kernel.now / 2 - a.x + c.loop-tap.tap-index in
+    let there = tap_there a.kernel.now _ _ c.loop-tap.tap-index _ c.first.result c.from-sum.ensures c.first.ensures c.loop-tap-test.true in
+    rw c.loop-tap.invariant (sym (weight_more a.kernel.now a.side a.x k _ c.from-sum.result (omega arith) there.0 (omega arith) (omega arith)))

@@ -1,8 +1,0 @@
--- `better::answer` meets its contract: by both findings. Assumes nothing.
-use mathlib.Core.Path.{ap₂, ◌∙◌}
-use Rattle.better.specs.Inner.Judged.{decided}
-use Rattle.better.proofs.Judging.{decided_better}
-use Rattle.better.proofs.answer.Goals as goal
-
-pub returns : goal.returns
-returns c = c.decide.ensures ∙ ap₂ decided c.judge.ensures c.judge-2.ensures ∙ decided_better _

@@ -1,9 +1,0 @@
--- `plane::count` meets its contract. Assumes nothing.
-
-use Rattle.plane.proofs.count.Goals as goal
-
-pub returns-then-wide : goal.returns-then-wide
-returns-then-wide c = rw c.if-wide.true
-
-pub returns-else-wide : goal.returns-else-wide
-returns-else-wide c = rw c.if-wide.false

@@ -1,8 +1,0 @@
--- `row_ring::pair::second` meets its contract. Assumes nothing.
-use Rattle.std.proofs.Common.{rules}
-use Rattle.row_ring.specs.Ring.{pair_base}
-use Rattle.row_ring.proofs.pair.second.Goals as goal
-
-pub returns : goal.returns
-unfolding pair_base
-returns c = search rules
