@@ -7,6 +7,7 @@ use native.Mathlib.Omega.{arith}
 use borrow.Author.Tests.{le-leb, lt-leb, leb-true}
 use lib.Dec.{leb, lit≤}
 use Rattle.decibels.specs.Hundredths.{place_count, chart_unit, entry_power, entry_of}
+use Rattle.decibels.proofs.Powers.{mul_pow}
 use Rattle.decibels.proofs.Largest.{largest_most, largest_holds, largest_is}
 
 -- ---- powers
@@ -68,3 +69,11 @@ entries_rise {j} {k} l = entry_most k (entry_of j) (le_trans (entry_root j) (pow
 pub entry_first : entry_of 0 ≤ chart_unit
 unfolding entry_power
 entry_first = root_le place_count some_places (rw (pow-zero 10, one-mul) at (entry_root 0))
+
+-- and all of the chart are at most ten
+pub entry_small : (k : ℕ) → k < place_count → entry_of k ≤ 10 * chart_unit
+unfolding entry_power
+entry_small k l =
+    let whole : 10 ^ k * chart_unit ^ place_count ≤ 10 ^ place_count * chart_unit ^ place_count =
+    mul-le-mul_right (chart_unit ^ place_count) (pow-le-pow_right (omega arith) (omega arith)) in
+    root_le place_count some_places (rw (mul_pow 10 chart_unit place_count) (le_trans (entry_root k) whole))

@@ -8,7 +8,7 @@ use lib.Pow.{pow-add}
 
 ruleset shuffled = (mul_assoc, mul_comm, mul_left_comm)
 
-mul_pow : (a b n : ℕ) → (a * b) ^ n ≡ a ^ n * b ^ n
+pub mul_pow : (a b n : ℕ) → (a * b) ^ n ≡ a ^ n * b ^ n
 mul_pow a b zero = rw (pow-zero (a * b), pow-zero a, pow-zero b)
 mul_pow a b (suc n) = rw (pow-suc (a * b) n, pow-suc a n, pow-suc b n, mul_pow a b n) (mul-mul-mul_comm (a ^ n) (b ^ n) a b)
 

@@ -57,8 +57,9 @@ fn place(entries: &[u64; 1000], peak: u128, error: u128) -> usize
     requires error_bound { (1 ≤ error) × (error ≤ peak) × (peak < peak_limit) }
     ensures { (result ≡ place_of peak error) × (result < place_count) }
 {
-    let most = peak * UNIT / error;
-    entries.partition_point(|e| u128::from(*e) <= most) - 1
+    let most = peak * UNIT;
+    // products, which wrap for no entry of the chart: for a quotient an archive would ask for `__udivti3` from outside
+    entries.partition_point(|e| u128::from(*e).wrapping_mul(error) <= most) - 1
 }
 
 // P: n samples, each as wrong as it can be.

@@ -258,7 +258,7 @@ const CSF_MULTIPLIER: f64 = 0.3885746225901003;
 
 // The table of a kind.
 #[tactic(auto, unfolding(crate::specs::Tables::csf_of, crate::specs::Tables::csf_y, crate::specs::Tables::csf_cb420, crate::specs::Tables::csf_cr420))]
-fn csf_of(kind: Kind) -> [[f64; BLOCK_SIDE]; BLOCK_SIDE]
+pub fn csf_of(kind: Kind) -> [[f64; BLOCK_SIDE]; BLOCK_SIDE]
     ensures { result ≡ csf_of kind }
 {
     match kind {
@@ -284,7 +284,7 @@ fn mask_row(row: [f64; BLOCK_SIDE]) -> [f64; BLOCK_SIDE]
 }
 
 // The masks of a table.
-fn masks(csf: [[f64; BLOCK_SIDE]; BLOCK_SIDE]) -> [[f64; BLOCK_SIDE]; BLOCK_SIDE]
+pub fn masks(csf: [[f64; BLOCK_SIDE]; BLOCK_SIDE]) -> [[f64; BLOCK_SIDE]; BLOCK_SIDE]
     ensures { result ≡ masks_of csf }
 {
     csf.map(mask_row)

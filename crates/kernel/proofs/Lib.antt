@@ -1,3 +1,4 @@
 pub mod Computed
 pub mod Idle
 pub mod Says
+pub mod Copy
