@@ -1,10 +1,11 @@
-"""How tools/promises and tools/reading see a Rattle source: its public functions, their parameters, results and clauses."""
+"""How tools/promises and tools/reading see a Rattle source: its public functions and those of public traits, their parameters, results and clauses."""
 
 import re
 
 OPEN, CLOSE = "([{", ")]}"
 # the crates that crates.txt lists: `NAME: LIBRARY ..`, of a static library `NAME staticlib: LIBRARY ..`
 CRATE = re.compile(r"^(\w+)(?: +\w[\w=]*)* *:", re.M)
+FUNCTION = r'(?P<exported>extern "C" )?fn (?P<name>\w+)'
 
 
 def bare(text):
@@ -63,9 +64,9 @@ class Function:
         start = text.index("(", match.end())
         end = closing(text, start)
         self.parameters = [parameter(p) for p in between(text[start + 1 : end]) if p.strip()]
-        head = re.compile(r"\s*(?:->\s*(?P<result>.*?)\s*)?(?=\b(?:requires|ensures)\b|\{)", re.S).match(text, end + 1)
-        self.result = head.group("result") or ""
-        self.clauses, body = read_clauses(text, head.end())
+        clauses = promised(text, end + 1)
+        self.result = text[end + 1 : clauses].partition("->")[2].strip()
+        self.clauses, body = read_clauses(text, clauses)
         self.size = text[match.start() : body].count("\n") + 1
 
     def written(self):
@@ -93,11 +94,21 @@ def between(text):
     return cut
 
 
+def promised(text, start):
+    """Where a result that begins at `start` ends: at the first clause, the body, or the `;` of a function that has none."""
+    depth = 0
+    for found in re.compile(r"[()\[\]{;]|\b(?:requires|ensures)\b").finditer(text, start):
+        depth += (found.group() in "([") - (found.group() in ")]")
+        if depth == 0 and found.group() not in CLOSE:
+            return found.start()
+    raise ValueError("neither a clause nor a body: " + text[start : start + 60])
+
+
 def read_clauses(text, start):
-    """The clauses from `start` on, and where they end."""
+    """The clauses from `start` on, and where they end: at the body, or at the `;` of a function that has none."""
     clauses = []
     while True:
-        found = re.compile(r"\s*(?:(requires|ensures)\b\s*[\w-]*\s*)?\{").match(text, start)
+        found = re.compile(r"\s*(?:(requires|ensures)\b\s*[\w-]*\s*\{|[{;])").match(text, start)
         if not found:
             raise ValueError("neither a clause nor a body: " + text[start : start + 60])
         if not found.group(1):
@@ -108,10 +119,12 @@ def read_clauses(text, start):
 
 
 def functions(path):
-    """The public functions of a file, in order."""
+    """The public functions of a file, and those that its public traits declare, in order."""
     text = bare(path.read_text(encoding="utf-8"))
-    heads = re.finditer(r'^ *pub (?P<exported>extern "C" )?fn (?P<name>\w+)', text, re.M)
-    return [Function(text, head) for head in heads]
+    heads = list(re.finditer(rf"^ *pub {FUNCTION}", text, re.M))
+    for trait in re.finditer(r"^ *pub trait [^{]*\{", text, re.M):
+        heads += re.compile(rf"^ *{FUNCTION}", re.M).finditer(text, trait.end(), closing(text, trait.end() - 1))
+    return [Function(text, head) for head in sorted(heads, key=re.Match.start)]
 
 
 def public_files(source):

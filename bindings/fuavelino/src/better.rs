@@ -83,7 +83,7 @@ pub fn better<T: Sample>(
 ///
 /// Where the candidates' strides are unlike, `better(..)?.which.of(first, second)` gives the winner with its own.
 ///
-/// Of `better::winner8` and `winner16` in Rattle this is proved; no export can hand back a slice, so that they cannot be called from here. This function
+/// Of `better::winner` in Rattle this is proved; no export can hand back a slice, so that it cannot be called from here. This function
 /// asks [`better`], whose answer is proved, and picks the slice by it, which is tested.
 ///
 /// ```
