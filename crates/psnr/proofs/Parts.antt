@@ -1,8 +1,10 @@
 -- Laws of the sums and bits of two rows, of their parts, and of what a walk over them finds. Assumes nothing.
 use Rattle.std.proofs.Common.{◌≡◌, ℕ, zero, suc, ◌+◌, ◌-◌, ◌*◌, ◌%◌, ◌^◌, ◌<◌, ◌≤◌, min, Bool, true, false, List, [], ◌++◌, length, get_or, take, drop, sym, refl, ap, ◌∙◌, subst, ap₂, le_refl}
-use Rattle.std.proofs.Common.{lt_of_le_of_lt, mul-le-mul_right, mod-eq_of_lt, mul-le-mul, mul-lt-mul_of_pos_right, one-mul, add-one, arith, lit<, pow_pos, pow_mono}
+use Rattle.std.proofs.Common.{lt_of_le_of_lt, mul-le-mul_right, mod-eq_of_lt, mul-le-mul, mul-lt-mul_of_pos_right, one-mul, add-one, arith, leb, lit<, pow_pos, pow_mono}
 use Rattle.std.proofs.Common.{pow-add, shl_exact, lt_of_le_ones}
-use Rattle.std.proofs.lemmas.List.{drop-drop, length-append, length-drop, take_all}
+use Rattle.std.proofs.lemmas.List.{drop-drop, drop_all, length-append, length-drop, take_all}
+use borrow.Author.Tests.{leb-true, leb-false}
+use Rattle.refusal.specs.declared.Refusal.{Refusal}
 use Rattle.std.proofs.Math.Seq.{take-append_seam, drop-append_seam}
 use Rattle.std.specs.Simd.{first_chunks}
 use native.Mathlib.Nat.{mul-lt-mul_of_pos_left, mod-add-mod}
@@ -22,7 +24,7 @@ use Rattle.plane.proofs.Sums.{sum_none, sum_more, sum_ext, sum_split, sum_bound}
 use Rattle.std.specs.Prelude.{Ok, Err}
 use Rattle.refusal.specs.declared.Refusal.TheVariants as no
 use Rattle.psnr.specs.Squared.{square_of}
-use Rattle.psnr.specs.Inner.Walk.{squares_in, bits_in, part_length, walked_if, pair_suits}
+use Rattle.psnr.specs.Inner.Walk.{squares_in, bits_in, part_length, walked_if, pair_suits, row_walked}
 use Rattle.psnr.proofs.Squares.{square_le}
 
 -- ---- the parts of a row
@@ -102,6 +104,19 @@ part_taken a b {rest} {rest'} {more} {more'} {p} {q} e size size' r r' s s' k k'
       second = (part_cut b x to second r' s').0;
       first_left = (part_cut a x to first r s).1;
       second_left = (part_cut b x to second r' s').1;
+    }
+
+-- rows that are one part
+pub whole_taken : (a b : List ℕ) {size : ℕ} → length a ≡ length b → length a ≤ size → PartTaken a b a b [] [] 0 (length a) size
+whole_taken a b e l =
+    record {
+      rising = omega arith;
+      inside = le_refl _;
+      short = omega arith;
+      first = rest_cut 0 a;
+      second = rw e (rest_cut 0 b);
+      first_left = sym (drop_all (length a) a (le_refl _));
+      second_left = sym (drop_all (length a) b (omega arith));
     }
 
 -- ---- the sum
@@ -310,6 +325,40 @@ found_above false sum h = refl
 
 pub found_sum : {suit : Bool} {sum whole : ℕ} → suit ≡ true → sum ≡ whole → Ok sum ≡ walked_if suit whole
 found_sum {suit} {sum} {whole} s e = ap Ok e ∙ ap (λ (t : Bool). walked_if t whole) (sym s)
+
+-- what is told of a part
+pub told_ok : {bits max sum v : ℕ} → Ok v ≡ walked_if (leb bits max) sum → (bits ≤ max) × (v ≡ sum)
+told_ok {bits} {max} {sum} {v} e = go (leb bits max) refl e
+  where
+    go : (t : Bool) → leb bits max ≡ t → Ok v ≡ walked_if t sum → (bits ≤ max) × (v ≡ sum)
+    go true q e = (leb-true bits max q, cc)
+    go false q e = cc
+
+pub told_err : {bits max : ℕ} {r : Refusal} (sum : ℕ) → Err r ≡ walked_if (leb bits max) sum → (max < bits) × (r ≡ no.Sample)
+told_err {bits} {max} {r} sum e = go (leb bits max) refl e
+  where
+    go : (t : Bool) → leb bits max ≡ t → Err r ≡ walked_if t sum → (max < bits) × (r ≡ no.Sample)
+    go true q e = cc
+    go false q e = (leb-false bits max q, cc)
+
+-- of rows that are one part that is all there is to tell
+pub whole_walked : (depth : ℕ) (a b : List ℕ) {bits sum max size : ℕ} → length a ≡ length b → length a ≤ size → depth ≤ most_depth true
+    → size ≡ part_length depth → max ≡ max_of depth → bits ≡ bits_in a b (length a) → sum ≡ squares_in a b (length a) % 2 ^ 32
+    → walked_if (leb bits max) sum ≡ row_walked depth a b (length a)
+unfolding row_walked
+whole_walked depth a b {bits} {sum} {max} {size} e l d n m eb es = go (leb bits max) refl
+  where
+    go : (t : Bool) → leb bits max ≡ t → walked_if t sum ≡ walked_if (pair_suits depth a b (length a)) (squares_in a b (length a))
+    go true q =
+        let t = whole_taken a b e l in
+        let low : bits ≤ max_of depth = rw m at (leb-true bits max q) in
+        let whole : 0 + sum ≡ squares_in a b (length a) = taken_adds depth t eb d n low (sym (in_none a b)) es in
+        let same : sum ≡ squares_in a b (length a) = omega (arith, whole) in
+        found_sum (taken_suits depth t eb (suits_none depth a b) low) same
+    go false q =
+        let t = whole_taken a b e l in
+        let above : max_of depth < bits = rw m at (leb-false bits max q) in
+        found_above _ _ (taken_breaks depth t eb above)
 
 -- a sum and its bits, counted up
 pub ruleset part_steps = (in_none, in_next, in_wrapped, bits_none, bits_next)

@@ -1,11 +1,11 @@
 // The sum of the squared differences over the visible samples of two planes, and test 6 on the way: words are read once for both. Nobody
 // above knows how the rows are walked.
-ghost use Rattle.std.specs.Prelude.{◌≡◌, ℕ, ◌*◌, ◌%◌, ◌^◌, ◌≤◌, true, false, length, map};
+ghost use Rattle.std.specs.Prelude.{◌≡◌, ℕ, ◌*◌, ◌%◌, ◌^◌, ◌≤◌, leb, true, false, length, map};
 ghost use Rattle.plane.specs.Limits.{side_limit, most_depth};
 ghost use Rattle.plane.specs.Inner.Seen.{planes};
 ghost use Rattle.psnr.specs.Squared.{square_of};
 ghost use Rattle.psnr.specs.Inner.Walk.{word_most, Readable, squares_in, bits_in, part_length};
-ghost use Rattle.psnr.specs.Inner.Walk.{pair_suits, row_walked, walked_at, walked_of};
+ghost use Rattle.psnr.specs.Inner.Walk.{walked_if, pair_suits, row_walked, walked_at, walked_of};
 
 use plane::{Pair, Stored};
 use refusal::Refusal;
@@ -84,6 +84,10 @@ fn sum8(a: &[u8], b: &[u8]) -> u32
     requires { (length a.now ≡ length b.now) × (length a.now ≤ side_limit) }
     ensures { result ≡ squares_in a.now b.now (length a.now) }
 {
+    // a narrow row is one part
+    if a.len() < STRETCH {
+        return part8(a, b);
+    }
     let (whole_a, rest_a) = a.as_chunks::<STRETCH>();
     let (whole_b, rest_b) = b.as_chunks::<STRETCH>();
     let mut sum = 0;
@@ -140,7 +144,17 @@ fn part16(a: &[u16], b: &[u16]) -> Part
     Part { sum, bits }
 }
 
-// The sum over two rows of words, part by part, or that a sample is above sample_max.
+// The sum of a part, or that one of its samples is above `max`.
+fn told(found: Part, max: u32) -> Result<u64, Refusal>
+    ensures { result ≡ walked_if (leb found.bits max) found.sum }
+{
+    if u32::from(found.bits) > max {
+        return Err(Refusal::Sample);
+    }
+    Ok(u64::from(found.sum))
+}
+
+// The sum over two rows of words, part by part, or that a sample is above sample_max. Most rows are one part.
 #[tactic(auto, using(plane::proofs::Depth::depth_small, crate::proofs::Parts::part_some), unfolding(crate::specs::Inner::Walk::row_walked))]
 fn row16(a: &[u16], b: &[u16], depth: u32) -> Result<u64, Refusal>
     requires { (length a.now ≡ length b.now) × (length a.now ≤ side_limit) × (depth ≤ most_depth true) }
@@ -148,13 +162,12 @@ fn row16(a: &[u16], b: &[u16], depth: u32) -> Result<u64, Refusal>
 {
     let max = plane::sample_max(depth);
     let size = part_length(depth);
+    if a.len() <= size {
+        return told(part16(a, b), max);
+    }
     let mut sum = 0u64;
     for (p, q) in a.chunks(size).zip(b.chunks(size)) {
-        let found = part16(p, q);
-        if u32::from(found.bits) > max {
-            return Err(Refusal::Sample);
-        }
-        sum += u64::from(found.sum);
+        sum += told(part16(p, q), max)?;
     }
     Ok(sum)
 }

@@ -27,4 +27,4 @@ returns c =
     let second = c.as_chunks-2 in
     let count = zip_end first.result.0.now second.result.0.now _ c.into_iter-p-iterator.result _ c.next.new.self _ (search rules) (search rules) c.loop-p.yielded_by c.in-None.is c.next.ensures.steps in
     let k : length c.loop-p.yielded ≡ length c.args.a.now / 128 = omega (arith, count, first.ensures.front_len, second.ensures.front_len) in
-    in_rest _ _ (length c.loop-p.yielded * 128) (omega arith) c.requires.0 (rw k first.ensures.back) (rw (k, c.requires.0) second.ensures.back) c.loop-p.invariant.1 c.part8.ensures.value
+    in_rest _ _ (length c.loop-p.yielded * 128) (omega arith) c.requires.0 (rw k first.ensures.back) (rw (k, c.requires.0) second.ensures.back) c.loop-p.invariant.1 c.part8-2.ensures.value
