@@ -11,17 +11,25 @@ use native.Mathlib.Numerals.{add-one}
 use native.Mathlib.Omega.{arith}
 use borrow.Author.Tests.{eq-eqb, ne_eqb, eqb-true}
 use lib.Dec.{eqb}
-use lib.ListN.{length}
+use lib.ListN.{length, get_or}
 use Rattle.std.specs.Prelude.{None, Some}
 use Rattle.plane.specs.Plane.{Planes, at, sample_at}
-use Rattle.plane.proofs.All.{all_none, all_more, all_at}
+use Rattle.plane.proofs.All.{all_none, all_more, all_at, at_value}
 use Rattle.plane.proofs.Rows.{row_inside, row_length, row_at}
 use Rattle.psnr.specs.Inner.Walk.{Walkable}
 use Rattle.locate.specs.Where.{place, differ_at, along_to, down_to, first_difference}
-use Rattle.locate.specs.Inner.Walk.{alike_to, AlikeBelow, FirstApart}
+use Rattle.locate.specs.Inner.Walk.{alike_to}
 
 -- ---- counted up, one column and one row more
 module _ (f : ℕ → ℕ → Bool) where
+  pub along_none : (y : ℕ) → along_to f y 0 ≡ None
+  unfolding along_to
+  along_none y = refl
+
+  along_more : (y x : ℕ) → along_to f y x ≡ None → f y x ≡ false → along_to f y (x + 1) ≡ None
+  unfolding along_to
+  along_more y x e g = rw (add-one, e, g)
+
   pub down_none : (width : ℕ) → down_to f width 0 ≡ None
   unfolding down_to
   down_none width = refl
@@ -115,26 +123,32 @@ module _ {S : Type 0} (value : S → ℕ) (wide : Bool) (c : two.Pair S) (w : Wa
     rows_long = rw (ea, eb) (first_long ∙ sym second_long)
 
     -- where they agree, the row is passed over
-    pub row_quiet : AlikeBelow (map value a) (map value b) (length a) → along_to (differ_at p) y width ≡ None
-    row_quiet h =
-        let same_at = rw (ea, eb) at h in
-        along_quiet (differ_at p) y width
-        (λ x k. same _ _ (sym (first_at x k) ∙ same_at x (rw first_long k) ∙ second_at x k))
-
-    pub row_alike : alike_to (map value a) (map value b) (length a) ≡ true → along_to (differ_at p) y width ≡ None
+    pub row_alike : {ok : Bool} → ok ≡ alike_to (map value a) (map value b) (length a) → ok ≡ true → along_to (differ_at p) y width ≡ None
     unfolding alike_to
-    row_alike e = row_quiet (λ x k. eqb-true _ _ (all_at _ _ e x k))
+    row_alike e t =
+        let same_at = rw (ea, eb) at (all_at _ _ (sym e ∙ t)) in
+        along_quiet (differ_at p) y width
+        (λ x k. same _ _ (sym (first_at x k) ∙ eqb-true _ _ (same_at x (rw first_long k)) ∙ second_at x k))
 
-    -- where they do not, the place is found
-    pub row_apart : (x : ℕ) → FirstApart (map value a) (map value b) x → down_to (differ_at p) width y ≡ None
-        → Some (place y x) ≡ first_difference p
-    row_apart x f above =
-        let here = rw (ea, eb) at f in
-        let k : x < width = rw (length-map, first_long) at here.0 in
-        let before = along_quiet (differ_at p) y x
-        (λ z m. let n : z < width = omega arith in same _ _ (sym (first_at z n) ∙ here.2 z m ∙ second_at z n)) in
-        let apart = unlike _ _ (λ e. here.1 (first_at x k ∙ e ∙ sym (second_at x k))) in
-        sym (found (differ_at p) width c.format.height y x above before apart k l)
+    -- what one comparison in them says
+    module _ (x : ℕ) (k : x < width) {s t : S} (es : s ≡ get_or a x s) (et : t ≡ get_or b x t) {m n : ℕ} (em : m ≡ value s) (en : n ≡ value t) where
+      first_is : m ≡ sample_at p.a y x
+      first_is = em ∙ sym (at_value value a x es (rw (ea, first_long) k)) ∙ rw ea (first_at x k)
+
+      second_is : n ≡ sample_at p.b y x
+      second_is = en ∙ sym (at_value value b x et (rw (eb, second_long) k)) ∙ rw eb (second_at x k)
+
+      -- where they agree, the walk goes on
+      pub one_alike : m ≡ n → along_to (differ_at p) y x ≡ None → along_to (differ_at p) y (x + 1) ≡ None
+      one_alike e before = along_more (differ_at p) y x before (same _ _ (sym first_is ∙ e ∙ second_is))
+
+      -- where they do not, the place is found
+      pub one_apart : (m ≡ n → ⊥) → along_to (differ_at p) y x ≡ None → down_to (differ_at p) width y ≡ None
+          → Some (place y x) ≡ first_difference p
+      one_apart h before above =
+          let apart = unlike _ _ (λ e. h (first_is ∙ e ∙ sym second_is)) in
+          sym (found (differ_at p) width c.format.height y x above before apart k l)
 
 -- the walk to the first place
-pub ruleset first_steps = (first_inside, second_inside, down_none, down_more)
+pub ruleset first_steps =
+    (first_inside, second_inside, rows_long, along_none, down_none, down_more, row_alike, one_alike, one_apart)

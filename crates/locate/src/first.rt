@@ -1,9 +1,9 @@
 // The first place, row by row, at which two planes differ.
-ghost use Rattle.std.specs.Prelude.{◌≡◌, length, map, MatchOption};
+ghost use Rattle.std.specs.Prelude.{◌≡◌, length, map};
 ghost use Rattle.plane.specs.Inner.Seen.{planes};
 ghost use Rattle.psnr.specs.Inner.Walk.{Walkable};
 ghost use Rattle.locate.specs.Where.{first_difference};
-ghost use Rattle.locate.specs.Inner.Walk.{alike_to, AlikeBelow, FirstApart};
+ghost use Rattle.locate.specs.Inner.Walk.{alike_to};
 
 use crate::Place;
 use plane::{Pair, Sample, Stored};
@@ -21,39 +21,26 @@ fn alike<S: Sample>(a: &[S], b: &[S]) -> bool
     ok
 }
 
-// The first column in which two rows differ.
-#[tactic(auto, using(plane::proofs::All::at_value))]
-fn column<S: Sample>(a: &[S], b: &[S]) -> Option<usize>
-    requires { length a.now ≡ length b.now }
-    ensures { MatchOption result
-        (AlikeBelow (map S.value a.now) (map S.value b.now) (length a.now))
-        (λ x. FirstApart (map S.value a.now) (map S.value b.now) x) }
-{
-    // by index: of `position` over a `zip` no proof was found for samples of any type
-    for x in 0..a.len() {
-        if a[x].value() != b[x].value() {
-            return Some(x);
-        }
-    }
-    None
-}
-
-// A row that agrees is passed over as a whole.
+// Both walks are left at the first place. A row that agrees is passed over as a whole.
 #[tactic(auto, using(crate::proofs::Places::first_steps))]
 pub fn first<S: Stored>(p: Pair<'_, S>) -> Option<Place>
     requires { Walkable (planes S.Sample.value S.WIDE p) }
     ensures { result ≡ first_difference (planes S.Sample.value S.WIDE p.entry) }
 {
     let width = p.format.width;
+    let mut place = None;
     // by index: a row begins at y times each plane's own stride
-    for y in 0..p.format.height {
+    'rows: for y in 0..p.format.height {
         let row_a = plane::row(p.a, width, y);
         let row_b = plane::row(p.b, width, y);
         if !alike(row_a, row_b) {
-            if let Some(x) = column(row_a, row_b) {
-                return Some(Place { row: y, column: x });
+            for x in 0..width {
+                if row_a[x].value() != row_b[x].value() {
+                    place = Some(Place { row: y, column: x });
+                    break 'rows;
+                }
             }
         }
     }
-    None
+    place
 }

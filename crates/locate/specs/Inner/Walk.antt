@@ -1,5 +1,5 @@
 -- What the leaves of the two walks promise each other. Definitions only.
-use Rattle.std.specs.Prelude.{◌≡◌, ◌≢◌, Bool, List, ℕ, ◌*◌, ◌<◌, eqb, length}
+use Rattle.std.specs.Prelude.{Bool, List, ℕ, ◌*◌, eqb}
 use Rattle.plane.specs.Plane.{at, all_to}
 use Rattle.psnr.specs.Inner.Walk.{word_most}
 use Rattle.locate.specs.Map.{tile_side}
@@ -7,14 +7,6 @@ use Rattle.locate.specs.Map.{tile_side}
 -- the first n samples of two rows agree
 unfoldable pub alike_to : List ℕ → List ℕ → ℕ → Bool
 alike_to a b n = all_to (λ (x : ℕ). eqb (at a x) (at b x)) n
-
--- they agree at each of the first n places
-abbrev pub AlikeBelow : List ℕ → List ℕ → ℕ → Type 0
-AlikeBelow a b n = (k : ℕ) → k < n → at a k ≡ at b k
-
--- they differ at place x, and at no place before it
-abbrev pub FirstApart : List ℕ → List ℕ → ℕ → Type 0
-FirstApart a b x = (x < length a) × (at a x ≢ at b x) × AlikeBelow a b x
 
 -- the largest squared error of one row of a tile
 abbrev pub piece_most : ℕ
