@@ -107,7 +107,7 @@ part_taken a b {rest} {rest'} {more} {more'} {p} {q} e size size' r r' s s' k k'
     }
 
 -- rows that are one part
-pub whole_taken : (a b : List ℕ) {size : ℕ} → length a ≡ length b → length a ≤ size → PartTaken a b a b [] [] 0 (length a) size
+whole_taken : (a b : List ℕ) {size : ℕ} → length a ≡ length b → length a ≤ size → PartTaken a b a b [] [] 0 (length a) size
 whole_taken a b e l =
     record {
       rising = omega arith;
