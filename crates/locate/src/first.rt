@@ -21,8 +21,8 @@ fn alike<S: Sample>(a: &[S], b: &[S]) -> bool
     ok
 }
 
-// Both walks are left at the first place. A row that agrees is passed over as a whole. Not inlined, since among the places of an exported call
-// what the walk counts by finds no register.
+// Both walks are left at the first place. A row that agrees is passed over as a whole. Not inlined: among the parameters of an exported
+// call, what the walk counts by finds no register.
 #[inline(never)]
 #[tactic(auto, using(crate::proofs::Places::first_steps))]
 pub fn first<S: Stored>(p: Pair<'_, S>) -> Option<Place>
